@@ -1,0 +1,22 @@
+-- Laws of any exact code. Assumes nothing.
+use mathlib.Core.Path.{_≡_, sym, _∙_}
+use mathlib.Core.List.{List}
+use Prim.Native.Nat.{ℕ, suc}
+use native.Mathlib.Omega.{arith}
+use Rattle.cells.specs.Codec.{Reading, accepted, refused, Codec, Word, LeadsTo, Exact}
+
+-- no two pairs lead to one word
+pub one-pair : (c : Codec) → Exact c → (w ss ms ss′ ms′ : List ℕ) → Word c w → LeadsTo c w ss ms → LeadsTo c w ss′ ms′ → (ss ≡ ss′) × (ms ≡ ms′)
+one-pair c exact w ss ms ss′ ms′ word l l′ =
+    let e : accepted ss ms ≡ accepted ss′ ms′ = sym (exact w ss ms word .1 l) ∙ exact w ss′ ms′ word .1 l′ in
+    let starts : ss ≡ ss′ = cc in
+    let messages : ms ≡ ms′ = cc in
+    (starts, messages)
+
+-- a word that no pair leads to is refused
+pub others-refused : (c : Codec) → Exact c → (w : List ℕ) → Word c w → ((ss ms : List ℕ) → LeadsTo c w ss ms → ⊥) → (a : ℕ) × (c .decode w ≡ refused a)
+others-refused c exact w word none = go (c .decode w) (λ ss ms e. none ss ms (exact w ss ms word .0 e))
+  where
+    go : (r : Reading) → ((ss ms : List ℕ) → r ≡ accepted ss ms → ⊥) → (a : ℕ) × (r ≡ refused a)
+    go (accepted ss ms) f = absurd (f ss ms (λ i. accepted ss ms))
+    go (refused a) f = (a, λ i. refused a)

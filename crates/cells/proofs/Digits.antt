@@ -1,0 +1,151 @@
+-- Laws of digits: a value below the span is spelled and read back, and so are stored digits in range. Assumes nothing.
+use mathlib.Core.Path.{_≡_, refl, sym, ap, ap₂, _∙_}
+use mathlib.Core.Logic.{_≢_}
+use mathlib.Core.List.{List, [], _∷_, _++_, tail, flatMap}
+use Prim.Native.Nat.{ℕ, zero, suc, _+_, _-_, _*_, _/_, _%_, _^_, _≤_, _<_}
+use native.Mathlib.Nat.{div-lt-iff-lt-mul, mod-lt, div-add-mod', pow-zero, pow-succ', mul-assoc, mul-comm, mul-pos, add-sub-cancel-left, mod-eq-of-lt, div-one, div-div-eq-div-mul, le-mul-of-pos-right}
+use native.Mathlib.Omega.{arith}
+use lib.Arith.{digits-lt, digits-div, digits-mod, mod-mul}
+use lib.ListN.{length, getD, replicate, length-append, length-replicate}
+use Rattle.combinatorics.specs.Stretch.{tabulate}
+use Rattle.combinatorics.proofs.Stretch.{Each}
+use Rattle.cells.specs.Digits.{Place, lead, plain, radix, offset, span, spell, value, places}
+
+-- stored digits that are in range
+abbrev pub Spelled : ℕ → List Place → List ℕ → Type 0
+Spelled q [] [] = Unit {0}
+Spelled q [] (d ∷ ds) = ⊥
+Spelled q (x ∷ xs) [] = ⊥
+Spelled q (x ∷ xs) (d ∷ ds) = (offset x ≤ d) × (d < offset x + radix q x) × Spelled q xs ds
+
+pub pos-right : (a b v : ℕ) → v < a * b → 0 < b
+pos-right a zero v h = absurd (omega arith)
+pos-right a (suc b) v h = omega arith
+
+span-pos : (q : ℕ) (xs : List Place) (v : ℕ) (x : Place) → v < span q (x ∷ xs) → 0 < span q xs
+unfolding span
+span-pos q xs v x h = pos-right (radix q x) (span q xs) v h
+
+pub spell-spelled : (q : ℕ) (xs : List Place) (v : ℕ) → v < span q xs → Spelled q xs (spell q xs v)
+unfolding span spell
+spell-spelled q [] v h = tt
+spell-spelled q (x ∷ xs) v h =
+    let s = span-pos q xs v x h in
+    let d : v / span q xs < radix q x = div-lt-iff-lt-mul s .1 h in
+    (omega arith, omega arith, spell-spelled q xs (v % span q xs) (mod-lt v s))
+
+pub value-spell : (q : ℕ) (xs : List Place) (v : ℕ) → v < span q xs → value q xs (spell q xs v) ≡ v
+unfolding span spell value
+value-spell q [] v h = omega arith
+value-spell q (x ∷ xs) v h =
+    let s = span-pos q xs v x h in
+    rw (add-sub-cancel-left, value-spell q xs (v % span q xs) (mod-lt v s)) (div-add-mod' v (span q xs))
+
+pub value-lt : (q : ℕ) (xs : List Place) (ds : List ℕ) → Spelled q xs ds → value q xs ds < span q xs
+unfolding span value
+value-lt q [] [] h = omega arith
+value-lt q (x ∷ xs) (d ∷ ds) (a, b, c) =
+    let e : d - offset x < radix q x = omega arith in
+    digits-lt e (value-lt q xs ds c)
+
+pub spell-value : (q : ℕ) (xs : List Place) (ds : List ℕ) → Spelled q xs ds → spell q xs (value q xs ds) ≡ ds
+unfolding span spell value
+spell-value q [] [] h = refl
+spell-value q (x ∷ xs) (d ∷ ds) (a, b, c) =
+    let l = value-lt q xs ds c in
+    let e : offset x + (d - offset x) ≡ d = omega arith in
+    rw (digits-div (d - offset x) l, digits-mod (d - offset x) l, e, spell-value q xs ds c)
+
+pub span-group : (q r : ℕ) (rest : List Place) → span q (replicate r plain ++ rest) ≡ q ^ r * span q rest
+unfolding span
+span-group q zero rest = rw pow-zero (omega arith)
+span-group q (suc r) rest = rw (span-group q r rest, pow-succ') (sym (mul-assoc q (q ^ r) (span q rest)))
+
+pub span-places : (q m r : ℕ) → span q (places m r) ≡ ((q - 1) * q ^ r) ^ m
+unfolding span places
+span-places q zero r = sym (pow-zero ((q - 1) * q ^ r))
+span-places q (suc m) r =
+    rw (span-group q r (places m r), span-places q m r, pow-succ' ((q - 1) * q ^ r) m) (sym (mul-assoc (q - 1) (q ^ r) (((q - 1) * q ^ r) ^ m)))
+
+-- ---- As a loop goes: from the left by Horner's rule, from the right by quotient and remainder
+
+unfoldable pub horner : ℕ → List Place → List ℕ → ℕ → ℕ
+horner q [] ds a = a
+horner q (x ∷ xs) ds a = horner q xs (tail ds) (a * radix q x + (getD ds 0 0 - offset x))
+
+pub horner-is : (q : ℕ) (xs : List Place) (ds : List ℕ) (a : ℕ) → horner q xs ds a ≡ a * span q xs + value q xs ds
+unfolding horner span value
+horner-is q [] ds a = omega arith
+horner-is q (x ∷ xs) ds a =
+    omega (arith, horner-is q xs (tail ds) (a * radix q x + (getD ds 0 0 - offset x)), mul-assoc a (radix q x) (span q xs))
+
+radix-pos : (q : ℕ) (x : Place) → 2 ≤ q → 0 < radix q x
+radix-pos q lead h = omega arith
+radix-pos q plain h = omega arith
+
+-- the value so far is never more than the whole
+pub horner-grows : (q : ℕ) (xs : List Place) (ds : List ℕ) (a : ℕ) → 2 ≤ q → a ≤ horner q xs ds a
+unfolding horner
+horner-grows q [] ds a h = omega arith
+horner-grows q (x ∷ xs) ds a h =
+    omega (arith, le-mul-of-pos-right a (radix-pos q x h), horner-grows q xs (tail ds) (a * radix q x + (getD ds 0 0 - offset x)) h)
+
+pub span-snoc : (q : ℕ) (xs : List Place) (x : Place) → span q (xs ++ (x ∷ [])) ≡ span q xs * radix q x
+unfolding span
+span-snoc q [] x = omega arith
+span-snoc q (y ∷ ys) x = rw (span-snoc q ys x) (sym (mul-assoc (radix q y) (span q ys) (radix q x)))
+
+pub spell-snoc : (q : ℕ) (xs : List Place) (x : Place) (v : ℕ) → 0 < radix q x → 0 < span q xs → v < span q (xs ++ (x ∷ []))
+    → spell q (xs ++ (x ∷ [])) v ≡ spell q xs (v / radix q x) ++ ((offset x + v % radix q x) ∷ [])
+unfolding spell span
+spell-snoc q [] x v h k l = rw (div-one v, mod-eq-of-lt {n = v} {m = radix q x} (omega arith))
+spell-snoc q (y ∷ ys) x v h k l =
+    let S = span q ys in
+    let c = radix q x in
+    let sp : 0 < S = pos-right (radix q y) S 0 k in
+    let e = span-snoc q ys x in
+    let m = mod-mul v sp h in
+    let lo : v % c < c = mod-lt v h in
+    let d₁ : v / (S * c) ≡ v / c / S = ap (λ (z : ℕ). v / z) (mul-comm S c) ∙ sym (div-div-eq-div-mul v c S) in
+    let d₂ : v % (S * c) / c ≡ v / c % S = ap (λ (z : ℕ). z / c) m ∙ digits-div (v / c % S) lo in
+    let d₃ : v % (S * c) % c ≡ v % c = ap (λ (z : ℕ). z % c) m ∙ digits-mod (v / c % S) lo in
+    rw (e, d₁, spell-snoc q ys x (v % (S * c)) h sp (rw e (mod-lt v (mul-pos sp h))), d₂, d₃)
+
+-- ---- How many
+
+pub length-places : (m r : ℕ) → length (places m r) ≡ m * suc r
+unfolding places
+length-places zero r = omega arith
+length-places (suc m) r = omega (arith, length-append (replicate r plain) (places m r), length-replicate r plain, length-places m r)
+
+pub length-spell : (q : ℕ) (xs : List Place) (v : ℕ) → length (spell q xs v) ≡ length xs
+unfolding spell
+length-spell q [] v = refl
+length-spell q (x ∷ xs) v = ap suc (length-spell q xs (v % span q xs))
+
+-- ---- Digits that stand in the first 1 + r positions of some blocks
+
+module _ (q r : ℕ) (s f : ℕ → ℕ) where
+  drop-tail : (c j : ℕ) (rest : List Place) (ds : List ℕ) → Spelled q (replicate c plain ++ rest) (tabulate c j f ++ ds) → Spelled q rest ds
+  unfolding tabulate
+  drop-tail zero j rest ds h = h
+  drop-tail (suc c) j rest ds h = drop-tail c (suc j) rest ds (h .2)
+
+  -- in range, each lead digit is 1 or more
+  pub leads : (ks : List ℕ) → Spelled q (places (length ks) r) (flatMap (λ k. tabulate (suc r) (s k) f) ks) → Each (λ k. 1 ≤ f (s k)) ks
+  unfolding places flatMap tabulate
+  leads [] h = tt
+  leads (k ∷ ks) h = (h .0, leads ks (drop-tail r (suc (s k)) (places (length ks) r) (flatMap (λ k. tabulate (suc r) (s k) f) ks) (h .2)))
+
+  into-tail : (c j : ℕ) (rest : List Place) (ds : List ℕ) → ((x : ℕ) → f x < q) → Spelled q rest ds → Spelled q (replicate c plain ++ rest) (tabulate c j f ++ ds)
+  unfolding tabulate
+  into-tail zero j rest ds l h = h
+  into-tail (suc c) j rest ds l h = (omega arith, omega (arith, l j), into-tail c (suc j) rest ds l h)
+
+  -- and symbols below q with no 0 at the lead places are in range
+  pub heads-spelled : (ks : List ℕ) → ((x : ℕ) → f x < q) → Each (λ k. f (s k) ≢ 0) ks → Spelled q (places (length ks) r) (flatMap (λ k. tabulate (suc r) (s k) f) ks)
+  unfolding places flatMap tabulate
+  heads-spelled [] l h = tt
+  heads-spelled (k ∷ ks) l h =
+      let z : f (s k) ≢ 0 = h .0 in
+      (omega arith, omega (arith, l (s k)), into-tail r (suc (s k)) (places (length ks) r) (flatMap (λ k. tabulate (suc r) (s k) f) ks) l (heads-spelled ks l (h .1)))

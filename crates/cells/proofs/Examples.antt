@@ -1,0 +1,26 @@
+-- Worked examples by computation. Assumes nothing.
+use mathlib.Core.Path.{_≡_, refl}
+use mathlib.Core.List.{List, [], _∷_}
+use Prim.Native.Nat.{ℕ}
+use Rattle.combinatorics.specs.Stretch.{sum, tabulate}
+use Rattle.cells.specs.Cut.{pieceLen, pieceStart, blockAt, blockHead}
+use Rattle.cells.specs.Digits.{span, spell, value, places}
+
+-- "shorter ones first": 11 positions in 3 pieces
+pieces-11 : tabulate 3 0 (pieceLen 11 3) ≡ 3 ∷ 4 ∷ 4 ∷ []
+unfolding tabulate pieceLen
+pieces-11 = refl
+
+-- and in 3 parts of 2 blocks each: 1 2, 2 2, 2 2
+blocks-11 : tabulate 6 0 (blockHead 11 3 2) ≡ 0 ∷ 1 ∷ 3 ∷ 5 ∷ 7 ∷ 9 ∷ []
+unfolding tabulate blockHead blockAt pieceStart pieceLen sum
+blocks-11 = refl
+
+-- "n 60, q 4, m 2, b 4 .. r 2 .. rank 44, I-blocks 2 and 3 begin 1 0 0 and 3 3 0"
+spell-44 : spell 4 (places 2 2) 44 ≡ 1 ∷ 0 ∷ 0 ∷ 3 ∷ 3 ∷ 0 ∷ []
+unfolding spell span places
+spell-44 = refl
+
+value-44 : value 4 (places 2 2) (1 ∷ 0 ∷ 0 ∷ 3 ∷ 3 ∷ 0 ∷ []) ≡ 44
+unfolding value span places
+value-44 = refl

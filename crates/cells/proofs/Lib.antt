@@ -1,0 +1,5 @@
+pub mod Cut
+pub mod Cells
+pub mod Digits
+pub mod Codec
+mod Examples

@@ -1,0 +1,41 @@
+-- What is asked of a code for localized bursts, whatever its construction. Assumes nothing.
+use mathlib.Core.Path.{_≡_}
+use mathlib.Core.Logic.{_↔_}
+use mathlib.Core.Bool.{Bool, true, false}
+use mathlib.Core.List.{List}
+use Prim.Native.Nat.{ℕ, _<_}
+use lib.ListN.{length, getD}
+use Rattle.combinatorics.specs.Lists.{allBelow}
+
+-- what a decoder makes of a found word: a placement, by its starts, and a message; or a refusal
+pub data Reading : Type 0 where
+  accepted : List ℕ → List ℕ → Reading
+  refused : ℕ → Reading
+
+-- one code: the length of its words, its alphabet, the bound of the symbols that can be found, the length of a message; which starts are
+-- a placement, and which positions its bursts have; encoder and decoder
+pub record Codec : Type 0 where
+  pub wordLen : ℕ
+  pub alphabet : ℕ
+  pub found : ℕ
+  pub messageLen : ℕ
+  pub placed : List ℕ → Bool
+  pub spoilt : List ℕ → ℕ → Bool
+  pub encode : List ℕ → List ℕ → List ℕ
+  pub decode : List ℕ → Reading
+
+-- a word that can be found
+pub record Word (c : Codec) (w : List ℕ) : Type 0 where
+  pub complete : length w ≡ c .wordLen
+  pub symbols : allBelow (c .found) w ≡ true
+
+-- a placement and a message give a word that differs from w only inside the placement's bursts
+pub record LeadsTo (c : Codec) (w starts ms : List ℕ) : Type 0 where
+  pub placement : c .placed starts ≡ true
+  pub count : length ms ≡ c .messageLen
+  pub symbols : allBelow (c .alphabet) ms ≡ true
+  pub outside : (x : ℕ) → x < c .wordLen → c .spoilt starts x ≡ false → getD w x 0 ≡ getD (c .encode starts ms) x 0
+
+-- the decoder accepts exactly what some placement and message lead to, and answers with those
+abbrev pub Exact : Codec → Type 0
+Exact c = (w starts ms : List ℕ) → Word c w → (c .decode w ≡ accepted starts ms) ↔ LeadsTo c w starts ms

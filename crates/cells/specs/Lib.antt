@@ -1,0 +1,4 @@
+pub mod Cut
+pub mod Cells
+pub mod Digits
+pub mod Codec

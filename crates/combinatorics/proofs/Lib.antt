@@ -1,0 +1,8 @@
+pub mod Cases
+pub mod Lists
+pub mod Stretch
+pub mod Choose
+pub mod Rank
+pub mod Bursts
+pub mod Cover
+mod Examples

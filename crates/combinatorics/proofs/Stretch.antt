@@ -1,0 +1,310 @@
+-- Laws of sums, counts and searches over a stretch of numbers. Assumes nothing.
+use mathlib.Core.Path.{_≡_, refl, sym, ap, ap₂, _∙_, subst}
+use mathlib.Core.Logic.{_≢_}
+use mathlib.Core.Bool.{Bool, true, false, not, cond, _||_, _&&_, or-true, true≢false, false≢true}
+use mathlib.Core.List.{List, [], _∷_, _++_, map, map-append, flatMap, append-nil}
+use Prim.Native.Nat.{ℕ, zero, suc, _+_, _-_, _*_, _≤_, _<_}
+use native.Mathlib.Nat.{add-zero, add-suc}
+use native.Mathlib.Omega.{arith}
+use lib.Dec.{leb, eqb}
+use lib.ListN.{length, length-append}
+use Rattle.combinatorics.specs.Stretch.{sum, bit, count, has, first, keepIf, members, tabulate, top}
+use Rattle.combinatorics.proofs.Cases.{by-le, by-eq, by-bool}
+
+abbrev pub same : ℕ → ℕ
+same x = x
+
+-- a case at the first place or later
+pub at-or-past : {P : Type 0} (k x : ℕ) → k ≤ x → (k ≡ x → P) → (suc k ≤ x → P) → P
+at-or-past {P} k x l e m = by-eq k x (λ _. P) e (λ f. m (omega arith))
+
+pub sum-one : (n k x : ℕ) (f : ℕ → ℕ) → k ≤ x → x < k + n → f x ≤ sum n k f
+unfolding sum
+sum-one zero k x f l h = absurd (omega arith)
+sum-one (suc n) k x f l h = at-or-past k x l (λ e. rw e (omega arith)) (λ m. omega (arith, sum-one n (suc k) x f m (omega arith)))
+
+pub sum-two : (n k x y : ℕ) (f : ℕ → ℕ) → k ≤ x → x < y → y < k + n → f x + f y ≤ sum n k f
+unfolding sum
+sum-two zero k x y f l g h = absurd (omega arith)
+sum-two (suc n) k x y f l g h =
+    at-or-past k x l (λ e. rw e (omega (arith, sum-one n (suc x) y f g (omega arith)))) (λ m. omega (arith, sum-two n (suc k) x y f m g (omega arith)))
+
+pub sum-both : (n k x y : ℕ) (f : ℕ → ℕ) → k ≤ x → x < k + n → k ≤ y → y < k + n → x ≢ y → f x + f y ≤ sum n k f
+sum-both n k x y f a b c d e =
+    by-le (suc x) y (λ _. f x + f y ≤ sum n k f) (λ l. sum-two n k x y f a l d) (λ l. omega (arith, sum-two n k y x f c (omega arith) b))
+
+-- n numbers, each at least one
+pub sum-ones : (n k : ℕ) (f : ℕ → ℕ) → ((x : ℕ) → k ≤ x → x < k + n → 1 ≤ f x) → n ≤ sum n k f
+unfolding sum
+sum-ones zero k f p = omega arith
+sum-ones (suc n) k f p = omega (arith, p k (omega arith) (omega arith), sum-ones n (suc k) f (λ x l h. p x (omega arith) (omega arith)))
+
+-- so if their sum is no more than n, each is one
+pub sum-each : (n k x : ℕ) (f : ℕ → ℕ) → ((x : ℕ) → k ≤ x → x < k + n → 1 ≤ f x) → k ≤ x → x < k + n → f x + n ≤ suc (sum n k f)
+unfolding sum
+sum-each zero k x f p l h = absurd (omega arith)
+sum-each (suc n) k x f p l h =
+    let q : (x : ℕ) → suc k ≤ x → x < suc k + n → 1 ≤ f x = λ x l h. p x (omega arith) (omega arith) in
+    at-or-past k x l (λ e. rw (← e) (omega (arith, sum-ones n (suc k) f q)))
+    (λ m. omega (arith, p k (omega arith) (omega arith), sum-each n (suc k) x f q m (omega arith)))
+
+pub sum-append : (a b k : ℕ) (f : ℕ → ℕ) → sum (a + b) k f ≡ sum a k f + sum b (k + a) f
+unfolding sum
+sum-append zero b k f =
+    let e : 0 + b ≡ b = omega arith in
+    let g : k + 0 ≡ k = omega arith in
+    rw (e, g) (omega arith)
+sum-append (suc a) b k f =
+    let e : suc a + b ≡ suc (a + b) = omega arith in
+    let g : k + suc a ≡ suc k + a = omega arith in
+    rw (e, g) (omega (arith, sum-append a b (suc k) f))
+
+pub sum-next : (n : ℕ) (f : ℕ → ℕ) → sum (suc n) 0 f ≡ sum n 0 f + f n
+unfolding sum
+sum-next n f =
+    let e : n + 1 ≡ suc n = omega arith in
+    let z : 0 + n ≡ n = omega arith in
+    omega (arith, rw (e, z) at (sum-append n 1 0 f))
+
+pub sum-shift : (n a k : ℕ) (f : ℕ → ℕ) → sum n (a + k) f ≡ sum n k (λ x. f (a + x))
+unfolding sum
+sum-shift zero a k f = refl
+sum-shift (suc n) a k f =
+    let e : suc (a + k) ≡ a + suc k = omega arith in
+    rw e (omega (arith, sum-shift n a (suc k) f))
+
+-- p rows of m
+pub sum-rows : (p m i : ℕ) (f : ℕ → ℕ) → sum (p * m) (i * m) f ≡ sum p i (λ x. sum m 0 (λ j. f (x * m + j)))
+unfolding sum
+sum-rows zero m i f =
+    let e : 0 * m ≡ 0 = omega arith in
+    rw e
+sum-rows (suc p) m i f =
+    let e : suc p * m ≡ m + p * m = omega arith in
+    let g : i * m + m ≡ suc i * m = omega arith in
+    let z : i * m + 0 ≡ i * m = omega arith in
+    rw e (sum-append m (p * m) (i * m) f ∙ (rw g (omega (arith, rw z at (sum-shift m (i * m) 0 f), sum-rows p m (suc i) f))))
+
+pub bit-le : (b : Bool) → bit b ≤ 1
+bit-le true = omega arith
+bit-le false = omega arith
+
+-- n truths at most; fewer leave one that is false
+pub count-le : (n k : ℕ) (w : ℕ → Bool) → count n k w ≤ n
+unfolding sum
+count-le zero k w = omega arith
+count-le (suc n) k w = omega (arith, bit-le (w k), count-le n (suc k) w)
+
+pub some-false : (n k : ℕ) (w : ℕ → Bool) → count n k w < n → (x : ℕ) × (k ≤ x) × (x < k + n) × (w x ≡ false)
+unfolding sum
+some-false zero k w h = absurd (omega arith)
+some-false (suc n) k w h =
+    by-bool (w k)
+    (λ t. let r = some-false n (suc k) w (omega (arith, ap bit t)) in (r .0, omega (arith, r .1), omega (arith, r .2), r .3))
+    (λ e. (k, omega arith, omega arith, e))
+
+pub has-none : (n k : ℕ) (w : ℕ → Bool) → ((x : ℕ) → k ≤ x → x < k + n → w x ≡ false) → has n k w ≡ false
+unfolding has
+has-none zero k w p = refl
+has-none (suc n) k w p = rw (p k (omega arith) (omega arith)) (has-none n (suc k) w (λ x l h. p x (omega arith) (omega arith)))
+
+pub has-some : (n k x : ℕ) (w : ℕ → Bool) → k ≤ x → x < k + n → w x ≡ true → has n k w ≡ true
+unfolding has
+has-some zero k x w l h e = absurd (omega arith)
+has-some (suc n) k x w l h e =
+    at-or-past k x l (λ d. rw (d, e)) (λ m. rw (has-some n (suc k) x w m (omega arith) e) (or-true (w k)))
+
+pub first-true : (n k : ℕ) (w : ℕ → Bool) → first n k w < k + n → w (first n k w) ≡ true
+unfolding first
+first-true zero k w h = absurd (omega arith)
+first-true (suc n) k w h = by-bool (w k) (λ t. rw t t) (λ e. rw e (first-true n (suc k) w (omega (arith, rw e at h))))
+
+pub first-in : (n k : ℕ) (w : ℕ → Bool) → 0 < count n k w → first n k w < k + n
+unfolding first sum
+first-in zero k w h = absurd (omega arith)
+first-in (suc n) k w h =
+    by-bool (w k) (λ t. rw t (omega arith)) (λ e. rw e (omega (arith, first-in n (suc k) w (omega (arith, ap bit e)))))
+
+pub bit-false : (b : Bool) → bit b ≤ 0 → b ≡ false
+bit-false true h = absurd (omega arith)
+bit-false false h = refl
+
+pub first-false : (n k x : ℕ) (w : ℕ → Bool) → k ≤ x → x < first n k w → w x ≡ false
+unfolding first
+first-false zero k x w l h = absurd (omega arith)
+first-false (suc n) k x w l h =
+    by-bool (w k) (λ t. absurd (omega (arith, rw t at h)))
+    (λ e. at-or-past k x l (λ d. rw (← d) e) (λ m. first-false n (suc k) x w m (rw e at h)))
+
+-- no later than any that is in the set; and a search from the left that has come to one
+pub first-most : (n k x : ℕ) (w : ℕ → Bool) → k ≤ x → x < k + n → w x ≡ true → first n k w ≤ x
+first-most n k x w l h t =
+    by-le (first n k w) x (λ _. first n k w ≤ x) (λ g. g) (λ g. absurd (true≢false (sym t ∙ first-false n k x w l g)))
+
+pub first-is : (n k i : ℕ) (w : ℕ → Bool) → k ≤ i → i < k + n → ((x : ℕ) → k ≤ x → x < i → w x ≡ false) → w i ≡ true → first n k w ≡ i
+unfolding first
+first-is zero k i w l h o t = absurd (omega arith)
+first-is (suc n) k i w l h o t =
+    at-or-past k i l (λ e. rw (e, t)) (λ m. rw (o k (omega arith) m) (first-is n (suc k) i w m (omega arith) (λ x a b. o x (omega arith) b) t))
+
+pub members-none : (n k : ℕ) (w : ℕ → Bool) → ((x : ℕ) → k ≤ x → x < k + n → w x ≡ false) → members n k w ≡ []
+unfolding members
+members-none zero k w p = refl
+members-none (suc n) k w p = rw (p k (omega arith) (omega arith)) (members-none n (suc k) w (λ x l h. p x (omega arith) (omega arith)))
+
+pub count-ext : (n k : ℕ) (w w′ : ℕ → Bool) → ((x : ℕ) → k ≤ x → x < k + n → w x ≡ w′ x) → count n k w ≡ count n k w′
+unfolding sum
+count-ext zero k w w′ h = refl
+count-ext (suc n) k w w′ h = rw (h k (omega arith) (omega arith), count-ext n (suc k) w w′ (λ x a b. h x (omega arith) (omega arith)))
+
+pub count-none : (n k : ℕ) (w : ℕ → Bool) → ((x : ℕ) → k ≤ x → x < k + n → w x ≡ false) → count n k w ≡ 0
+unfolding sum
+count-none zero k w h = refl
+count-none (suc n) k w h = rw (h k (omega arith) (omega arith)) (omega (arith, count-none n (suc k) w (λ x a b. h x (omega arith) (omega arith))))
+
+pub count-all : (n k : ℕ) (w : ℕ → Bool) → ((x : ℕ) → k ≤ x → x < k + n → w x ≡ true) → count n k w ≡ n
+unfolding sum
+count-all zero k w h = refl
+count-all (suc n) k w h = rw (h k (omega arith) (omega arith)) (omega (arith, count-all n (suc k) w (λ x a b. h x (omega arith) (omega arith))))
+
+-- two sets that are apart, and what is in neither
+pub count-three : (n k : ℕ) (i b : ℕ → Bool) → ((x : ℕ) → k ≤ x → x < k + n → i x ≡ true → b x ≡ false)
+    → count n k (λ x. not (i x) && not (b x)) + count n k i + count n k b ≡ n
+unfolding sum
+count-three zero k i b h = refl
+count-three (suc n) k i b h =
+    let r = count-three n (suc k) i b (λ x c d. h x (omega arith) (omega arith)) in
+    by-bool (i k) (λ t. rw (t, h k (omega arith) (omega arith) t) (omega arith)) (λ t. by-bool (b k) (λ u. rw (t, u) (omega arith)) (λ u. rw (t, u) (omega arith)))
+
+pub record IsTop (f : ℕ → ℕ) (n v c : ℕ) : Type 0 where
+  pub below : c < n
+  pub reach : f c ≤ v
+  pub past : v < f (suc c)
+
+pub top-is : (f : ℕ → ℕ) (n v : ℕ) → f 0 ≤ v → v < f n → IsTop f n v (top f n v)
+unfolding top
+top-is f zero v h k = absurd (omega arith)
+top-is f (suc n) v h k =
+    by-le (f n) v (λ t. IsTop f (suc n) v (cond t n (top f n v))) (λ l. record { below = omega arith; reach = l; past = k })
+    (λ l. let i = top-is f n v h l in record { below = omega (arith, i .below); reach = i .reach; past = i .past })
+
+pub top-only : (f : ℕ → ℕ) → ((a b : ℕ) → a ≤ b → f a ≤ f b) → {n v c d : ℕ} → IsTop f n v c → IsTop f n v d → c ≡ d
+top-only f mono {n} {v} {c} {d} h k =
+    let p : ¬ (d < c) = λ g. omega (arith, mono (suc d) c g) in
+    let q : ¬ (c < d) = λ g. omega (arith, mono (suc c) d g) in
+    omega arith
+
+pub length-tabulate : {A : Type 0} (n k : ℕ) (f : ℕ → A) → length (tabulate n k f) ≡ n
+unfolding tabulate
+length-tabulate zero k f = refl
+length-tabulate (suc n) k f = ap suc (length-tabulate n (suc k) f)
+
+pub length-members : (n k : ℕ) (w : ℕ → Bool) → length (members n k w) ≡ count n k w
+unfolding members sum
+length-members zero k w = refl
+length-members (suc n) k w = by-bool (w k) (λ t. rw t (omega (arith, length-members n (suc k) w))) (λ t. rw t (omega (arith, length-members n (suc k) w)))
+
+keepIf-append : (b : Bool) (x : ℕ) (r s : List ℕ) → keepIf b x (r ++ s) ≡ keepIf b x r ++ s
+keepIf-append true x r s = refl
+keepIf-append false x r s = refl
+
+pub members-append : (a b k : ℕ) (w : ℕ → Bool) → members (a + b) k w ≡ members a k w ++ members b (k + a) w
+unfolding members
+members-append zero b k w =
+    let e : 0 + b ≡ b = omega arith in
+    let g : k + 0 ≡ k = omega arith in
+    rw (e, g)
+members-append (suc a) b k w =
+    let e : suc a + b ≡ suc (a + b) = omega arith in
+    let g : k + suc a ≡ suc k + a = omega arith in
+    rw (e, g, members-append a b (suc k) w) (keepIf-append (w k) k (members a (suc k) w) (members b (suc k + a) w))
+
+-- c in a row, from a on, and no others
+pub members-run : (n k a c : ℕ) (w : ℕ → Bool) → k ≤ a → a + c ≤ k + n → ((x : ℕ) → a ≤ x → x < a + c → w x ≡ true)
+    → ((x : ℕ) → k ≤ x → x < a → w x ≡ false) → ((x : ℕ) → a + c ≤ x → x < k + n → w x ≡ false) → members n k w ≡ tabulate c a same
+unfolding members tabulate
+members-run n k a zero w l h t u v = members-none n k w (λ x p q. by-le (suc x) a (λ _. w x ≡ false) (λ g. u x p g) (λ g. v x (omega arith) q))
+members-run zero k a (suc c) w l h t u v = absurd (omega arith)
+members-run (suc n) k a (suc c) w l h t u v =
+    at-or-past k a l
+    (λ e. rw (e, t a (omega arith) (omega arith))
+    (ap {B = List ℕ} (λ r. a ∷ r)
+    (members-run n (suc a) (suc a) c w (omega arith) (omega arith) (λ x p q. t x (omega arith) (omega arith)) (λ x p q. absurd (omega arith)) (λ x p q. v x (omega arith) (omega arith)))))
+    (λ g. rw (u k (omega arith) (omega arith))
+    (members-run n (suc k) a (suc c) w g (omega arith) t (λ x p q. u x (omega arith) q) (λ x p q. v x p (omega arith))))
+
+flat-keep : (b : Bool) (x : ℕ) (xs : List ℕ) (f : ℕ → List ℕ) → flatMap f (keepIf b x []) ++ flatMap f xs ≡ flatMap f (keepIf b x xs)
+unfolding flatMap
+flat-keep true x xs f = rw (append-nil (f x))
+flat-keep false x xs f = refl
+
+-- Blocks that follow one another: block k is the stretch from st k up to st (k + 1). Of some of them the first hd numbers pass, and no others.
+module _ (st : ℕ → ℕ) (hd top : ℕ) (sel D : ℕ → Bool) (up : (k : ℕ) → st k + hd ≤ st (suc k))
+    (inside : (k x : ℕ) → k < top → sel k ≡ true → st k ≤ x → x < st k + hd → D x ≡ true)
+    (past : (k x : ℕ) → k < top → sel k ≡ true → st k + hd ≤ x → x < st (suc k) → D x ≡ false)
+    (other : (k x : ℕ) → k < top → sel k ≡ false → st k ≤ x → x < st (suc k) → D x ≡ false) where
+  climbs : (c k : ℕ) → st k ≤ st (k + c)
+  climbs zero k = rw (add-zero k) (omega arith)
+  climbs (suc c) k = rw (add-suc k c) (omega (arith, climbs c k, up (k + c)))
+
+  in-block : (k : ℕ) → k < top → (n : ℕ) → st k + n ≡ st (suc k) → members n (st k) D ≡ flatMap (λ x. tabulate hd (st x) same) (keepIf (sel k) k [])
+  unfolding flatMap
+  in-block k l n e =
+      by-bool (sel k)
+      (λ t. rw t (members-run n (st k) (st k) hd D (omega arith) (omega (arith, up k)) (λ x a b. inside k x l t a b) (λ x a b. absurd (omega arith)) (λ x a b. past k x l t a (omega arith))
+      ∙ sym (append-nil (tabulate hd (st k) same))))
+      (λ t. rw t (members-none n (st k) D (λ x a b. other k x l t a (omega arith))))
+
+  pub members-blocks : (c k n : ℕ) → k + c ≤ top → st k + n ≡ st (k + c) → members n (st k) D ≡ flatMap (λ x. tabulate hd (st x) same) (members c k sel)
+  unfolding members flatMap
+  members-blocks zero k n h e =
+      let z : n ≡ 0 = omega (arith, rw (add-zero k) at e) in
+      rw z
+  members-blocks (suc c) k n h e =
+      let g : k + suc c ≡ suc k + c = omega arith in
+      let a = st (suc k) - st k in
+      let b = st (suc k + c) - st (suc k) in
+      let u : st (suc k) ≤ st (suc k + c) = climbs c (suc k) in
+      let z : n ≡ a + b = omega (arith, rw g at e, up k) in
+      let y : st k + a ≡ st (suc k) = omega (arith, up k) in
+      rw (z, members-append a b (st k) D, y, in-block k (omega arith) a y, members-blocks c (suc k) b (omega arith) (omega arith))
+      (flat-keep (sel k) k (members c (suc k) sel) (λ x. tabulate hd (st x) same))
+
+pub length-flat : (hd : ℕ) (f : ℕ → List ℕ) (ks : List ℕ) → ((x : ℕ) → length (f x) ≡ hd) → length (flatMap f ks) ≡ length ks * hd
+unfolding flatMap
+length-flat hd f [] h = omega arith
+length-flat hd f (k ∷ ks) h = omega (arith, length-append (f k) (flatMap f ks), h k, length-flat hd f ks h)
+
+-- ---- Every number of a list
+
+abbrev pub Each : (ℕ → Type 0) → List ℕ → Type 0
+Each P [] = Unit {0}
+Each P (x ∷ xs) = P x × Each P xs
+
+each-head : (P : ℕ → Type 0) (b : Bool) (k : ℕ) (r : List ℕ) → b ≡ true → Each P (keepIf b k r) → P k
+each-head P true k r e h = h .0
+each-head P false k r e h = absurd (false≢true e)
+
+each-rest : (P : ℕ → Type 0) (b : Bool) (k : ℕ) (r : List ℕ) → Each P (keepIf b k r) → Each P r
+each-rest P true k r h = h .1
+each-rest P false k r h = h
+
+-- what holds of the members holds of what is in the set
+pub each-member : (P : ℕ → Type 0) (n k : ℕ) (w : ℕ → Bool) → Each P (members n k w) → (x : ℕ) → k ≤ x → x < k + n → w x ≡ true → P x
+unfolding members
+each-member P zero k w h x a b t = absurd (omega arith)
+each-member P (suc n) k w h x a b t =
+    at-or-past k x a (λ e. subst P e (each-head P (w k) k (members n (suc k) w) (rw e t) h))
+    (λ l. each-member P n (suc k) w (each-rest P (w k) k (members n (suc k) w) h) x l (omega arith) t)
+
+-- ---- Functions over stretches, as maps
+
+tabulate-map : (f : ℕ → ℕ) (n k : ℕ) → tabulate n k f ≡ map f (tabulate n k same)
+unfolding tabulate
+tabulate-map f zero k = refl
+tabulate-map f (suc n) k = ap {B = List ℕ} (λ r. f k ∷ r) (tabulate-map f n (suc k))
+
+pub flat-map : (f : ℕ → ℕ) (n : ℕ) (s : ℕ → ℕ) (ks : List ℕ) → flatMap (λ k. tabulate n (s k) f) ks ≡ map f (flatMap (λ k. tabulate n (s k) same) ks)
+unfolding flatMap
+flat-map f n s [] = refl
+flat-map f n s (k ∷ ks) = rw (map-append, flat-map f n s ks, tabulate-map f n (s k))

@@ -1,0 +1,5 @@
+pub mod Lists
+pub mod Stretch
+pub mod Choose
+pub mod Rank
+pub mod Bursts

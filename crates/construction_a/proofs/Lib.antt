@@ -1,0 +1,10 @@
+pub mod Figures
+pub mod Ranking
+pub mod Rule
+pub mod Pattern
+pub mod Plan
+pub mod Complete
+pub mod Sound
+pub mod DemandTwo
+pub mod Strips
+mod Misreadings

@@ -1,0 +1,124 @@
+-- A word that the reader accepts differs from the word of what it answers only inside the bursts. Assumes nothing.
+use mathlib.Core.Path.{_≡_, refl, sym, ap, _∙_}
+use mathlib.Core.Logic.{_≢_}
+use mathlib.Core.Bool.{Bool, true, false, not, cond, _&&_, true≢false, false≢true}
+use mathlib.Core.List.{List, [], _∷_, map}
+use mathlib.Core.Option.{Option, none, some}
+use Prim.Native.Nat.{ℕ, suc, _+_, _-_, _*_, _≤_, _<_}
+use native.Mathlib.Omega.{arith}
+use lib.ListN.{length, getD}
+use Rattle.refusals.specs.Refusals.{must, disagrees, valueTooLarge}
+use Rattle.combinatorics.specs.Bursts.{inBurst}
+use Rattle.combinatorics.specs.Lists.{allBelow, sameList}
+use Rattle.combinatorics.specs.Stretch.{has}
+use Rattle.combinatorics.proofs.Bursts.{Placed, RankedAs, rank-of-starts}
+use Rattle.combinatorics.proofs.Cases.{by-le, by-eq, by-bool, eqb-true, eqb-false}
+use Rattle.combinatorics.proofs.Lists.{both, list-same, at-below}
+use Rattle.combinatorics.proofs.Stretch.{Each, flat-map, has-some}
+use Rattle.cells.specs.Cells.{Cell, burst, fixed, digit, message, is, weave, pick}
+use Rattle.cells.specs.Codec.{Reading, accepted, refused}
+use Rattle.cells.specs.Digits.{spell, value, places}
+use Rattle.cells.proofs.Cells.{pick-at, length-pick, pick-below, Clean, at-clean, clean-agrees, agree-at}
+use Rattle.cells.proofs.Cut.{block-with}
+use Rattle.cells.proofs.Digits.{Spelled, spell-value, heads-spelled}
+use Rattle.construction_a.specs.Figures.{Params, parts, headOf, blockOf, placementCount, indexTail, messageLen}
+use Rattle.construction_a.specs.Writing.{isBurst, isIndex, indexBlocks, isFixed, cellOf, kindAt, plan, rank, placementOf, word}
+use Rattle.construction_a.specs.Reading.{looksFixed, indexFound, heads, written, agrees, readRank, readFrom, read}
+use Rattle.construction_a.proofs.Figures.{Served}
+use Rattle.construction_a.proofs.Pattern.{taken-bare}
+use Rattle.construction_a.proofs.Plan.{index-blocks, kind-burst, digit-places, messages-count}
+use Rattle.construction_a.proofs.Rule.{not-true}
+
+-- a fixed cell is the first of a block that is neither I nor B
+fixed-is : (r : ℕ) (t i b : Bool) (far : ℕ) → is fixed (cellOf r t i b far) ≡ true → ((not i && not b) ≡ true) × (far ≡ 0)
+unfolding cellOf
+fixed-is r true i b far = λ e. absurd (false≢true e)
+fixed-is r false true b far =
+    by-le (suc far) (suc r) (λ t. is fixed (cond t digit message) ≡ true → (false ≡ true) × (far ≡ 0)) (λ _ e. absurd (false≢true e)) (λ _ e. absurd (false≢true e))
+fixed-is r false false true far = λ e. absurd (false≢true e)
+fixed-is r false false false far = by-eq far 0 (λ t. is fixed (cond t fixed message) ≡ true → (true ≡ true) × (far ≡ 0)) (λ d _. (refl, d)) (λ _ e. absurd (false≢true e))
+
+-- blocks that do not look F start with a symbol other than 0
+not-zero : (f : Params) (w ks : List ℕ) → Each (λ k. not (looksFixed f w k) ≡ true) ks → Each (λ k. getD w (headOf f k) 0 ≢ 0) ks
+unfolding looksFixed
+not-zero f w [] h = tt
+not-zero f w (k ∷ ks) h = (eqb-false (getD w (headOf f k) 0) 0 (not-true (looksFixed f w k) (h .0)), not-zero f w ks (h .1))
+
+pub record Accepted (f : Params) (w ss ms : List ℕ) : Type 0 where
+  pub placed : Placed (f .b) (f .n) 0 ss
+  pub count : length ss ≡ f .m
+  pub message : length ms ≡ messageLen f
+  pub symbols : allBelow (f .q) ms ≡ true
+  pub outside : (x : ℕ) → x < f .n → inBurst (f .b) ss x ≡ false → getD w x 0 ≡ getD (word f ss ms) x 0
+
+pub wrong : {P : Type 0} {a : ℕ} {ss ms : List ℕ} → refused a ≡ accepted ss ms → P
+wrong e = absurd (let z : _≡_ {A = ℕ} 0 1 = cc in omega arith)
+
+module _ (f : Params) (ok : Served f) (w : List ℕ) (small : (x : ℕ) → getD w x 0 < f .q) where
+  clean-of : (ss : List ℕ) → ((k : ℕ) → k < parts f * f .m → isFixed f ss k ≡ true → looksFixed f w k ≡ true) → Clean (plan f ss) w
+  unfolding plan kindAt looksFixed isFixed
+  clean-of ss h =
+      at-clean (f .n) 0 (kindAt f ss) w (λ x _ lx c.
+      let i = block-with (f .n) (parts f) (f .m) x (omega arith) (ok .some) (omega arith) in
+      let k = blockOf f x in
+      let z = fixed-is (indexTail f) (inBurst (f .b) ss x) (isIndex f ss k) (isBurst f ss k) (x - headOf f k) c in
+      let e : x ≡ headOf f k = omega (arith, z .1, i .reach) in
+      ap (λ (y : ℕ). getD w y 0) e ∙ eqb-true (getD w (headOf f k) 0) 0 (h k (i .below) (z .0)))
+
+  -- the placement of the value read, where that is below T and the blocks agree
+  kernel : (ks : List ℕ) → indexFound (parts f) (f .m) (looksFixed f w) ≡ some ks → written f w ks < placementCount f
+      → agrees f w ks (placementOf f (written f w ks)) ≡ true → Accepted f w (placementOf f (written f w ks)) (pick message (plan f (placementOf f (written f w ks))) w)
+  unfolding agrees heads word plan written messageLen
+  kernel ks found l a =
+      let v = written f w ks in
+      let ss = placementOf f v in
+      let s = rank-of-starts (f .n) (f .m) (f .b) (ok .long) (ok .total) v l in
+      let n = f .n in
+      let ps = places (f .m) (indexTail f) in
+      let I = indexBlocks f ss in
+      let ag = both (sameList I ks) (not (has (parts f * f .m) 0 (λ k. isFixed f ss k && not (looksFixed f w k)))) a in
+      let same-I : I ≡ ks = list-same I ks (ag .0) in
+      let lk : length ks ≡ f .m = sym (ap length same-I) ∙ index-blocks f ok ss (s .placed) (s .count) in
+      let sp : Spelled (f .q) ps (heads f w ks) =
+      rw lk at (heads-spelled (f .q) (indexTail f) (headOf f) (λ x. getD w x 0) ks small (not-zero f w ks (taken-bare (parts f) (f .m) (looksFixed f w) ks found))) in
+      let spelled : spell (f .q) ps (rank f ss) ≡ heads f w ks = ap (spell (f .q) ps) (s .rank) ∙ spell-value (f .q) ps (heads f w ks) sp in
+      let picked : heads f w I ≡ pick digit (plan f ss) w =
+      flat-map (λ x. getD w x 0) (suc (indexTail f)) (headOf f) I ∙ ap (map (λ x. getD w x 0)) (sym (digit-places f ok ss (s .placed) (s .count)))
+      ∙ sym (pick-at digit n 0 (kindAt f ss) w) in
+      let digits : spell (f .q) ps (rank f ss) ≡ pick digit (plan f ss) w = spelled ∙ ap (heads f w) (sym same-I) ∙ picked in
+      let clean : Clean (plan f ss) w =
+      clean-of ss (λ k lk t. by-bool (looksFixed f w k) (λ u. u)
+      (λ u. absurd (true≢false (sym (ag .1) ∙ ap not (has-some (parts f * f .m) 0 k (λ k. isFixed f ss k && not (looksFixed f w k)) (omega arith) (omega arith) (rw (t, u))))))) in
+      record {
+        placed = s .placed;
+        count = s .count;
+        message = omega (arith, length-pick message n (kindAt f ss) w, messages-count f ok ss (s .placed) (s .count));
+        symbols = pick-below message n (kindAt f ss) w (f .q) small;
+        outside = λ x lx out.
+            rw digits (agree-at n 0 x (kindAt f ss) w (weave (plan f ss) (pick digit (plan f ss) w) (pick message (plan f ss) w)) (clean-agrees (plan f ss) w clean)
+            (omega arith) (omega arith) (kind-burst f ss x ∙ out));
+      }
+
+  pub sound : (ss ms : List ℕ) → read f w ≡ accepted ss ms → Accepted f w ss ms
+  unfolding read readRank
+  sound ss ms = go (indexFound (parts f) (f .m) (looksFixed f w)) refl
+    where
+      at : (ks : List ℕ) (b : Bool) → indexFound (parts f) (f .m) (looksFixed f w) ≡ some ks → written f w ks < placementCount f
+          → agrees f w ks (placementOf f (written f w ks)) ≡ b
+          → must b (refused disagrees) (accepted (placementOf f (written f w ks)) (pick message (plan f (placementOf f (written f w ks))) w)) ≡ accepted ss ms
+          → Accepted f w ss ms
+      at ks true found l a e =
+          let v = written f w ks in
+          let e₁ : placementOf f v ≡ ss = cc in
+          let e₂ : pick message (plan f (placementOf f v)) w ≡ ms = cc in
+          rw (e₂, e₁) at (kernel ks found l a)
+      at ks false found l a e = wrong e
+
+      go : (o : Option (List ℕ)) → indexFound (parts f) (f .m) (looksFixed f w) ≡ o → readFrom f w o ≡ accepted ss ms → Accepted f w ss ms
+      go none found = λ e. wrong e
+      go (some ks) found =
+          let v = written f w ks in
+          by-le (suc v) (placementCount f)
+          (λ t. must t (refused valueTooLarge) (must (agrees f w ks (placementOf f v)) (refused disagrees) (accepted (placementOf f v) (pick message (plan f (placementOf f v)) w))) ≡ accepted ss ms
+          → Accepted f w ss ms)
+          (λ l. at ks (agrees f w ks (placementOf f v)) found l refl) (λ _ e. wrong e)

@@ -1,0 +1,75 @@
+-- Document 01, "Figures of a strip". Assumes nothing.
+use mathlib.Core.Bool.{Bool, cond, _&&_}
+use mathlib.Core.List.{List}
+use Prim.Native.Nat.{ℕ, _+_, _-_, _*_, _/_, _^_}
+use lib.Dec.{leb, ltb, eqb}
+use lib.ListN.{length}
+use Rattle.combinatorics.specs.Bursts.{apart, placements}
+use Rattle.combinatorics.specs.Stretch.{first}
+use Rattle.cells.specs.Cut.{blockHead, blockWith}
+
+-- the figures: n symbols of a word, each below q; m bursts (runs) of b positions each
+pub record Params : Type 0 where
+  pub n : ℕ
+  pub q : ℕ
+  pub m : ℕ
+  pub b : ℕ
+
+-- "The largest figures .. are named once"
+abbrev pub maxWord : ℕ
+maxWord = 1024
+
+abbrev pub maxAlphabet : ℕ
+maxAlphabet = 256
+
+abbrev pub maxBursts : ℕ
+maxBursts = 6
+
+-- "n is 3 to 1024, q 2 to 256, m 1 to 6, b at least 1."
+unfoldable pub inRange : Params → Bool
+inRange f =
+    leb 3 (f .n) && leb (f .n) maxWord && leb 2 (f .q) && leb (f .q) maxAlphabet && leb 1 (f .m) && leb (f .m) maxBursts && leb 1 (f .b)
+
+-- "A placement is m disjoint runs of exactly b consecutive positions, given by ascending starts."
+unfoldable pub isPlacement : Params → List ℕ → Bool
+isPlacement f ss = eqb (length ss) (f .m) && apart (f .b) (f .n) 0 ss
+
+-- "p is 3 for m of 1 or 2, else m."
+unfoldable pub parts : Params → ℕ
+parts f = cond (leb (f .m) 2) 3 (f .m)
+
+-- "The word is cut into p parts ..; each part into m blocks likewise." Blocks are numbered through the word: block j of part i is i × m + j.
+abbrev pub blocks : Params → ℕ
+blocks f = parts f * f .m
+
+-- the first position of block k
+abbrev pub headOf : Params → ℕ → ℕ
+headOf f k = blockHead (f .n) (parts f) (f .m) k
+
+-- the block that has position x
+abbrev pub blockOf : Params → ℕ → ℕ
+blockOf f x = blockWith (f .n) (parts f) (f .m) x
+
+-- "L is n divided by p × m, rounded down."
+unfoldable pub blockMin : Params → ℕ
+blockMin f = f .n / (parts f * f .m)
+
+-- "T counts all placements: the ways to choose m things out of n − m × b + m."
+abbrev pub placementCount : Params → ℕ
+placementCount f = placements (f .n) (f .m) (f .b)
+
+-- "An I-block's first 1 + r symbols can spell q − 1 values in the first place and q in each of the r others": what m of them spell
+abbrev pub indexValues : Params → ℕ → ℕ
+indexValues f r = ((f .q - 1) * f .q ^ r) ^ f .m
+
+-- "r is the least whole number for which m such I-blocks together spell at least T values." Sought below L: where it is not, figures don't fit.
+unfoldable pub indexTail : Params → ℕ
+indexTail f = first (blockMin f) 0 (λ r. leb (placementCount f) (indexValues f r))
+
+-- "Figures fit when m × b is at most n, r is below L, and b is at most L − r."
+unfoldable pub fits : Params → Bool
+fits f = leb (f .m * f .b) (f .n) && ltb (indexTail f) (blockMin f) && leb (f .b) (blockMin f - indexTail f)
+
+-- "A message has k symbols, possibly none: k is n less m × (b + p + r − 1)."
+unfoldable pub messageLen : Params → ℕ
+messageLen f = f .n - f .m * (f .b + parts f + indexTail f - 1)

@@ -1,0 +1,6 @@
+pub mod Figures
+pub mod Writing
+pub mod Reading
+pub mod Outcomes
+pub mod DemandTwo
+pub mod Strips

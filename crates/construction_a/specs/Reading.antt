@@ -1,0 +1,88 @@
+-- Document 01, "Reading": from a found word to its placement and message. Assumes nothing.
+use mathlib.Core.Bool.{Bool, true, false, not, cond, _&&_}
+use mathlib.Core.List.{List, [], _∷_, flatMap}
+use mathlib.Core.Option.{Option, none, some}
+use Prim.Native.Nat.{ℕ, zero, suc, _+_, _*_}
+use lib.Dec.{ltb, eqb}
+use lib.ListN.{getD}
+use Rattle.combinatorics.specs.Lists.{sameList}
+use Rattle.combinatorics.specs.Stretch.{has, members, tabulate, stretch}
+use Rattle.cells.specs.Cells.{message, pick}
+use Rattle.cells.specs.Codec.{Reading, accepted, refused}
+use Rattle.cells.specs.Digits.{value, places}
+use Rattle.refusals.specs.Refusals.{must, noPattern, valueTooLarge, disagrees}
+use Rattle.construction_a.specs.Figures.{Params, parts, blocks, headOf, placementCount, indexTail}
+use Rattle.construction_a.specs.Writing.{row, isFixed, indexBlocks, plan, placementOf}
+
+-- "A block starting with 0 looks F."
+unfoldable pub looksFixed : Params → List ℕ → ℕ → Bool
+looksFixed f w k = eqb (getD w (headOf f k) 0) 0
+
+-- ---- The listed patterns, for p parts of m blocks of which some look F
+
+-- the one; of two "neighbours i and i+1 give i+1", and the first and the last give the first; every other list gives none
+unfoldable pub later : ℕ → List ℕ → Option ℕ
+later n [] = none
+later n (i ∷ []) = some i
+later n (i ∷ j ∷ []) = cond (eqb j (suc i)) (some j) (cond (eqb i 0 && eqb (suc j) n) (some 0) none)
+later n (i ∷ j ∷ k ∷ r) = none
+
+-- the parts without a block that looks F
+unfoldable pub bareParts : ℕ → ℕ → (ℕ → Bool) → List ℕ
+bareParts p m looks = members p 0 (λ i. not (has m 0 (row m looks i)))
+
+abbrev pub within : ℕ → ℕ → Option ℕ → Option ℕ
+within m i none = none
+within m i (some j) = some (i * m + j)
+
+-- "in each part the blocks that don't look F are one (it is I), or two, where neighbours give the later and blocks 0 and m − 1 give block 0"
+unfoldable pub indexInPart : ℕ → (ℕ → Bool) → ℕ → Option ℕ
+indexInPart m looks i = within m i (later m (members m 0 (λ j. not (row m looks i j))))
+
+-- one of each, or none where one lacks
+abbrev pub consBoth : Option ℕ → Option (List ℕ) → Option (List ℕ)
+consBoth none r = none
+consBoth (some x) none = none
+consBoth (some x) (some xs) = some (x ∷ xs)
+
+unfoldable pub collect : ℕ → ℕ → (ℕ → Option ℕ) → Option (List ℕ)
+collect zero k g = some []
+collect (suc n) k g = consBoth (g k) (collect n (suc k) g)
+
+-- "One part without such a block: its blocks are I. Two such parts: .. No such part, with m above 2: .. Every other pattern is refused."
+abbrev pub indexBy : ℕ → ℕ → (ℕ → Bool) → List ℕ → Option ℕ → Option (List ℕ)
+indexBy p m looks bare (some i) = some (stretch m (i * m))
+indexBy p m looks [] none = cond (ltb 2 m) (collect p 0 (indexInPart m looks)) none
+indexBy p m looks (x ∷ xs) none = none
+
+unfoldable pub indexFound : ℕ → ℕ → (ℕ → Bool) → Option (List ℕ)
+indexFound p m looks = indexBy p m looks (bareParts p m looks) (later p (bareParts p m looks))
+
+-- ---- From the I-blocks to the answer
+
+-- what the first 1 + r symbols of the I-blocks spell
+unfoldable pub heads : Params → List ℕ → List ℕ → List ℕ
+heads f w ks = flatMap (λ k. tabulate (suc (indexTail f)) (headOf f k) (λ x. getD w x 0)) ks
+
+unfoldable pub written : Params → List ℕ → List ℕ → ℕ
+written f w ks = value (f .q) (places (f .m) (indexTail f)) (heads f w ks)
+
+-- "the I-blocks the rule gives for it must be those read, and each F-block it gives must start with 0"
+unfoldable pub agrees : Params → List ℕ → List ℕ → List ℕ → Bool
+agrees f w ks ss = sameList (indexBlocks f ss) ks && not (has (blocks f) 0 (λ k. isFixed f ss k && not (looksFixed f w k)))
+
+-- "Then the rank gives the placement": 8 and 9 are left to refuse with
+unfoldable pub readRank : Params → List ℕ → List ℕ → ℕ → Reading
+readRank f w ks v =
+    let ss = placementOf f v in
+    let ms = pick message (plan f ss) w in
+    must (ltb v (placementCount f)) (refused valueTooLarge)
+    (must (agrees f w ks ss) (refused disagrees)
+    (accepted ss ms))
+
+abbrev pub readFrom : Params → List ℕ → Option (List ℕ) → Reading
+readFrom f w none = refused noPattern
+readFrom f w (some ks) = readRank f w ks (written f w ks)
+
+unfoldable pub read : Params → List ℕ → Reading
+read f w = readFrom f w (indexFound (parts f) (f .m) (looksFixed f w))

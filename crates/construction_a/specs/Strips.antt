@@ -1,0 +1,77 @@
+-- Document 01's bench strips that are "starred: to be proved", as one table. The proof is `starred-hold` of proofs/Strips.antt. Assumes nothing.
+use mathlib.Core.Path.{_≡_}
+use mathlib.Core.Bool.{Bool, true}
+use mathlib.Core.List.{List, [], _∷_, _++_}
+use Prim.Native.Nat.{ℕ}
+use lib.Dec.{eqb}
+use lib.ListN.{replicate}
+use Rattle.combinatorics.specs.Lists.{all, any, sameList}
+use Rattle.combinatorics.specs.Stretch.{bit, tabulate}
+use Rattle.construction_a.specs.Figures.{Params, fits, messageLen}
+use Rattle.construction_a.specs.Writing.{rank, indexBlocks, word}
+use Rattle.construction_a.specs.Reading.{heads}
+use Rattle.construction_a.specs.Outcomes.{FiguresOut, figured, unserved, figuresOut, Covered, coverOut, inUse}
+
+-- what the definitions give, and what document 01 says
+pub record Row : Type 0 where
+  pub given : List ℕ
+  pub stated : List ℕ
+
+abbrev pub row : List ℕ → List ℕ → Row
+row g s = record { given = g; stated = s }
+
+unfoldable pub holds : Row → Bool
+holds r = sameList (r .given) (r .stated)
+
+abbrev pub strip : ℕ → ℕ → ℕ → ℕ → Params
+strip n q m b = record { n = n; q = q; m = m; b = b }
+
+-- figures alone: 0, T, r and k, or the refusal
+abbrev numbers : FiguresOut → List ℕ
+numbers (figured t r k) = 0 ∷ t ∷ r ∷ k ∷ []
+numbers (unserved a) = a ∷ []
+
+-- covering the worn positions: the answer, then the starts
+abbrev covered : Covered → List ℕ
+covered c = c .answer ∷ inUse (c .placement)
+
+abbrev mapOf : ℕ → List ℕ → List ℕ
+mapOf n worn = tabulate n 0 (λ x. bit (any (eqb x) worn))
+
+-- the first symbols of each I-block, in a word with message symbols 0
+abbrev begins : Params → List ℕ → List ℕ
+begins f ss = heads f (word f ss (replicate (messageLen f) 0)) (indexBlocks f ss)
+
+unfoldable pub starred : List Row
+starred =
+    -- "n 30, q 2, m 1, b 3: T 28, r 5, k 20."
+    row (numbers (figuresOut (strip 30 2 1 3))) (0 ∷ 28 ∷ 5 ∷ 20 ∷ [])
+    -- "Start 12, message all 1: 0, eleven 1s, 000, 11111, 101100, 1111."
+    ∷ row (word (strip 30 2 1 3) (12 ∷ []) (replicate 20 1))
+    (0 ∷ replicate 11 1 ++ replicate 3 0 ++ replicate 5 1 ++ (1 ∷ 0 ∷ 1 ∷ 1 ∷ 0 ∷ 0 ∷ []) ++ replicate 4 1)
+    -- "b 5 there fits; b 6 is 2."
+    ∷ row (bit (fits (strip 30 2 1 5)) ∷ []) (1 ∷ [])
+    ∷ row (numbers (figuresOut (strip 30 2 1 6))) (2 ∷ [])
+    -- "n 60, q 4, m 2, b 4: T 1431, r 2, k 44."
+    ∷ row (numbers (figuresOut (strip 60 4 2 4))) (0 ∷ 1431 ∷ 2 ∷ 44 ∷ [])
+    -- "Starts 8, 12: rank 44, I-blocks 2 and 3 begin 1 0 0 and 3 3 0."
+    ∷ row (rank (strip 60 4 2 4) (8 ∷ 12 ∷ []) ∷ []) (44 ∷ [])
+    ∷ row (indexBlocks (strip 60 4 2 4) (8 ∷ 12 ∷ [])) (2 ∷ 3 ∷ [])
+    ∷ row (begins (strip 60 4 2 4) (8 ∷ 12 ∷ [])) (1 ∷ 0 ∷ 0 ∷ 3 ∷ 3 ∷ 0 ∷ [])
+    -- "n 90, q 3, m 3, b 3: T 95284, r 3, k 66."
+    ∷ row (numbers (figuresOut (strip 90 3 3 3))) (0 ∷ 95284 ∷ 3 ∷ 66 ∷ [])
+    -- "Starts 22, 30, 65: rank 36390, I-blocks 0, 4, 7 begin 1110, 1221, 2210."
+    ∷ row (rank (strip 90 3 3 3) (22 ∷ 30 ∷ 65 ∷ []) ∷ []) (36390 ∷ [])
+    ∷ row (indexBlocks (strip 90 3 3 3) (22 ∷ 30 ∷ 65 ∷ [])) (0 ∷ 4 ∷ 7 ∷ [])
+    ∷ row (begins (strip 90 3 3 3) (22 ∷ 30 ∷ 65 ∷ [])) (1 ∷ 1 ∷ 1 ∷ 0 ∷ 1 ∷ 2 ∷ 2 ∷ 1 ∷ 2 ∷ 2 ∷ 1 ∷ 0 ∷ [])
+    -- "n 3, q 4, m 1, b 1: k 0; q 3 there is 2."
+    ∷ row (bit (fits (strip 3 4 1 1)) ∷ messageLen (strip 3 4 1 1) ∷ []) (1 ∷ 0 ∷ [])
+    ∷ row (numbers (figuresOut (strip 3 3 1 1))) (2 ∷ [])
+    -- "Covering, first strip: worn 27 and 29 give 27; 26 and 29 give 6."
+    ∷ row (covered (coverOut (strip 30 2 1 3) (mapOf 30 (27 ∷ 29 ∷ [])))) (0 ∷ 27 ∷ [])
+    ∷ row (covered (coverOut (strip 30 2 1 3) (mapOf 30 (26 ∷ 29 ∷ [])))) (6 ∷ [])
+    ∷ []
+
+-- every row's two sides are the same
+abbrev pub StarredHold : Type 0
+StarredHold = all holds starred ≡ true

@@ -1,0 +1,116 @@
+-- Document 01, "Writing by the FBI rule". A set of blocks is a test of their numbers. Assumes nothing.
+use mathlib.Core.Bool.{Bool, true, false, not, cond, _||_, _&&_}
+use mathlib.Core.List.{List, [], _∷_, map}
+use Prim.Native.Nat.{ℕ, suc, _+_, _-_, _*_, _/_, _%_}
+use lib.Dec.{ltb, eqb}
+use Rattle.combinatorics.specs.Bursts.{inBurst, rankOf, startsOf}
+use Rattle.combinatorics.specs.Stretch.{count, first, members, tabulate}
+use Rattle.cells.specs.Cells.{Cell, burst, fixed, digit, message, weave}
+use Rattle.cells.specs.Digits.{spell, places}
+use Rattle.construction_a.specs.Figures.{Params, parts, blocks, headOf, blockOf, indexTail}
+
+-- ---- B-blocks
+
+-- "The block in which a run ends becomes a B-block ..; if it is one already, the leftmost block of the word that is not yet B becomes B."
+-- Of n blocks, those of B are B already, and the run ends in block e.
+unfoldable pub becomes : ℕ → (ℕ → Bool) → ℕ → ℕ
+becomes n B e = let spare = first n 0 (λ k. not (B k)) in cond (B e) spare e
+
+unfoldable pub withBurst : ℕ → (ℕ → Bool) → ℕ → ℕ → Bool
+withBurst n B e k = eqb k (becomes n B e) || B k
+
+-- "Runs are taken left to right."
+unfoldable pub withBursts : ℕ → List ℕ → (ℕ → Bool) → ℕ → Bool
+withBursts n [] B = B
+withBursts n (e ∷ es) B = withBursts n es (withBurst n B e)
+
+-- the blocks in which the runs end, "even across a part's edge"
+abbrev pub lastBlocks : Params → List ℕ → List ℕ
+lastBlocks f ss = map (λ s. blockOf f (s + f .b - 1)) ss
+
+unfoldable pub isBurst : Params → List ℕ → ℕ → Bool
+isBurst f ss = withBursts (blocks f) (lastBlocks f ss) (λ _. false)
+
+-- ---- I-blocks, for p parts of m blocks
+
+-- the one after i, of n: 0 "after the last"
+unfoldable pub next : ℕ → ℕ → ℕ
+next n i = cond (eqb (suc i) n) 0 (suc i)
+
+-- part i of a set of blocks
+abbrev pub row : ℕ → (ℕ → Bool) → ℕ → ℕ → Bool
+row m w i j = w (i * m + j)
+
+-- the first part whose blocks are all B, and the first that has none, or p
+unfoldable pub fullPart : ℕ → ℕ → (ℕ → Bool) → ℕ
+fullPart p m B = first p 0 (λ i. eqb (count m 0 (row m B i)) m)
+
+unfoldable pub barePart : ℕ → ℕ → (ℕ → Bool) → ℕ
+barePart p m B = first p 0 (λ i. eqb (count m 0 (row m B i)) 0)
+
+-- the I-blocks are every block of one part, or one block of each part
+pub data Chosen : Type 0 where
+  whole : ℕ → Chosen
+  oneEach : Chosen
+
+-- "all B in one part i: every block of part i+1, part 0 after the last; some part has no B, and B lie in more than one part: every block
+-- of the first such part; each part has one B .."
+unfoldable pub chosen : ℕ → ℕ → (ℕ → Bool) → Chosen
+chosen p m B =
+    cond (ltb (fullPart p m B) p) (whole (next p (fullPart p m B))) (cond (ltb (barePart p m B) p) (whole (barePart p m B)) oneEach)
+
+-- ".., at block j: block j+1 of that part, block 0 after the last"
+unfoldable pub beside : ℕ → (ℕ → Bool) → ℕ → ℕ
+beside m B i = next m (first m 0 (row m B i))
+
+-- whether block j of part i is among them
+unfoldable pub isChosen : ℕ → (ℕ → Bool) → Chosen → ℕ → ℕ → Bool
+isChosen m B (whole a) i j = eqb i a
+isChosen m B oneEach i j = eqb j (beside m B i)
+
+unfoldable pub isIndexIn : ℕ → (ℕ → Bool) → Chosen → ℕ → Bool
+isIndexIn m B c k = isChosen m B c (k / m) (k % m)
+
+unfoldable pub isIndex : Params → List ℕ → ℕ → Bool
+isIndex f ss = isIndexIn (f .m) (isBurst f ss) (chosen (parts f) (f .m) (isBurst f ss))
+
+-- the I-blocks "from left to right"
+unfoldable pub indexBlocks : Params → List ℕ → List ℕ
+indexBlocks f ss = members (blocks f) 0 (isIndex f ss)
+
+-- "All other blocks are F."
+unfoldable pub isFixed : Params → List ℕ → ℕ → Bool
+isFixed f ss k = not (isIndex f ss k) && not (isBurst f ss k)
+
+-- ---- What stands at each position
+
+-- of a position in a run or not, in an I-block or not, in a B-block or not, that lies so far behind its block's first: "An F-block's first
+-- symbol is 0"; in each I-block "one digit .., then r digits"; "Run positions"; "The message fills all remaining positions"
+unfoldable pub cellOf : ℕ → Bool → Bool → Bool → ℕ → Cell
+cellOf r true i b far = burst
+cellOf r false true b far = cond (ltb far (suc r)) digit message
+cellOf r false false true far = message
+cellOf r false false false far = cond (eqb far 0) fixed message
+
+unfoldable pub kindAt : Params → List ℕ → ℕ → Cell
+kindAt f ss x =
+    let k = blockOf f x in
+    cellOf (indexTail f) (inBurst (f .b) ss x) (isIndex f ss k) (isBurst f ss k) (x - headOf f k)
+
+unfoldable pub plan : Params → List ℕ → List Cell
+plan f ss = tabulate (f .n) 0 (kindAt f ss)
+
+-- ---- The word
+
+-- "The rank is the sum, over the runs, of the ways to choose as many things as the run's number out of its reduced start; it lies from 0 to T − 1."
+abbrev pub rank : Params → List ℕ → ℕ
+rank f ss = rankOf (f .b) ss
+
+-- and the placement of a rank
+abbrev pub placementOf : Params → ℕ → List ℕ
+placementOf f v = startsOf (f .n) (f .m) (f .b) v
+
+-- "It is written over the I-blocks from left to right, most significant digit first .. Run positions hold 0. The message fills all remaining
+-- positions in ascending order."
+unfoldable pub word : Params → List ℕ → List ℕ → List ℕ
+word f ss ms = weave (plan f ss) (spell (f .q) (places (f .m) (indexTail f)) (rank f ss)) ms

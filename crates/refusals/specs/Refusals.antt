@@ -1,0 +1,83 @@
+-- The refusal numbers of document 01 under their names, and how an order of refusals is written. Assumes nothing.
+use mathlib.Core.Bool.{Bool, true, false}
+use mathlib.Core.List.{List, [], _∷_}
+use Prim.Native.Nat.{ℕ}
+
+-- "Each call answers as the ledger does, 0 for accepted."
+abbrev pub served : ℕ
+served = 0
+
+-- ---- From the input
+
+-- "1: a figure out of range, or a book with one number twice."
+abbrev pub invalid : ℕ
+invalid = 1
+
+-- "2: figures don't fit."
+abbrev pub unfit : ℕ
+unfit = 2
+
+-- "3: a lent list, placement or buffer has another length than its figures give."
+abbrev pub wrongLength : ℕ
+wrongLength = 3
+
+-- "4: a symbol of q or more, or a map byte above 1."
+abbrev pub badSymbol : ℕ
+badSymbol = 4
+
+-- "5: starts too close, descending, or past the end."
+abbrev pub badStarts : ℕ
+badStarts = 5
+
+-- "6: no placement covers the map."
+abbrev pub uncovered : ℕ
+uncovered = 6
+
+-- "7: first symbols in no listed pattern."
+abbrev pub noPattern : ℕ
+noPattern = 7
+
+-- "8: the written value is T or more."
+abbrev pub valueTooLarge : ℕ
+valueTooLarge = 8
+
+-- "9: the placement disagrees with the I- or F-blocks."
+abbrev pub disagrees : ℕ
+disagrees = 9
+
+-- "10: K below 5, a byte's symbols spelling 256 or more, or a leftover symbol not 0."
+abbrev pub badPayload : ℕ
+badPayload = 10
+
+-- "11: record unreadable, or one too many."
+abbrev pub badRecord : ℕ
+badRecord = 11
+
+-- ---- From the state
+
+-- "12: number cancelled."
+abbrev pub jobCancelled : ℕ
+jobCancelled = 12
+
+-- "13: already open."
+abbrev pub alreadyOpen : ℕ
+alreadyOpen = 13
+
+-- "14: not open."
+abbrev pub notOpen : ℕ
+notOpen = 14
+
+-- "15: 64 numbers held and a new one needed."
+abbrev pub tableFull : ℕ
+tableFull = 15
+
+-- both lists
+abbrev pub refusals : List ℕ
+refusals =
+    invalid ∷ unfit ∷ wrongLength ∷ badSymbol ∷ badStarts ∷ uncovered ∷ noPattern ∷ valueTooLarge ∷ disagrees ∷ badPayload ∷ badRecord
+    ∷ jobCancelled ∷ alreadyOpen ∷ notOpen ∷ tableFull ∷ []
+
+-- An order of refusals, "1 2 3 ..", reads downward: where a test fails the outcome is `else`, and otherwise the next test decides.
+abbrev pub must : {A : Type 0} → Bool → A → A → A
+must true else rest = rest
+must false else rest = else
