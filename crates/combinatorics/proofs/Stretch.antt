@@ -5,6 +5,7 @@ use mathlib.Core.Bool.{Bool, true, false, not, cond, _||_, _&&_, or-true, true�
 use mathlib.Core.List.{List, [], _∷_, _++_, map, map-append, flatMap, append-nil}
 use Prim.Native.Nat.{ℕ, zero, suc, _+_, _-_, _*_, _≤_, _<_}
 use native.Mathlib.Nat.{add-zero, add-suc}
+use native.Mathlib.Numerals.{add-one}
 use native.Mathlib.Omega.{arith}
 use lib.Dec.{leb, eqb}
 use lib.ListN.{length, length-append}
@@ -308,3 +309,31 @@ pub flat-map : (f : ℕ → ℕ) (n : ℕ) (s : ℕ → ℕ) (ks : List ℕ) →
 unfolding flatMap
 flat-map f n s [] = refl
 flat-map f n s (k ∷ ks) = rw (map-append, flat-map f n s ks, tabulate-map f n (s k))
+
+-- ---- As a loop goes: a search that has come to i without finding, and a count that has come to i
+
+pub first-start : (n : ℕ) (w : ℕ → Bool) → first (n - 0) 0 w ≡ first n 0 w
+first-start n w =
+    let e : n - 0 ≡ n = omega arith in
+    rw e
+
+pub first-here : (n i : ℕ) (w : ℕ → Bool) → i < n → w i ≡ true → first (n - i) i w ≡ i
+unfolding first
+first-here n i w h t =
+    let e : n - i ≡ suc (n - suc i) = omega arith in
+    rw (e, t)
+
+pub first-on : (n i : ℕ) (w : ℕ → Bool) → i < n → w i ≡ false → first (n - i) i w ≡ first (n - (i + 1)) (i + 1) w
+unfolding first
+first-on n i w h t =
+    let e : n - i ≡ suc (n - suc i) = omega arith in
+    rw (e, t, add-one i)
+
+pub first-over : (n i : ℕ) (w : ℕ → Bool) → n ≤ i → first (n - i) i w ≡ i
+unfolding first
+first-over n i w h =
+    let e : n - i ≡ 0 = omega arith in
+    rw e
+
+pub count-on : (i : ℕ) (w : ℕ → Bool) → count (i + 1) 0 w ≡ count i 0 w + bit (w i)
+count-on i w = rw (add-one i) (sum-next i (λ x. bit (w x)))
