@@ -1,0 +1,135 @@
+-- The table answers as the ledger does and stands for it: one call, then every list. Assumes nothing.
+use mathlib.Core.Path.{_≡_, refl, sym, ap, ap₂, _∙_}
+use mathlib.Core.Bool.{Bool, true, false, cond, true≢false, false≢true}
+use mathlib.Core.List.{List, [], _∷_}
+use mathlib.Core.Option.{some}
+use Prim.Native.Nat.{ℕ, zero, suc}
+use native.Mathlib.Omega.{arith}
+use lib.Dec.{eqb}
+use lib.ListN.{replicate}
+use Rattle.refusals.specs.Refusals.{served, must, tableFull}
+use Rattle.combinatorics.specs.Lists.{any}
+use Rattle.combinatorics.specs.Stretch.{bit}
+use Rattle.combinatorics.proofs.Cases.{by-eq, by-bool, eqb-same, eqb-true}
+use Rattle.jobs.specs.declared.Entry.{Entry}
+use Rattle.jobs.specs.declared.Entry.the-variants.{Free, Open, Cancelled}
+use Rattle.jobs.specs.Jobs.{slotCount, Kind, opening, cancelling, finishing, Call, on, Status, unknown, opened, isHeld}
+use Rattle.jobs.specs.Table.{standing, isFree, holds, firstEntry, lookup, used, emptyTable, TableOut, refuse, accept, replaceFirst, put, add, twice, decide, callAs, callOut, answersFrom, tableFrom}
+use Rattle.jobs.specs.Ledger.{historyOf, newestOf, statusAfter, status, held, judge, verdict, enter, verdictsFrom, ledgerFrom, acceptedBy}
+use Rattle.jobs.specs.Simulation.{Agrees, Simulation, SimulationFromEmpty}
+use Rattle.jobs.proofs.Entries.{any-holds, entry-passes, free-entry, Stored, stored, held-le, room-is}
+
+-- one call's outcome is what the ledger says
+pub record Alike (o : TableOut) (h : List Call) (c : Call) : Type 0 where
+  pub answer : o .answer ≡ verdict h c
+  pub agrees : Agrees (o .table) (enter h c)
+
+-- ---- One call, by what the table has of its number
+
+module _ (es : List Entry) (h : List Call) (g : Agrees es h) (c : Call) where
+  -- the ledger's verdict, read off the table
+  judged : {e : Entry} → lookup es (c .number) ≡ e → verdict h c ≡ judge (c .kind) (standing e) (any isFree es)
+  unfolding verdict
+  judged l = rw (← l, g .same (c .number), room-is es, g .slots, g .count)
+
+  -- a refusal leaves both alone
+  refused : (a : ℕ) → eqb a served ≡ false → verdict h c ≡ a → Alike (refuse es a) h c
+  unfolding enter
+  refused a z v = record { answer = sym v; agrees = rw (v, z) g }
+
+  -- one store in the table is one call more in the ledger
+  accepted : (next : List Entry) (old new : Entry) → Stored es next old new → standing old ≡ standing (lookup es (c .number))
+      → ((k : ℕ) → lookup next k ≡ cond (eqb (c .number) k) new (lookup es k)) → standing new ≡ statusAfter (some (c .kind)) → verdict h c ≡ served → Alike (accept next) h c
+  unfolding enter historyOf status held
+  accepted next old new s was at now v =
+      record {
+        answer = sym v;
+        agrees = rw v
+            (record {
+              slots = s .slots ∙ g .slots;
+              same = λ k. rw (at k)
+                  (by-eq (c .number) k (λ t. standing (cond t new (lookup es k)) ≡ statusAfter (newestOf (cond t (c .kind ∷ historyOf h k) (historyOf h k)))) (λ _. now) (λ _. g .same k));
+              once = s .once;
+              count = rw (eqb-same (c .number) (c .number) refl, ← now)
+                  (omega (arith, s .count, g .count, held-le es (c .number), ap (λ (x : Status). bit (isHeld x)) was, ap (λ (x : Status). bit (isHeld x)) (g .same (c .number))));
+            });
+      }
+
+  -- an unknown number
+  added : (new : Entry) → lookup es (c .number) ≡ Free → ((k : ℕ) → holds k new ≡ eqb (c .number) k) → standing new ≡ statusAfter (some (c .kind))
+      → judge (c .kind) unknown (any isFree es) ≡ must (any isFree es) tableFull served → Alike (add new es) h c
+  unfolding put
+  added new l own now j =
+      by-bool (any isFree es)
+      (λ t.
+      let s : Stored es (replaceFirst isFree new es) Free new =
+      rw (free-entry es) at (stored new isFree es t (g .once) (λ k p _. rw (eqb-true (c .number) k (sym (own k) ∙ p)) at l)) in
+      rw t (accepted (replaceFirst isFree new es) Free new s (ap standing (sym l)) (λ k. s .at k ∙ rw (own k)) now (judged l ∙ j ∙ rw t)))
+      (λ t. rw t (refused tableFull refl (judged l ∙ j ∙ rw t)))
+
+  -- an open number: its entry changes, or goes
+  changed : (new : Entry) (y : ℕ) → lookup es (c .number) ≡ Open y
+      → ((k : ℕ) (r : Entry) → cond (holds k new) new (cond (eqb (c .number) k) Free r) ≡ cond (eqb (c .number) k) new r)
+      → ((k : ℕ) → holds k new ≡ true → eqb (c .number) k ≡ true) → standing new ≡ statusAfter (some (c .kind)) → judge (c .kind) opened (any isFree es) ≡ served
+      → Alike (accept (replaceFirst (holds (c .number)) new es)) h c
+  changed new y l own only now j =
+      let full : isFree (lookup es (c .number)) ≡ false = ap isFree l in
+      let mine : y ≡ c .number = eqb-true y (c .number) (rw l at (entry-passes (holds (c .number)) es full)) in
+      let old : (k : ℕ) → holds k (lookup es (c .number)) ≡ eqb (c .number) k = λ k. ap (holds k) l ∙ ap (λ (x : ℕ). eqb x k) mine in
+      let there : any (holds (c .number)) es ≡ true = rw (any-holds es (c .number), full) in
+      let s = stored new (holds (c .number)) es there (g .once) (λ k p q. absurd (true≢false (sym (only k p) ∙ sym (old k) ∙ q))) in
+      accepted (replaceFirst (holds (c .number)) new es) (lookup es (c .number)) new s refl
+      (λ k. s .at k ∙ ap (λ (b : Bool). cond (holds k new) new (cond b Free (lookup es k))) (old k) ∙ own k (lookup es k)) now (judged l ∙ j)
+
+same-twice : {A : Type 0} (b : Bool) (x y z : A) → cond b x (cond b y z) ≡ cond b x z
+same-twice true x y z = refl
+same-twice false x y z = refl
+
+module _ (es : List Entry) (h : List Call) (g : Agrees es h) (n : ℕ) where
+  -- what the ledger refuses by the number's status
+  away : (k : Kind) {e : Entry} → lookup es n ≡ e → eqb (judge k (standing e) (any isFree es)) served ≡ false
+      → Alike (refuse es (judge k (standing e) (any isFree es))) h (on k n)
+  away k {e} l z = refused es h g (on k n) (judge k (standing e) (any isFree es)) z (judged es h g (on k n) l)
+
+  one-call : (k : Kind) (e : Entry) → lookup es n ≡ e → Alike (callAs k es n) h (on k n)
+  unfolding decide
+  one-call opening (Cancelled x) l = rw (g .once, l) (away opening l refl)
+  one-call opening (Open x) l = rw (g .once, l) (away opening l refl)
+  one-call opening Free l = rw (g .once, l) (added es h g (on opening n) (Open n) l (λ k. refl) refl refl)
+  one-call cancelling (Cancelled x) l = rw (g .once, l) (away cancelling l refl)
+  one-call cancelling (Open x) l = rw (g .once, l) (changed es h g (on cancelling n) (Cancelled n) x l (λ k r. same-twice (eqb n k) (Cancelled n) Free r) (λ k p. p) refl refl)
+  one-call cancelling Free l = rw (g .once, l) (added es h g (on cancelling n) (Cancelled n) l (λ k. refl) refl refl)
+  one-call finishing (Cancelled x) l = rw (g .once, l) (away finishing l refl)
+  one-call finishing (Open x) l = rw (g .once, l) (changed es h g (on finishing n) Free x l (λ k r. refl) (λ k p. absurd (false≢true p)) refl refl)
+  one-call finishing Free l = rw (g .once, l) (away finishing l refl)
+
+pub call-alike : (es : List Entry) (h : List Call) → Agrees es h → (c : Call) → Alike (callOut es c) h c
+call-alike es h g c = one-call es h g (c .number) (c .kind) (lookup es (c .number)) refl
+
+-- ---- Every list of calls
+
+pub simulation : Simulation
+unfolding answersFrom verdictsFrom tableFrom ledgerFrom
+simulation es h g [] = record { judged = refl; agrees = g }
+simulation es h g (c ∷ cs) =
+    let a = call-alike es h g c in
+    let r = simulation (callOut es c .table) (enter h c) (a .agrees) cs in
+    record { judged = ap₂ {C = List ℕ} _∷_ (a .answer) (r .judged); agrees = r .agrees }
+
+free-lookup : (m n : ℕ) → lookup (replicate m Free) n ≡ Free
+unfolding firstEntry
+free-lookup zero n = refl
+free-lookup (suc m) n = free-lookup m n
+
+pub empty-agrees : Agrees emptyTable []
+unfolding historyOf status held used twice
+empty-agrees = record { slots = refl; same = λ n. ap standing (free-lookup slotCount n); once = refl; count = refl }
+
+pub simulation-from-empty : SimulationFromEmpty
+simulation-from-empty calls = simulation emptyTable [] empty-agrees calls
+
+-- the ledger after a list holds the calls that it answers with 0
+pub accepted-by : (h calls : List Call) → acceptedBy calls (verdictsFrom h calls) h ≡ ledgerFrom h calls
+unfolding acceptedBy verdictsFrom ledgerFrom enter
+accepted-by h [] = refl
+accepted-by h (c ∷ cs) = accepted-by (cond (eqb (verdict h c) served) (c ∷ h) h) cs

@@ -1,0 +1,79 @@
+-- A list of calls in lent memory: the letters of their kinds, their numbers, and room for their answers. Assumes nothing.
+use mathlib.Core.Path.{_≡_}
+use mathlib.Core.Bool.{Bool, true, false, cond, _&&_}
+use mathlib.Core.List.{List, [], _∷_}
+use mathlib.Core.Option.{Option, none, some}
+use Prim.Native.Nat.{ℕ}
+use lib.Dec.{eqb}
+use lib.ListN.{length}
+use Rattle.refusals.specs.Refusals.{served, wrongLength, badRecord, must}
+use Rattle.combinatorics.specs.Lists.{all}
+use Rattle.jobs.specs.declared.Entry.{Entry}
+use Rattle.jobs.specs.declared.TableAnswer.{TableAnswer}
+use Rattle.jobs.specs.Jobs.{Kind, opening, cancelling, finishing, Call, on}
+use Rattle.jobs.specs.Table.{TableOut, refuse, callAs, emptyTable, answersFrom, tableFrom}
+use Rattle.jobs.specs.Slots.{entries}
+
+-- "O (open), C (cancel), F (finish)": 79, 67 and 70 as bytes
+unfoldable pub kindOf : ℕ → Option Kind
+kindOf letter =
+    cond (eqb letter 79) (some opening)
+    (cond (eqb letter 67) (some cancelling)
+    (cond (eqb letter 70) (some finishing)
+    none))
+
+-- a call by its letter; "unknown letter" is a record unreadable, 11, and comes before the call's own refusals
+abbrev pub callBy : Option Kind → List Entry → ℕ → TableOut
+callBy none es n = refuse es badRecord
+callBy (some k) es n = callAs k es n
+
+abbrev pub known : Option Kind → Bool
+known none = false
+known (some k) = true
+
+abbrev pub isLetter : ℕ → Bool
+isLetter letter = known (kindOf letter)
+
+abbrev pub callBefore : Option Kind → ℕ → List Call → List Call
+callBefore none n cs = cs
+callBefore (some k) n cs = on k n ∷ cs
+
+-- the calls that letters and numbers spell; a letter that is none of the three spells none
+unfoldable pub callsOf : List ℕ → List ℕ → List Call
+callsOf [] ns = []
+callsOf (k ∷ ks) [] = []
+callsOf (k ∷ ks) (n ∷ ns) = callBefore (kindOf k) n (callsOf ks ns)
+
+-- "3: a lent list .. has another length": the numbers and the answers are as many as the letters
+unfoldable pub lengthsFit : List ℕ → List ℕ → List ℕ → Bool
+lengthsFit letters numbers answers = eqb (length numbers) (length letters) && eqb (length answers) (length letters)
+
+-- the answer to the whole list, the table after it, and the lent answers
+pub record ReplayOut : Type 0 where
+  pub answer : ℕ
+  pub table : List Entry
+  pub answers : List ℕ
+
+abbrev pub replayed : TableAnswer → List ℕ → ReplayOut
+replayed r answers = record { answer = r .answer; table = entries (r .table); answers = answers }
+
+-- no call is made: "output buffers .. keep their contents"
+abbrev pub turnAway : List ℕ → ℕ → ReplayOut
+turnAway answers a = record { answer = a; table = emptyTable; answers = answers }
+
+-- the calls, one after the other from the empty table
+abbrev pub made : List Call → ReplayOut
+made calls = record { answer = served; table = tableFrom emptyTable calls; answers = answersFrom emptyTable calls }
+
+-- 3 for lists of other lengths, 11 for a letter that is none of the three; then the calls
+unfoldable pub replayOut : List ℕ → List ℕ → List ℕ → ReplayOut
+replayOut letters numbers answers =
+    must (lengthsFit letters numbers answers) (turnAway answers wrongLength)
+    (must (all isLetter letters) (turnAway answers badRecord)
+    (made (callsOf letters numbers)))
+
+-- what is known once nothing is refused
+pub record AreCalls (letters numbers answers : List ℕ) : Type 0 where
+  pub numbers-fit : length numbers ≡ length letters
+  pub answers-fit : length answers ≡ length letters
+  pub known-letters : all isLetter letters ≡ true

@@ -1,0 +1,36 @@
+-- 'Demand 3 in these terms', the part about the list of calls: the table answers as the ledger does, and stands for it. Assumes nothing.
+use mathlib.Core.Path.{_≡_}
+use mathlib.Core.Bool.{false}
+use mathlib.Core.List.{List, []}
+use Prim.Native.Nat.{ℕ}
+use lib.ListN.{length}
+use Rattle.jobs.specs.declared.Entry.{Entry}
+use Rattle.jobs.specs.Jobs.{slotCount, Call}
+use Rattle.jobs.specs.Table.{standing, lookup, used, twice, emptyTable, answersFrom, tableFrom}
+use Rattle.jobs.specs.Ledger.{status, held, verdictsFrom, ledgerFrom}
+
+-- The table holds exactly the numbers that the ledger has open or cancelled, each once, in that state.
+pub record Agrees (es : List Entry) (h : List Call) : Type 0 where
+  -- "It has 64 places"
+  pub slots : length es ≡ slotCount
+  -- what the table has of a number is what the accepted calls made of it
+  pub same : (n : ℕ) → standing (lookup es n) ≡ status h n
+  -- none is there twice
+  pub once : twice es ≡ false
+  -- and they are as many
+  pub count : used es ≡ held h
+
+-- What was seen of a list of calls, its answers and the table that the last one handed back, is what the ledger says.
+pub record Follows (h calls : List Call) (answers : List ℕ) (es : List Entry) : Type 0 where
+  -- "Each call answers as the ledger does, 0 for accepted."
+  pub judged : answers ≡ verdictsFrom h calls
+  -- the table stands for the ledger after the list: "A refused call leaves the ledger alone."
+  pub agrees : Agrees es (ledgerFrom h calls)
+
+-- from any table that stands for a ledger, and for every list
+abbrev pub Simulation : Type 0
+Simulation = (es : List Entry) (h : List Call) → Agrees es h → (calls : List Call) → Follows h calls (answersFrom es calls) (tableFrom es calls)
+
+-- "in a ledger that begins with every number unknown": from the empty table
+abbrev pub SimulationFromEmpty : Type 0
+SimulationFromEmpty = (calls : List Call) → Follows [] calls (answersFrom emptyTable calls) (tableFrom emptyTable calls)

@@ -1,0 +1,135 @@
+-- The job table, over the list of its entries, slot by slot. Assumes nothing.
+use mathlib.Core.Bool.{Bool, true, false, not, cond, _||_}
+use mathlib.Core.List.{List, [], _∷_}
+use Prim.Native.Nat.{ℕ, _+_}
+use lib.Dec.{eqb}
+use lib.ListN.{replicate}
+use Rattle.refusals.specs.Refusals.{served, invalid, jobCancelled, alreadyOpen, notOpen, tableFull, must}
+use Rattle.combinatorics.specs.Lists.{any}
+use Rattle.combinatorics.specs.Stretch.{bit}
+use Rattle.jobs.specs.declared.Entry.{Entry}
+use Rattle.jobs.specs.declared.Entry.the-variants.{Free, Open, Cancelled}
+use Rattle.jobs.specs.Jobs.{slotCount, Kind, opening, cancelling, finishing, Call, Status, unknown, opened, cancelled, isHeld}
+
+-- "The book holds at most 64 job numbers, each open or cancelled. It has 64 places": an entry stands for what its number is
+abbrev pub standing : Entry → Status
+standing Free = unknown
+standing (Open x) = opened
+standing (Cancelled x) = cancelled
+
+abbrev pub isFree : Entry → Bool
+isFree Free = true
+isFree (Open x) = false
+isFree (Cancelled x) = false
+
+abbrev pub holds : ℕ → Entry → Bool
+holds n Free = false
+holds n (Open x) = eqb x n
+holds n (Cancelled x) = eqb x n
+
+-- the first entry that passes the test, or a free one
+unfoldable pub firstEntry : (Entry → Bool) → List Entry → Entry
+firstEntry t [] = Free
+firstEntry t (e ∷ es) = cond (t e) e (firstEntry t es)
+
+-- the entry that holds the number
+abbrev pub lookup : List Entry → ℕ → Entry
+lookup es n = firstEntry (holds n) es
+
+-- how many numbers the table holds
+unfoldable pub used : List Entry → ℕ
+used [] = 0
+used (e ∷ es) = bit (isHeld (standing e)) + used es
+
+-- "the empty book"
+abbrev pub emptyTable : List Entry
+emptyTable = replicate slotCount Free
+
+-- ---- The outcome of a call
+
+-- "Each call on the book hands back the book that holds afterwards."
+pub record TableOut : Type 0 where
+  pub answer : ℕ
+  pub table : List Entry
+
+-- "Every refusal returns its number only; output buffers and book keep their contents."
+abbrev pub refuse : List Entry → ℕ → TableOut
+refuse es a = record { answer = a; table = es }
+
+abbrev pub accept : List Entry → TableOut
+accept es = record { answer = served; table = es }
+
+-- the first entry that passes the test becomes another
+unfoldable pub replaceFirst : (Entry → Bool) → Entry → List Entry → List Entry
+replaceFirst t x [] = []
+replaceFirst t x (e ∷ es) = cond (t e) (x ∷ es) (e ∷ replaceFirst t x es)
+
+-- the same where one passes; "15: 64 numbers held and a new one needed"
+unfoldable pub put : (Entry → Bool) → Entry → List Entry → TableOut
+put t x es = must (any t es) (refuse es tableFull) (accept (replaceFirst t x es))
+
+-- "a new number takes the first free one"
+abbrev pub add : Entry → List Entry → TableOut
+add x es = put isFree x es
+
+-- the number of an entry is held by one of the others too
+abbrev pub again : List Entry → Entry → Bool
+again es Free = false
+again es (Open x) = any (holds x) es
+again es (Cancelled x) = any (holds x) es
+
+-- "a book with one number twice"
+unfoldable pub twice : List Entry → Bool
+twice [] = false
+twice (e ∷ es) = again es e || twice es
+
+-- "open 1 12 13 15; cancel 1 12 15; finish 1 12 14": 1 comes first in every call, and then the number's entry decides
+unfoldable pub decide : (Entry → ℕ → List Entry → TableOut) → List Entry → ℕ → TableOut
+decide byEntry es n = must (not (twice es)) (refuse es invalid) (byEntry (lookup es n) n es)
+
+-- "Opening adds one."
+abbrev pub openAt : Entry → ℕ → List Entry → TableOut
+openAt (Cancelled x) n es = refuse es jobCancelled
+openAt (Open x) n es = refuse es alreadyOpen
+openAt Free n es = add (Open n) es
+
+-- "Cancelling turns open into cancelled, or adds an unknown number as cancelled; that entry stays."
+abbrev pub cancelAt : Entry → ℕ → List Entry → TableOut
+cancelAt (Cancelled x) n es = refuse es jobCancelled
+cancelAt (Open x) n es = accept (replaceFirst (holds n) (Cancelled n) es)
+cancelAt Free n es = add (Cancelled n) es
+
+-- "Finishing removes an open one and frees its place for use."
+abbrev pub finishAt : Entry → ℕ → List Entry → TableOut
+finishAt (Cancelled x) n es = refuse es jobCancelled
+finishAt (Open x) n es = accept (replaceFirst (holds n) Free es)
+finishAt Free n es = refuse es notOpen
+
+abbrev pub openOut : List Entry → ℕ → TableOut
+openOut es n = decide openAt es n
+
+abbrev pub cancelOut : List Entry → ℕ → TableOut
+cancelOut es n = decide cancelAt es n
+
+abbrev pub finishOut : List Entry → ℕ → TableOut
+finishOut es n = decide finishAt es n
+
+-- ---- A list of calls
+
+abbrev pub callAs : Kind → List Entry → ℕ → TableOut
+callAs opening es n = openOut es n
+callAs cancelling es n = cancelOut es n
+callAs finishing es n = finishOut es n
+
+abbrev pub callOut : List Entry → Call → TableOut
+callOut es c = callAs (c .kind) es (c .number)
+
+-- the answers of the calls, each given the table that the one before handed back
+unfoldable pub answersFrom : List Entry → List Call → List ℕ
+answersFrom es [] = []
+answersFrom es (c ∷ cs) = callOut es c .answer ∷ answersFrom (callOut es c .table) cs
+
+-- the table that the last one hands back
+unfoldable pub tableFrom : List Entry → List Call → List Entry
+tableFrom es [] = es
+tableFrom es (c ∷ cs) = tableFrom (callOut es c .table) cs

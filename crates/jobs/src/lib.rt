@@ -1,0 +1,285 @@
+// The job table, by value, and the replay of a list of calls on it. Assumes nothing.
+ghost use mathlib.Core.Path.{_≡_};
+ghost use mathlib.Core.List.{[]};
+ghost use Prim.Native.Nat.{_+_};
+ghost use lib.ListN.{drop};
+ghost use Rattle.refusals.specs.Refusals.{served};
+ghost use Rattle.combinatorics.specs.Lists.{all};
+ghost use Rattle.jobs.specs.Jobs.{slotCount};
+ghost use Rattle.jobs.specs.Table.{isFree, emptyTable, openOut, cancelOut, finishOut};
+ghost use Rattle.jobs.specs.Slots.{entries, outcome, seeks, firstThat};
+ghost use Rattle.jobs.specs.Replay.{kindOf, callBy, isLetter, callsOf, AreCalls, replayed, made, replayOut};
+ghost use Rattle.jobs.specs.Simulation.{Follows};
+use refusals::Refusal;
+
+// What a slot holds. Job numbers are all 32-bit numbers, 0 included.
+pub enum Entry {
+    Free,
+    Open(u32),
+    Cancelled(u32),
+}
+
+// A place of the table.
+pub struct Slot {
+    pub entry: Entry,
+}
+
+// The table of jobs, slot by slot. A new number takes the first free slot.
+pub struct JobTable {
+    pub slots: [Slot; JobTable::SLOTS],
+}
+
+// The answer to a call, 0 or a refusal, and the table that holds afterwards.
+pub struct TableAnswer {
+    pub answer: u8,
+    pub table: JobTable,
+}
+
+// What a search through the slots looks for.
+enum Sought {
+    FreeSlot,
+    Number(u32),
+}
+
+impl JobTable {
+    pub const SLOTS: usize = 64;
+
+    // The table that holds no number.
+    pub fn empty() -> Self
+        ensures table { λ r. ⌜ entries r ≡ emptyTable ⌝ }
+        ensures limit { λ r. do ⌜ (← ⟦JobTable::SLOTS⟧ .entry) ≡ slotCount ⌝ }
+    {
+        JobTable {
+            slots: [Slot { entry: Entry::Free }; JobTable::SLOTS],
+        }
+    }
+
+    // The number becomes open. Refusals: 1 12 13 15.
+    pub fn open(self, number: u32) -> TableAnswer
+        ensures { λ r. ⌜ outcome r ≡ openOut (entries self) number ⌝ }
+    {
+        if self.twice() {
+            return self.refuse(Refusal::INVALID);
+        }
+        let entry = self.lookup(number);
+        match entry {
+            Entry::Cancelled(_) => self.refuse(Refusal::CANCELLED),
+            Entry::Open(_) => self.refuse(Refusal::ALREADY_OPEN),
+            Entry::Free => self.put(Sought::FreeSlot, Entry::Open(number)),
+        }
+    }
+
+    // The number becomes cancelled, and its entry stays. Refusals: 1 12 15.
+    pub fn cancel(self, number: u32) -> TableAnswer
+        ensures { λ r. ⌜ outcome r ≡ cancelOut (entries self) number ⌝ }
+    {
+        if self.twice() {
+            return self.refuse(Refusal::INVALID);
+        }
+        let entry = self.lookup(number);
+        match entry {
+            Entry::Cancelled(_) => self.refuse(Refusal::CANCELLED),
+            Entry::Open(_) => self.put(Sought::Number(number), Entry::Cancelled(number)),
+            Entry::Free => self.put(Sought::FreeSlot, Entry::Cancelled(number)),
+        }
+    }
+
+    // The open number goes, and its slot is free. Refusals: 1 12 14.
+    pub fn finish(self, number: u32) -> TableAnswer
+        ensures { λ r. ⌜ outcome r ≡ finishOut (entries self) number ⌝ }
+    {
+        if self.twice() {
+            return self.refuse(Refusal::INVALID);
+        }
+        let entry = self.lookup(number);
+        match entry {
+            Entry::Cancelled(_) => self.refuse(Refusal::CANCELLED),
+            Entry::Open(_) => self.put(Sought::Number(number), Entry::Free),
+            Entry::Free => self.refuse(Refusal::NOT_OPEN),
+        }
+    }
+
+    // The call of a letter: O opens, C cancels, F finishes. Refusals: 11 for another letter, then the call's own.
+    pub fn call(self, letter: u8, number: u32) -> TableAnswer
+        ensures { λ r. ⌜ outcome r ≡ callBy (kindOf letter) (entries self) number ⌝ }
+    {
+        match letter {
+            b'O' => self.open(number),
+            b'C' => self.cancel(number),
+            b'F' => self.finish(number),
+            _ => self.refuse(Refusal::RECORD),
+        }
+    }
+
+    // The entry that holds the number, or a free one.
+    pub fn lookup(self, number: u32) -> Entry
+        ensures { λ r. ⌜ r ≡ Rattle.jobs.specs.Table.lookup (entries self) number ⌝ }
+    {
+        let i = self.find(0, Sought::Number(number));
+        if i < JobTable::SLOTS {
+            let slot = self.slots[i];
+            return slot.entry;
+        }
+        Entry::Free
+    }
+
+    // Whether one number is held twice, in whatever states.
+    pub fn twice(self) -> bool
+        ensures { λ r. ⌜ r ≡ Rattle.jobs.specs.Table.twice (entries self) ⌝ }
+    {
+        let mut i: usize = 0;
+        while i < JobTable::SLOTS {
+            let slot = self.slots[i];
+            let entry = slot.entry;
+            if self.again(i + 1, entry) {
+                return true;
+            }
+            i += 1;
+        }
+        false
+    }
+
+    // Whether a slot from `start` on holds the entry's number too.
+    fn again(self, start: usize, entry: Entry) -> bool
+        ensures { λ r. ⌜ r ≡ Rattle.jobs.specs.Table.again (drop start (entries self)) entry ⌝ }
+    {
+        match entry {
+            Entry::Free => false,
+            Entry::Open(x) | Entry::Cancelled(x) => {
+                self.find(start, Sought::Number(x)) < JobTable::SLOTS
+            }
+        }
+    }
+
+    // The table as it was, beside a refusal.
+    fn refuse(self, answer: u8) -> TableAnswer
+        ensures { λ r. ⌜ outcome r ≡ Rattle.jobs.specs.Table.refuse (entries self) answer ⌝ }
+    {
+        TableAnswer {
+            answer,
+            table: self,
+        }
+    }
+
+    // The first slot that is sought takes the entry. Refusal: 15 where there is none; a number that was looked up has its slot.
+    fn put(self, sought: Sought, entry: Entry) -> TableAnswer
+        ensures { λ r. ⌜ outcome r ≡ Rattle.jobs.specs.Table.put (seeks sought) entry (entries self) ⌝ }
+    {
+        let at = self.find(0, sought);
+        if at < JobTable::SLOTS {
+            let mut next = self;
+            next.slots[at] = Slot { entry };
+            return TableAnswer {
+                answer: Refusal::NONE,
+                table: next,
+            };
+        }
+        self.refuse(Refusal::FULL)
+    }
+
+    // The first slot from `start` on that is sought, or one past the last.
+    fn find(self, start: usize, sought: Sought) -> usize
+        ensures { λ r. ⌜ r ≡ start + firstThat (seeks sought) (drop start (entries self)) ⌝ }
+    {
+        let mut i = start;
+        while i < JobTable::SLOTS {
+            let slot = self.slots[i];
+            let entry = slot.entry;
+            if is_sought(entry, sought) {
+                return i;
+            }
+            i += 1;
+        }
+        i
+    }
+}
+
+fn is_sought(entry: Entry, sought: Sought) -> bool
+    ensures { λ r. ⌜ r ≡ seeks sought entry ⌝ }
+{
+    match sought {
+        Sought::FreeSlot => is_free(entry),
+        Sought::Number(number) => holds(entry, number),
+    }
+}
+
+fn is_free(entry: Entry) -> bool
+    ensures { λ r. ⌜ r ≡ isFree entry ⌝ }
+{
+    match entry {
+        Entry::Free => true,
+        Entry::Open(_) => false,
+        Entry::Cancelled(_) => false,
+    }
+}
+
+fn holds(entry: Entry, number: u32) -> bool
+    ensures { λ r. ⌜ r ≡ Rattle.jobs.specs.Table.holds number entry ⌝ }
+{
+    match entry {
+        Entry::Free => false,
+        Entry::Open(x) | Entry::Cancelled(x) => x == number,
+    }
+}
+
+// Makes the calls of lent letters and numbers, one after the other from the empty table; each answer goes to its place in `answers`.
+// Refusals of the whole list: 3 for lists of other lengths, 11 for a letter other than O, C, F. The table is then the empty one, and `answers` keeps what it held.
+pub fn replay(letters: &[u8], numbers: &[u32], answers: &mut [u8]) -> TableAnswer
+    ensures outcome { λ r. ⌜ replayed r (now (answers .exit)) ≡ replayOut (now (letters .entry)) (now (numbers .entry)) (now (answers .entry)) ⌝ }
+    ensures ledger { λ r. ⌜ (r .answer ≡ served → Follows [] (callsOf (now (letters .entry)) (now (numbers .entry))) (now (answers .exit)) (entries (r .table))) ⌝ }
+{
+    let table = JobTable::empty();
+    if numbers.len() != letters.len() {
+        return table.refuse(Refusal::LENGTH);
+    }
+    if answers.len() != letters.len() {
+        return table.refuse(Refusal::LENGTH);
+    }
+    if !all_letters(letters) {
+        return table.refuse(Refusal::RECORD);
+    }
+    make_calls(letters, numbers, answers)
+}
+
+fn all_letters(letters: &[u8]) -> bool
+    ensures { λ r. ⌜ r ≡ all isLetter (now (letters .entry)) ⌝ }
+{
+    let mut i: usize = 0;
+    while i < letters.len() {
+        if !is_letter(letters[i]) {
+            return false;
+        }
+        i += 1;
+    }
+    true
+}
+
+fn is_letter(letter: u8) -> bool
+    ensures { λ r. ⌜ r ≡ isLetter letter ⌝ }
+{
+    match letter {
+        b'O' => true,
+        b'C' => true,
+        b'F' => true,
+        _ => false,
+    }
+}
+
+// All tests are done: the calls are made, and `answers` is filled.
+fn make_calls(letters: &[u8], numbers: &[u32], answers: &mut [u8]) -> TableAnswer
+    requires { ⌜ AreCalls (now letters) (now numbers) (now answers) ⌝ }
+    ensures { λ r. ⌜ replayed r (now (answers .exit)) ≡ made (callsOf (now (letters .entry)) (now (numbers .entry))) ⌝ }
+{
+    let mut table = JobTable::empty();
+    let mut i: usize = 0;
+    while i < letters.len() {
+        let out = table.call(letters[i], numbers[i]);
+        answers[i] = out.answer;
+        table = out.table;
+        i += 1;
+    }
+    TableAnswer {
+        answer: Refusal::NONE,
+        table,
+    }
+}
