@@ -1,12 +1,13 @@
 -- Laws of cutting: pieces follow one another, no two lengths differ by more than one, and shorter ones come first; blocks of parts likewise; and
 -- which blocks' first positions a burst can touch. Assumes nothing.
 use mathlib.Core.Path.{_≡_, refl, sym, ap, ap₂, _∙_}
+use mathlib.Core.Logic.{_≢_}
 use mathlib.Core.Bool.{Bool, true, false}
 use Prim.Native.Nat.{ℕ, zero, suc, _+_, _-_, _*_, _/_, _%_, _≤_, _<_}
-use native.Mathlib.Nat.{div-add-mod, div-add-mod', mod-lt, le-div-iff-mul-le, div-mul-le-self, div-div-eq-div-mul, le-trans}
+use native.Mathlib.Nat.{add-mul, mul-add, div-lt-iff-lt-mul, lt-div-mul-add, div-add-mod, div-add-mod', mod-lt, le-div-iff-mul-le, div-mul-le-self, div-div-eq-div-mul, div-le-of-le-mul, le-trans, mul-comm, mul-le-mul-right}
 use native.Mathlib.Decide.{le-ind}
 use native.Mathlib.Omega.{arith}
-use lib.Arith.{digits-div, digits-mod}
+use lib.Arith.{digits-lt, digits-div, digits-mod}
 use lib.Dec.{leb}
 use Rattle.combinatorics.specs.Stretch.{sum, bit, top}
 use Rattle.combinatorics.proofs.Cases.{by-le}
@@ -36,6 +37,10 @@ piece-is t c (suc i) =
 pub piece-all : (t c : ℕ) → 0 < c → pieceStart t c c ≡ t
 piece-all t c h = piece-is t c c ∙ omega (arith, div-add-mod t c, mod-lt t h)
 
+-- and none starts past the end
+pub piece-most : (t c i : ℕ) → 0 < c → i ≤ c → pieceStart t c i ≤ t
+piece-most t c i h l = rw (piece-is t c i) (omega (arith, mul-le-mul-right (t / c) l, div-add-mod t c, mod-lt t h))
+
 -- "shorter ones first", "lengths differ by at most one"
 pub len-grows : (t c i : ℕ) → pieceLen t c i ≤ pieceLen t c (suc i)
 unfolding pieceLen
@@ -50,6 +55,45 @@ len-least t c i = omega arith
 pub len-most : (t c i : ℕ) → pieceLen t c i ≤ t / c + 1
 unfolding pieceLen
 len-most t c i = by-le (c - t % c) i (λ a. t / c + bit a ≤ t / c + 1) (λ _. omega arith) (λ _. omega arith)
+
+-- ---- The piece that has a position
+
+pub record InPiece (t c x r : ℕ) : Type 0 where
+  pub below : r < c
+  pub reach : pieceStart t c r ≤ x
+  pub past : x < pieceStart t c (suc r)
+
+module _ (t c x : ℕ) (some : 0 < c) where
+  -- among the shorter pieces
+  pub piece-short : 0 < t / c → x < (c - t % c) * (t / c) → InPiece t c x (x / (t / c))
+  piece-short h l =
+      let r = x / (t / c) in
+      let g : r < c - t % c = div-lt-iff-lt-mul h .1 l in
+      record {
+        below = omega arith;
+        reach = omega (arith, piece-is t c r, div-mul-le-self x (t / c));
+        past = omega (arith, piece-is t c (suc r), lt-div-mul-add {a = x} h);
+      }
+
+  -- among the longer ones
+  pub piece-long : (c - t % c) * (t / c) ≤ x → x < t → InPiece t c x (c - t % c + (x - (c - t % c) * (t / c)) / (t / c + 1))
+  piece-long l h =
+      let each = t / c in
+      let few = c - t % c in
+      let y = x - few * each in
+      let e = y / (each + 1) in
+      let u : c ≡ few + t % c = omega (arith, mod-lt t some) in
+      let whole : t ≡ few * each + t % c * each + t % c = omega (arith, div-add-mod t c, ap (λ (z : ℕ). z * each) u, add-mul few (t % c) each) in
+      let z : 0 < each + 1 = omega arith in
+      let v : y < t % c * (each + 1) = omega (arith, mul-add (t % c) each 1) in
+      let g : e < t % c = div-lt-iff-lt-mul z .1 v in
+      let s : (few + e) * each ≡ few * each + e * each = add-mul few e each in
+      let d : e * (each + 1) ≡ e * each + e = omega (arith, mul-add e each 1) in
+      record {
+        below = omega arith;
+        reach = omega (arith, piece-is t c (few + e), div-mul-le-self y (each + 1));
+        past = omega (arith, piece-is t c (suc (few + e)), lt-div-mul-add {a = y} z);
+      }
 
 -- ---- Blocks
 
@@ -92,10 +136,37 @@ pub block-rises : (n p m : ℕ) → 0 < m → (a b : ℕ) → a ≤ b → blockH
 block-rises n p m h a b l =
     le-ind (λ (k : ℕ). blockHead n p m a ≤ blockHead n p m k) (omega arith) (λ k _ g. omega (arith, block-next n p m k h)) b l
 
+-- none starts past the end
+pub block-most : (n p m k : ℕ) → 0 < p → 0 < m → k ≤ p * m → blockHead n p m k ≤ n
+block-most n p m k g h l = omega (arith, block-rises n p m h k (p * m) l, block-end n p m g h)
+
+-- a part's first block starts with the part
+pub part-head : (n p m k : ℕ) → k % m ≡ 0 → blockHead n p m k ≡ pieceStart n p (k / m)
+unfolding blockHead blockAt
+part-head n p m k e = rw e (omega (arith, piece-zero (pieceLen n p (k / m)) m))
+
+-- the part that a block lies in
+pub part-most : (p m k : ℕ) → 0 < m → k ≤ p * m → k / m ≤ p
+part-most p m k h l = div-le-of-le-mul m (omega (arith, mul-comm m p))
+
+pub part-below : (p m k : ℕ) → k % m ≢ 0 → k ≤ p * m → k / m < p
+part-below p m k e l =
+    by-le p (k / m) (λ _. k / m < p) (λ g. absurd (omega (arith, mul-le-mul-right m g, div-add-mod' k m))) (λ g. g)
+
 -- the block that has position x
 pub block-with : (n p m x : ℕ) → 0 < p → 0 < m → x < n → IsTop (blockHead n p m) (p * m) x (blockWith n p m x)
 unfolding blockWith
 block-with n p m x g h l = top-is (blockHead n p m) (p * m) x (omega (arith, block-first n p m h)) (omega (arith, block-end n p m g h))
+
+pub block-in : (n p m x i j : ℕ) → 0 < p → 0 < m → x < n → InPiece n p x i → InPiece (pieceLen n p i) m (x - pieceStart n p i) j → blockWith n p m x ≡ i * m + j
+unfolding blockAt
+block-in n p m x i j hp hm l a b =
+    top-only (blockHead n p m) (block-rises n p m hm) (block-with n p m x hp hm l)
+    record {
+      below = digits-lt (a .below) (b .below);
+      reach = rw (block-place n p m i j (i * m + j) refl (b .below)) (omega (arith, a .reach, b .reach));
+      past = rw (block-suc n p m (i * m + j) hm, digits-div i (b .below), digits-mod i (b .below)) (omega (arith, a .reach, b .past));
+    }
 
 -- a burst of b positions from s on, which ends in block e, touches the first r + 1 positions of no other block
 pub burst-touches : (n p m r b s e k x : ℕ) → 0 < m → r < n / (p * m) → b ≤ n / (p * m) - r

@@ -3,7 +3,7 @@ use mathlib.Core.Path.{_≡_, refl, sym, ap, ap₂, _∙_}
 use mathlib.Core.Logic.{_≢_}
 use mathlib.Core.List.{List, [], _∷_, _++_, tail, flatMap}
 use Prim.Native.Nat.{ℕ, zero, suc, _+_, _-_, _*_, _/_, _%_, _^_, _≤_, _<_}
-use native.Mathlib.Nat.{div-lt-iff-lt-mul, mod-lt, div-add-mod', pow-zero, pow-succ', mul-assoc, mul-comm, mul-pos, add-sub-cancel-left, mod-eq-of-lt, div-one, div-div-eq-div-mul, le-mul-of-pos-right}
+use native.Mathlib.Nat.{div-lt-iff-lt-mul, mod-lt, div-add-mod', pow-zero, pow-suc, pow-succ', mul-assoc, mul-mul-mul-comm, mul-comm, mul-pos, add-sub-cancel-left, mod-eq-of-lt, div-one, div-div-eq-div-mul, le-mul-of-pos-right}
 use native.Mathlib.Omega.{arith}
 use lib.Arith.{digits-lt, digits-div, digits-mod, mod-mul}
 use lib.ListN.{length, getD, replicate, length-append, length-replicate}
@@ -66,6 +66,21 @@ unfolding span places
 span-places q zero r = sym (pow-zero ((q - 1) * q ^ r))
 span-places q (suc m) r =
     rw (span-group q r (places m r), span-places q m r, pow-succ' ((q - 1) * q ^ r) m) (sym (mul-assoc (q - 1) (q ^ r) (((q - 1) * q ^ r) ^ m)))
+
+-- with no plain places, and with one more of them in each block
+pub span-first : (q m : ℕ) → span q (places m 0) ≡ (q - 1) ^ m
+span-first q m =
+    let e : (q - 1) * q ^ 0 ≡ q - 1 = rw (pow-zero q) (omega arith) in
+    rw (span-places q m 0, e)
+
+mul-pow : (a b m : ℕ) → (a * b) ^ m ≡ a ^ m * b ^ m
+mul-pow a b zero = rw (pow-zero (a * b), pow-zero a, pow-zero b)
+mul-pow a b (suc m) =
+    rw (pow-suc (a * b) m, mul-pow a b m, pow-suc a m, pow-suc b m) (mul-mul-mul-comm (a ^ m) (b ^ m) a b)
+
+pub span-longer : (q m r : ℕ) → span q (places m (suc r)) ≡ span q (places m r) * q ^ m
+span-longer q m r =
+    rw (span-places q m (suc r), span-places q m r, pow-suc q r, ← mul-assoc (q - 1) (q ^ r) q) (mul-pow ((q - 1) * q ^ r) q m)
 
 -- ---- As a loop goes: from the left by Horner's rule, from the right by quotient and remainder
 

@@ -2,5 +2,6 @@ pub mod Cut
 pub mod Cells
 pub mod Digits
 pub mod Codec
+pub mod Bytes
 mod Examples
 pub mod Walk

@@ -2,3 +2,4 @@ pub mod Cut
 pub mod Cells
 pub mod Digits
 pub mod Codec
+pub mod Bytes

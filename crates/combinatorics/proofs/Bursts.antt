@@ -6,12 +6,12 @@ use Prim.Native.Nat.{ℕ, zero, suc, _+_, _-_, _*_, _≤_, _<_}
 use native.Mathlib.Nat.{add-sub-cancel}
 use native.Mathlib.Omega.{arith}
 use lib.Dec.{leb, ltb}
-use lib.ListN.{length}
+use lib.ListN.{length, getD}
 use Rattle.combinatorics.specs.Rank.{rankFrom, unrank}
 use Rattle.combinatorics.specs.Stretch.{sum, bit, count}
 use Rattle.combinatorics.specs.Bursts.{apart, inBurst, contracted, placements, reduceFrom, expandFrom, rankOf, startsOf}
 use Rattle.combinatorics.proofs.Cases.{by-le, by-bool, leb-holds, leb-fails}
-use Rattle.combinatorics.proofs.Stretch.{sum-append, count-none, count-all, count-ext}
+use Rattle.combinatorics.proofs.Stretch.{at-or-past, sum-append, count-none, count-all, count-ext}
 use Rattle.combinatorics.proofs.Rank.{Rising, rank-below, rank-of-unrank, unrank-of-rank}
 
 -- ---- Placements as facts
@@ -157,3 +157,40 @@ burst-count b n lo (s ∷ ss) c (a, h) e =
     count-ext d (s + b) w (inBurst b ss) (λ x u v. rw (leb-holds s x (omega arith), leb-fails (suc x) (s + b) (omega arith)))
     ∙ burst-count b n (s + b) ss d h (omega arith) in
     rw z (omega (arith, rw y at (sum-append (s - lo) (b + d) lo f), sum-append b d s f, before, inside, behind))
+
+-- ---- Bursts by their number
+
+-- the next burst starts behind this one's end
+pub placed-step : (b n lo j : ℕ) (ss : List ℕ) → Placed b n lo ss → suc j < length ss → getD ss j 0 + b ≤ getD ss (suc j) 0
+placed-step b n lo j [] h l = absurd (omega arith)
+placed-step b n lo j (s ∷ []) h l = absurd (omega arith)
+placed-step b n lo zero (s ∷ t ∷ ss) h l = h .1 .0
+placed-step b n lo (suc j) (s ∷ t ∷ ss) h l = placed-step b n (s + b) j (t ∷ ss) (h .1) (omega arith)
+
+-- so starts rise
+pub placed-grows : (b n lo i j : ℕ) (ss : List ℕ) → Placed b n lo ss → i ≤ j → j < length ss → getD ss i 0 ≤ getD ss j 0
+placed-grows b n lo i zero ss h k l =
+    let e : i ≡ 0 = omega arith in
+    rw e (omega arith)
+placed-grows b n lo i (suc j) ss h k l =
+    at-or-past i (suc j) k (λ e. rw e (omega arith)) (λ g. omega (arith, placed-grows b n lo i j ss h (omega arith) (omega arith), placed-step b n lo j ss h l))
+
+-- each lies within the word
+pub placed-at : (b n lo j : ℕ) (ss : List ℕ) → Placed b n lo ss → j < length ss → getD ss j 0 + b ≤ n
+placed-at b n lo j [] h l = absurd (omega arith)
+placed-at b n lo zero (s ∷ ss) h l = placed-end b n (s + b) ss (h .1)
+placed-at b n lo (suc j) (s ∷ ss) h l = placed-at b n (s + b) j ss (h .1) (omega arith)
+
+-- a position in the burst of a number, and one in none
+pub burst-at : (b x j : ℕ) (ss : List ℕ) → j < length ss → getD ss j 0 ≤ x → x < getD ss j 0 + b → inBurst b ss x ≡ true
+burst-at b x j [] l h k = absurd (omega arith)
+burst-at b x zero (s ∷ ss) l h k = burst-here b s x ss h k
+burst-at b x (suc j) (s ∷ ss) l h k = burst-there b s x ss (burst-at b x j ss (omega arith) h k)
+
+pub burst-free : (b x : ℕ) (ss : List ℕ) → ((j : ℕ) → j < length ss → (getD ss j 0 ≤ x) → x < getD ss j 0 + b → ⊥) → inBurst b ss x ≡ false
+unfolding inBurst
+burst-free b x ss h = by-bool (inBurst b ss x) (λ t. absurd (some ss h t)) (λ t. t)
+  where
+    some : (ss : List ℕ) → ((j : ℕ) → j < length ss → getD ss j 0 ≤ x → x < getD ss j 0 + b → ⊥) → inBurst b ss x ≡ true → ⊥
+    some [] h t = absurd (false≢true t)
+    some (s ∷ ss) h t = by-burst b s x ss t (λ u v. h 0 (omega arith) u v) (λ r. some ss (λ j l. h (suc j) (omega arith)) r)

@@ -58,3 +58,8 @@ pub choose-beyond : (n k : ℕ) → n ≤ k → choose n (k + 1) ≡ 0
 choose-beyond n k h =
     let e : n - k ≡ 0 = omega arith in
     sym (choose-next n k) ∙ (rw (e, mul-zero) (zero-div (k + 1)))
+
+-- out of nothing
+pub choose-of-none : (k : ℕ) → 0 < k → choose 0 k ≡ 0
+choose-of-none zero h = absurd (omega arith)
+choose-of-none (suc k) h = choose-none k

@@ -40,12 +40,12 @@ Below [] (t ∷ ts) = ⊥
 Below (s ∷ ss) [] = ⊥
 Below (s ∷ ss) (t ∷ ts) = (s ≤ t) × Below ss ts
 
-last-le : (worn : ℕ → Bool) (n : ℕ) → lastEnd worn n ≤ n
+pub last-le : (worn : ℕ → Bool) (n : ℕ) → lastEnd worn n ≤ n
 unfolding lastEnd
 last-le worn zero = omega arith
 last-le worn (suc n) = by-bool (worn n) (λ t. rw t (omega arith)) (λ t. rw t (omega (arith, last-le worn n)))
 
-last-all : (worn : ℕ → Bool) (n x : ℕ) → x < n → worn x ≡ true → x < lastEnd worn n
+pub last-all : (worn : ℕ → Bool) (n x : ℕ) → x < n → worn x ≡ true → x < lastEnd worn n
 unfolding lastEnd
 last-all worn zero x h t = absurd (omega arith)
 last-all worn (suc n) x h t =
@@ -53,7 +53,7 @@ last-all worn (suc n) x h t =
     (λ u. rw u (at-or-past x n (omega arith) (λ e. absurd (true≢false (sym t ∙ (rw e u)))) (λ l. last-all worn n x l t)))
 
 -- the last worn position itself
-last-is : (worn : ℕ → Bool) (n : ℕ) → 0 < lastEnd worn n → worn (lastEnd worn n - 1) ≡ true
+pub last-is : (worn : ℕ → Bool) (n : ℕ) → 0 < lastEnd worn n → worn (lastEnd worn n - 1) ≡ true
 unfolding lastEnd
 last-is worn zero h = absurd (omega arith)
 last-is worn (suc n) h =
@@ -147,7 +147,7 @@ unfolding rankRight rankFrom reduceFrom
 turn-rank d [] acc = omega arith
 turn-rank d (s ∷ ss) acc = omega (arith, turn-rank d ss (s ∷ acc))
 
-turned-burst : (b x : ℕ) (ts : List ℕ) → inBurst b (reverse ts) x ≡ inBurst b ts x
+pub turned-burst : (b x : ℕ) (ts : List ℕ) → inBurst b (reverse ts) x ≡ inBurst b ts x
 unfolding inBurst
 turned-burst b x ts = turn-burst b x ts [] ∙ or-false (inBurst b ts x)
 

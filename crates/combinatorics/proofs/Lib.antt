@@ -5,4 +5,6 @@ pub mod Choose
 pub mod Rank
 pub mod Bursts
 pub mod Cover
+pub mod Loops
+pub mod Scan
 mod Examples

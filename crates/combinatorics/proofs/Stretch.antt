@@ -148,6 +148,18 @@ first-is zero k i w l h o t = absurd (omega arith)
 first-is (suc n) k i w l h o t =
     at-or-past k i l (λ e. rw (e, t)) (λ m. rw (o k (omega arith) m) (first-is n (suc k) i w m (omega arith) (λ x a b. o x (omega arith) b) t))
 
+pub first-within : (n k : ℕ) (w : ℕ → Bool) → first n k w ≤ k + n
+unfolding first
+first-within zero k w = omega arith
+first-within (suc n) k w = by-bool (w k) (λ t. rw t (omega arith)) (λ e. rw e (omega (arith, first-within n (suc k) w)))
+
+-- and a search that has come to the end
+pub first-none : (n k : ℕ) (w : ℕ → Bool) → ((x : ℕ) → k ≤ x → x < k + n → w x ≡ false) → first n k w ≡ k + n
+unfolding first
+first-none zero k w o = omega arith
+first-none (suc n) k w o =
+    rw (o k (omega arith) (omega arith)) (first-none n (suc k) w (λ x a b. o x (omega arith) (omega arith)) ∙ omega arith)
+
 pub members-none : (n k : ℕ) (w : ℕ → Bool) → ((x : ℕ) → k ≤ x → x < k + n → w x ≡ false) → members n k w ≡ []
 unfolding members
 members-none zero k w p = refl

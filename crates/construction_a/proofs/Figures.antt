@@ -2,13 +2,14 @@
 use mathlib.Core.Path.{_≡_, refl, sym, ap, _∙_}
 use mathlib.Core.Bool.{Bool, true, false, cond, _&&_, true≢false, false≢true}
 use mathlib.Core.List.{List}
-use Prim.Native.Nat.{ℕ, suc, _+_, _-_, _*_, _/_, _^_, _≤_, _<_}
+use Prim.Native.Nat.{ℕ, zero, suc, _+_, _-_, _*_, _/_, _^_, _≤_, _<_}
+use native.Mathlib.Nat.{mul-comm, mul-assoc, mul-le-mul-left, div-mul-le-self}
 use native.Mathlib.Omega.{arith}
 use lib.Dec.{leb, ltb, eqb}
 use lib.ListN.{length}
 use Rattle.combinatorics.specs.Bursts.{apart}
 use Rattle.combinatorics.specs.Stretch.{first}
-use Rattle.combinatorics.proofs.Cases.{by-le, leb-holds, eqb-same, eqb-true}
+use Rattle.combinatorics.proofs.Cases.{by-le, by-bool, leb-holds, eqb-same, eqb-true}
 use Rattle.combinatorics.proofs.Bursts.{Placed, placed-of, of-placed}
 use Rattle.combinatorics.proofs.Lists.{both}
 use Rattle.combinatorics.proofs.Stretch.{first-true, first-false}
@@ -64,6 +65,23 @@ ranged f = go (leb 3 (f .n)) (leb (f .n) maxWord) (leb 2 (f .q)) (leb (f .q) max
           b-least = fh (x₁ .1);
         }
 
+-- the facts as the test again, and a figure out of range
+pub in-range : (f : Params) → Ranged f → inRange f ≡ true
+unfolding inRange
+in-range f r =
+    rw (
+      leb-holds 3 (f .n) (r .n-least),
+      leb-holds (f .n) maxWord (r .n-most),
+      leb-holds 2 (f .q) (r .q-least),
+      leb-holds (f .q) maxAlphabet (r .q-most),
+      leb-holds 1 (f .m) (r .m-least),
+      leb-holds (f .m) maxBursts (r .m-most),
+      leb-holds 1 (f .b) (r .b-least),
+    )
+
+pub out-of-range : (f : Params) → ¬ Ranged f → inRange f ≡ false
+out-of-range f h = by-bool (inRange f) (λ t. absurd (h (ranged f t))) (λ e. e)
+
 pub three-parts : (f : Params) → 3 ≤ parts f
 unfolding parts
 three-parts f = by-le (f .m) 2 (λ t. 3 ≤ cond t 3 (f .m)) (λ _. omega arith) (λ h. omega arith)
@@ -71,6 +89,10 @@ three-parts f = by-le (f .m) 2 (λ t. 3 ≤ cond t 3 (f .m)) (λ _. omega arith)
 pub parts-most : (f : Params) → f .m ≤ parts f
 unfolding parts
 parts-most f = by-le (f .m) 2 (λ t. f .m ≤ cond t 3 (f .m)) (λ h. omega arith) (λ h. omega arith)
+
+pub parts-few : (f : Params) → Ranged f → parts f ≤ maxBursts
+unfolding parts
+parts-few f r = by-le (f .m) 2 (λ t. cond t 3 (f .m) ≤ maxBursts) (λ _. omega arith) (λ _. omega (arith, r .m-most))
 
 pub serve : (f : Params) → inRange f ≡ true → fits f ≡ true → Served f
 unfolding fits blockMin
@@ -88,6 +110,31 @@ serve f i h =
       room = le-of (suc (indexTail f)) (blockMin f) (y .1);
       short = le-of (f .b) (blockMin f - indexTail f) (x .1);
     }
+
+-- the facts as the test again, and figures that don't fit
+pub fitting : (f : Params) → f .m * f .b ≤ f .n → indexTail f < blockMin f → f .b ≤ blockMin f - indexTail f → fits f ≡ true
+unfolding fits
+fitting f total room short =
+    rw (leb-holds (f .m * f .b) (f .n) total, leb-holds (suc (indexTail f)) (blockMin f) room, leb-holds (f .b) (blockMin f - indexTail f) short)
+
+pub unfitting : (f : Params) → inRange f ≡ true → ¬ Served f → fits f ≡ false
+unfitting f i h = by-bool (fits f) (λ t. absurd (h (serve f i t))) (λ e. e)
+
+-- ---- "k is n less m × (b + p + r − 1)"
+
+sum-le-product : (a b : ℕ) → 0 < a → 0 < b → a + b - 1 ≤ a * b
+sum-le-product (suc a) (suc b) g h = omega arith
+sum-le-product zero b g h = absurd (omega arith)
+sum-le-product (suc a) zero g h = absurd (omega arith)
+
+-- nothing is taken from n that n does not have
+pub message-room : (f : Params) → Served f → f .m * (f .b + parts f + indexTail f - 1) ≤ f .n
+message-room f ok =
+    let p = parts f in
+    let L = f .n / (p * f .m) in
+    let fill : f .b + p + indexTail f - 1 ≤ p * L = omega (arith, sum-le-product p L (omega (arith, ok .three)) (omega (arith, ok .room)), ok .short, ok .room) in
+    let e : f .m * (p * L) ≡ L * (p * f .m) = mul-comm (f .m) (p * L) ∙ ap (λ (y : ℕ). y * f .m) (mul-comm p L) ∙ mul-assoc L p (f .m) in
+    omega (arith, mul-le-mul-left (f .m) fill, e, div-mul-le-self (f .n) (p * f .m))
 
 -- ---- "r is the least whole number for which m such I-blocks together spell at least T values"
 

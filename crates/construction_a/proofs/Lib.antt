@@ -1,4 +1,5 @@
 pub mod Figures
+pub mod Outcomes
 pub mod Ranking
 pub mod Rule
 pub mod Pattern

@@ -1,0 +1,63 @@
+-- What a caller learns of a layout that was answered, and that it may ask for each block's first position. Assumes nothing.
+use mathlib.Core.Path.{_≡_, sym, ap, _∙_, subst}
+use Prim.Native.Nat.{ℕ, _*_, _≤_, _<_}
+use native.Mathlib.Nat.{mul-le-mul}
+use native.Mathlib.Omega.{arith}
+use Rattle.cells.specs.Cut.{blockHead}
+use Rattle.construction_a.specs.Figures.{Params, maxWord, maxAlphabet, maxBursts, blockMin, headOf}
+use Rattle.construction_a.specs.Outcomes.{unserved, figuresOut}
+use Rattle.construction_a.proofs.Figures.{Served, parts-few}
+use Rattle.construction_a.proofs.Outcomes.{figured-served}
+use Rattle.params.specs.declared.Layout.{Layout}
+use Rattle.params.specs.declared.Figures.{Figures}
+use Rattle.params.specs.declared.Figures.the-variants.{Fit, Refused}
+use Rattle.params.specs.Answer.{figuredAs, LaidOut, LaidIn}
+use Rattle.params.specs.Blocks.{HasHead}
+
+-- of an answer that was taken apart: a layout's figures can be served, and it is theirs
+pub fit-learnt : (f : Params) (r : Figures) (l : Layout) → r ≡ Fit l → figuredAs r ≡ figuresOut f → LaidIn f r → Served f × LaidOut f l
+fit-learnt f r l e answer layout =
+    (figured-served f (l .«placement_count») (l .«index_tail») (l .«message_len») (sym answer ∙ ap figuredAs e), subst (LaidIn f) e layout)
+
+-- and a refusal is that of the figures alone
+pub refused-learnt : (f : Params) (r : Figures) (a : ℕ) → r ≡ Refused a → figuredAs r ≡ figuresOut f → figuresOut f ≡ unserved a
+refused-learnt f r a e answer = sym answer ∙ ap figuredAs e
+
+-- the layout's numbers, as facts that arithmetic can use
+pub record Bounds (l : Layout) : Type 0 where
+  pub n-most : l .n ≤ maxWord
+  pub q-least : 2 ≤ l .q
+  pub q-most : l .q ≤ maxAlphabet
+  pub m-least : 1 ≤ l .m
+  pub m-most : l .m ≤ maxBursts
+  pub b-least : 1 ≤ l .b
+  pub parts-least : 3 ≤ l .parts
+  pub parts-most : l .parts ≤ maxBursts
+  pub blocks-most : l .parts * l .m ≤ maxBursts * maxBursts
+  pub tail-room : l .«index_tail» < l .«block_min»
+
+pub bounds : (f : Params) (l : Layout) → Served f → LaidOut f l → Bounds l
+unfolding blockMin
+bounds f l ok is =
+    let r = ok .range in
+    let p : l .parts ≤ maxBursts = omega (arith, parts-few f r) in
+    let m : l .m ≤ maxBursts = omega arith in
+    record {
+      n-most = omega arith;
+      q-least = omega arith;
+      q-most = omega arith;
+      m-least = omega arith;
+      m-most = m;
+      b-least = omega arith;
+      parts-least = omega arith;
+      parts-most = p;
+      blocks-most = mul-le-mul {n₂ = maxBursts} {m₂ = maxBursts} p m;
+      tail-room = omega arith;
+    }
+
+pub has-head : (l : Layout) (k : ℕ) → Bounds l → k ≤ l .parts * l .m → HasHead l k
+has-head l k h w = record { some-parts = omega arith; some-blocks = omega arith; within = w }
+
+-- the first position of a block, by the figures
+pub head-is : (f : Params) (l : Layout) (k : ℕ) → LaidOut f l → blockHead (l .n) (l .parts) (l .m) k ≡ headOf f k
+head-is f l k is = rw (is .n-is, is .parts-is, is .m-is)

@@ -1,0 +1,4 @@
+pub mod Bridge
+pub mod Answer
+pub mod Tail
+pub mod Blocks

@@ -1,0 +1,184 @@
+// The parameters of a code word (document 01's figures), and "figures alone": the layout that they give, or the refusal. Assumes nothing.
+ghost use mathlib.Core.Path.{_≡_};
+ghost use mathlib.Core.Bool.{true};
+ghost use mathlib.Core.List.{[], _∷_};
+ghost use Prim.Native.Nat.{_*_, _≤_};
+ghost use Rattle.construction_a.specs.Figures.{inRange, maxWord, maxAlphabet, maxBursts, parts as partsOf};
+ghost use Rattle.construction_a.specs.Outcomes.{figuresOut};
+ghost use Rattle.cells.specs.Cut.{blockHead, blockWith};
+ghost use Rattle.params.specs.Bridge.{params, given};
+ghost use Rattle.params.specs.Answer.{figuredAs, LaidIn};
+ghost use Rattle.params.specs.Blocks.{HasHead, HasPosition};
+use refusals::Refusal;
+
+pub mod bytes;
+pub mod cut;
+mod tail;
+
+// The figures as a caller passes them: any numbers.
+pub struct Params {
+    pub n: u32,
+    pub q: u32,
+    pub m: u32,
+    pub b: u32,
+}
+
+// The figures of a word that can be laid out, and document 01's p, L, T, r and k, in this order, which follow from them.
+// Positions and lengths are usize, values u64.
+pub struct Layout {
+    pub n: usize,
+    pub q: u64,
+    pub m: usize,
+    pub b: usize,
+    pub parts: usize,
+    pub block_min: usize,
+    pub placement_count: u64,
+    pub index_tail: usize,
+    pub message_len: usize,
+}
+
+// What "figures alone" answers.
+pub enum Figures {
+    Fit(Layout),
+    Refused(u8),
+}
+
+impl Params {
+    pub const MIN_WORD: u32 = 3;
+
+    pub const MAX_WORD: u32 = 1024;
+
+    pub const MIN_ALPHABET: u32 = 2;
+
+    pub const MAX_ALPHABET: u32 = 256;
+
+    pub const MIN_BURSTS: u32 = 1;
+
+    pub const MAX_BURSTS: u32 = 6;
+
+    pub const MIN_BURST_LEN: u32 = 1;
+
+    pub const MIN_PARTS: u32 = 3;
+
+    // The layout that the figures give, whatever numbers come. Refusals in order: 1 for a figure out of range, 2 for figures that don't fit.
+    pub fn figures(n: u32, q: u32, m: u32, b: u32) -> Figures
+        ensures answer { λ r. ⌜ figuredAs r ≡ figuresOut (params n q m b) ⌝ }
+        ensures layout { λ r. ⌜ LaidIn (params n q m b) r ⌝ }
+    {
+        let given = Params { n, q, m, b };
+        if !given.in_range() {
+            return Figures::Refused(Refusal::INVALID);
+        }
+        if (n as u64) < (m as u64) * (b as u64) {
+            return Figures::Refused(Refusal::UNFIT);
+        }
+        given.laid_out()
+    }
+
+    // Whether each figure is in range.
+    fn in_range(self) -> bool
+        ensures { λ r. ⌜ r ≡ inRange (given self) ⌝ }
+    {
+        if self.n < Params::MIN_WORD {
+            return false;
+        }
+        if Params::MAX_WORD < self.n {
+            return false;
+        }
+        if self.q < Params::MIN_ALPHABET {
+            return false;
+        }
+        if Params::MAX_ALPHABET < self.q {
+            return false;
+        }
+        if self.m < Params::MIN_BURSTS {
+            return false;
+        }
+        if Params::MAX_BURSTS < self.m {
+            return false;
+        }
+        if self.b < Params::MIN_BURST_LEN {
+            return false;
+        }
+        true
+    }
+
+    // The layout of figures in range whose bursts a word can hold. Refusal: 2.
+    fn laid_out(self) -> Figures
+        requires { ⌜ (inRange (given self) ≡ true) × (self .m * self .b ≤ self .n) ⌝ }
+        ensures answer { λ r. ⌜ figuredAs r ≡ figuresOut (given self) ⌝ }
+        ensures layout { λ r. ⌜ LaidIn (given self) r ⌝ }
+    {
+        let n = self.n as usize;
+        let q = self.q as u64;
+        let m = self.m as usize;
+        let b = self.b as usize;
+        let parts = self.parts();
+        let block_min = n / (parts * m);
+        let placement_count = binomials::choose((n - m * b + m) as u64, m as u64);
+        let index_tail = tail::least_tail(q, m, placement_count, block_min);
+        if block_min <= index_tail {
+            return Figures::Refused(Refusal::UNFIT);
+        }
+        if block_min - index_tail < b {
+            return Figures::Refused(Refusal::UNFIT);
+        }
+        let message_len = n - m * (b + parts + index_tail - 1);
+        Figures::Fit(Layout {
+            n,
+            q,
+            m,
+            b,
+            parts,
+            block_min,
+            placement_count,
+            index_tail,
+            message_len,
+        })
+    }
+
+    // How many parts the word is cut into.
+    fn parts(self) -> usize
+        ensures { λ r. ⌜ r ≡ partsOf (given self) ⌝ }
+    {
+        if self.m < Params::MIN_PARTS {
+            return Params::MIN_PARTS as usize;
+        }
+        self.m as usize
+    }
+
+    // The largest figures: this ties the names here to those of specs/.
+    pub fn largest() -> [u32; 3]
+        ensures { λ r. ⌜ r ≡ maxWord ∷ maxAlphabet ∷ maxBursts ∷ [] ⌝ }
+    {
+        [Params::MAX_WORD, Params::MAX_ALPHABET, Params::MAX_BURSTS]
+    }
+}
+
+impl Layout {
+    // The block that has position x.
+    pub fn block_of(self, x: usize) -> usize
+        requires { ⌜ HasPosition self x ⌝ }
+        ensures { λ r. ⌜ r ≡ blockWith (self .n) (self .parts) (self .m) x ⌝ }
+    {
+        let part = cut::piece_of(self.n, self.parts, x);
+        let from = cut::piece_start(self.n, self.parts, part);
+        let len = cut::piece_len(self.n, self.parts, part);
+        part * self.m + cut::piece_of(len, self.m, x - from)
+    }
+
+    // The first position of block k, counted through the word; the word's length for the number behind the last block's.
+    pub fn block_head(self, k: usize) -> usize
+        requires { ⌜ HasHead self k ⌝ }
+        ensures { λ r. ⌜ r ≡ blockHead (self .n) (self .parts) (self .m) k ⌝ }
+    {
+        let part = k / self.m;
+        let block = k % self.m;
+        let head = cut::piece_start(self.n, self.parts, part);
+        if block == 0 {
+            return head;
+        }
+        let len = cut::piece_len(self.n, self.parts, part);
+        head + cut::piece_start(len, self.m, block)
+    }
+}

@@ -1,0 +1,77 @@
+-- `reduced_start` meets its contract: the number sought lies from `low` on and below `high`. Assumes nothing.
+use mathlib.Core.Path.{_≡_, ap, subst}
+use Prim.Native.Nat.{ℕ, suc, _-_, _≤_, _<_}
+use native.Mathlib.Omega.{arith}
+use borrow.Author.Needs.{needs}
+use Rattle.combinatorics.specs.Choose.{choose}
+use Rattle.combinatorics.specs.Rank.{ways}
+use Rattle.combinatorics.proofs.Choose.{choose-mono, choose-of-none}
+use Rattle.combinatorics.proofs.Cases.{by-le}
+use Rattle.combinatorics.proofs.Stretch.{top-is, top-only}
+use Rattle.placements.proofs.reduced_start.Statement.{statement}
+use Rattle.placements.proofs.reduced_start.Tie as tie
+
+abbrev Inv-loop : tie.InvT-loop
+Inv-loop below number rank low₀ high₀ low high = (low < high) × (high ≤ below) × (choose low number ≤ rank) × (rank < choose high number)
+
+abbrev μ-loop : tie.MeasureT-loop
+μ-loop below number rank low₀ high₀ low high = high - low
+
+loop-holds : tie.Need-loop-holds Inv-loop μ-loop
+loop-holds c =
+    let none = choose-of-none (c .args .number) (omega arith) in
+    let some : 0 < c .args .below =
+    by-le 1 (c .args .below) (λ _. 0 < c .args .below) (λ l. l)
+    (λ l. let z : c .args .below ≡ 0 = omega arith in absurd (omega (arith, ap (ways (c .args .number)) z))) in
+    (some, omega arith, omega arith, search needs)
+
+add-loop : tie.Need-add-loop Inv-loop μ-loop
+add-loop c = search needs
+
+sub-middle : tie.Need-sub-middle Inv-loop μ-loop
+sub-middle c = search needs
+
+add-middle : tie.Need-add-middle Inv-loop μ-loop
+add-middle c = search needs
+
+choose-requires : tie.Need-choose-requires Inv-loop μ-loop
+choose-requires c κs = search needs
+
+loop-less : tie.Need-loop-less Inv-loop μ-loop
+loop-less c = search needs
+
+loop-again : tie.Need-loop-again Inv-loop μ-loop
+loop-again c = search needs
+
+loop-less-2 : tie.Need-loop-less-2 Inv-loop μ-loop
+loop-less-2 c = search needs
+
+loop-again-2 : tie.Need-loop-again-2 Inv-loop μ-loop
+loop-again-2 c = search needs
+
+returns : tie.Need-returns Inv-loop μ-loop
+returns c =
+    let a = c .before .before .args in
+    let l = c .before .loop in
+    let e : l .high ≡ suc (l .low) = omega arith in
+    let none = choose-of-none (a .number) (omega arith) in
+    top-only (ways (a .number)) (λ x y h. choose-mono (a .number) h)
+    (record { below = omega arith; reach = l .inv .2; past = subst (λ (h : ℕ). a .rank < choose h (a .number)) e (l .inv .3) })
+    (top-is (ways (a .number)) (a .below) (a .rank) (omega arith) (search needs))
+
+pub reduced-start-spec : {M : Type 1} → statement M
+reduced-start-spec =
+    tie.close
+    (tie.spec
+    Inv-loop
+    μ-loop
+    loop-holds
+    add-loop
+    sub-middle
+    add-middle
+    choose-requires
+    loop-less
+    loop-again
+    loop-less-2
+    loop-again-2
+    returns)

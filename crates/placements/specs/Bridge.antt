@@ -1,0 +1,39 @@
+-- A placement of the code as the definitions hold it, what a call may be given, and what covering answers. Assumes nothing.
+use mathlib.Core.Path.{_≡_}
+use mathlib.Core.Bool.{Bool, true, cond}
+use mathlib.Core.List.{List, []}
+use Prim.Native.Nat.{ℕ, _*_, _≤_}
+use lib.Dec.{ltb}
+use Rattle.combinatorics.specs.Bursts.{apart, placements, startsOf, coverRank}
+use Rattle.construction_a.specs.Figures.{maxWord, maxBursts}
+use Rattle.construction_a.specs.Outcomes.{Held, inUse, held, worn}
+use Rattle.placements.specs.declared.Placement.{Placement}
+
+-- "A placement is held as six starts and the count in use."
+abbrev pub heldAs : Placement → Held
+heldAs p = record { starts = p .starts; count = p .count }
+
+-- "starts past the count are .. unread in a call"
+abbrev pub startsIn : Placement → List ℕ
+startsIn p = inUse (heldAs p)
+
+-- a placement that has a rank: its bursts are apart, and within the longest word
+pub record Rankable (p : Placement) (b : ℕ) : Type 0 where
+  pub few : p .count ≤ maxBursts
+  pub some : 1 ≤ b
+  pub valid : apart b maxWord 0 (startsIn p) ≡ true
+
+-- m bursts of b have room among n positions, within the limits
+pub record Room (n m b : ℕ) : Type 0 where
+  pub short : n ≤ maxWord
+  pub few : m ≤ maxBursts
+  pub some : 1 ≤ b
+  pub within : m * b ≤ n
+
+-- some placement covers the map: otherwise "6: no placement covers the map."
+abbrev pub coverable : ℕ → ℕ → ℕ → List ℕ → Bool
+coverable n m b map = ltb (coverRank n m b (worn map)) (placements n m b)
+
+-- "the planner gives the placement of least rank whose runs cover every worn position"; no starts where none covers
+abbrev pub leastCover : ℕ → ℕ → ℕ → List ℕ → Held
+leastCover n m b map = cond (coverable n m b map) (held (startsOf n m b (coverRank n m b (worn map)))) (held [])
