@@ -159,3 +159,16 @@ pick-below kind n kd w q small = rw (pick-at kind n 0 kd w) (go (members n 0 (λ
     go : (xs : List ℕ) → allBelow q (map (λ x. getD w x 0) xs) ≡ true
     go [] = refl
     go (x ∷ xs) = rw (leb-holds (suc (getD w x 0)) q (small x)) (go xs)
+
+-- a word woven of symbols below q is of such symbols
+tail-at : (xs : List ℕ) (x : ℕ) → getD (tail xs) x 0 ≡ getD xs (suc x) 0
+tail-at [] x = refl
+tail-at (y ∷ ys) x = refl
+
+pub woven-below : (q : ℕ) (cs : List Cell) (ds ms : List ℕ) → 0 < q → ((x : ℕ) → getD ds x 0 < q) → ((x : ℕ) → getD ms x 0 < q) → allBelow q (weave cs ds ms) ≡ true
+unfolding weave all
+woven-below q [] ds ms h d m = refl
+woven-below q (burst ∷ cs) ds ms h d m = rw (leb-holds 1 q h) (woven-below q cs ds ms h d m)
+woven-below q (fixed ∷ cs) ds ms h d m = rw (leb-holds 1 q h) (woven-below q cs ds ms h d m)
+woven-below q (digit ∷ cs) ds ms h d m = rw (leb-holds (suc (getD ds 0 0)) q (d 0)) (woven-below q cs (tail ds) ms h (λ x. rw (tail-at ds x) (d (suc x))) m)
+woven-below q (message ∷ cs) ds ms h d m = rw (leb-holds (suc (getD ms 0 0)) q (m 0)) (woven-below q cs ds (tail ms) h d (λ x. rw (tail-at ms x) (m (suc x))))

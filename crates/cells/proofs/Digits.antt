@@ -18,6 +18,14 @@ Spelled q [] (d ∷ ds) = ⊥
 Spelled q (x ∷ xs) [] = ⊥
 Spelled q (x ∷ xs) (d ∷ ds) = (offset x ≤ d) × (d < offset x + radix q x) × Spelled q xs ds
 
+-- a stored digit in range is a symbol
+pub spelled-below : (q : ℕ) (xs : List Place) (ds : List ℕ) → 2 ≤ q → Spelled q xs ds → (x : ℕ) → getD ds x 0 < q
+spelled-below q [] [] l h x = omega arith
+spelled-below q (lead ∷ xs) (d ∷ ds) l (a, b, c) zero = omega arith
+spelled-below q (plain ∷ xs) (d ∷ ds) l (a, b, c) zero = omega arith
+spelled-below q (lead ∷ xs) (d ∷ ds) l (a, b, c) (suc x) = spelled-below q xs ds l c x
+spelled-below q (plain ∷ xs) (d ∷ ds) l (a, b, c) (suc x) = spelled-below q xs ds l c x
+
 pub pos-right : (a b v : ℕ) → v < a * b → 0 < b
 pos-right a zero v h = absurd (omega arith)
 pos-right a (suc b) v h = omega arith

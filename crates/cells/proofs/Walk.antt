@@ -6,10 +6,10 @@ use mathlib.Core.List.{List, [], _∷_, _++_, tail}
 use Prim.Native.Nat.{ℕ, zero, suc, _+_, _-_, _≤_, _<_}
 use native.Mathlib.Nat.{zero-add}
 use native.Mathlib.Omega.{arith}
-use lib.ListN.{length, getD, take, drop, replicate}
-use lib.Seq.{drop-nil}
-use Rattle.combinatorics.specs.Stretch.{bit, keepIf, tabulate}
-use Rattle.cells.specs.Cells.{Cell, burst, fixed, digit, message, code, is, weave, pick}
+use lib.ListN.{length, getD, take, drop, replicate, length-drop}
+use lib.Seq.{drop-nil, take-all}
+use Rattle.combinatorics.specs.Stretch.{sum, bit, count, keepIf, tabulate}
+use Rattle.cells.specs.Cells.{Cell, burst, fixed, digit, message, code, is, weave, pick, content, Enough}
 
 -- how many cells of a list are of a kind
 unfoldable pub tally : Cell → List Cell → ℕ
@@ -73,13 +73,6 @@ weave-append (fixed ∷ cs) es ds ms = rw (zero-add, zero-add, weave-append cs e
 weave-append (digit ∷ cs) es ds ms = rw (one-more (tally digit cs), zero-add, ← drop-tail (tally digit cs) ds, weave-append cs es (tail ds) ms)
 weave-append (message ∷ cs) es ds ms = rw (one-more (tally message cs), zero-add, ← drop-tail (tally message cs) ms, weave-append cs es ds (tail ms))
 
--- what a stretch of cells of one kind holds
-abbrev pub content : Cell → ℕ → List ℕ → List ℕ → List ℕ
-content burst n ds ms = replicate n 0
-content fixed n ds ms = replicate n 0
-content digit n ds ms = take n ds
-content message n ds ms = take n ms
-
 take-tail : (n : ℕ) (xs : List ℕ) → suc n ≤ length xs → take (suc n) xs ≡ getD xs 0 0 ∷ take n (tail xs)
 take-tail n [] h = absurd (omega arith)
 take-tail n (x ∷ xs) h = refl
@@ -87,13 +80,6 @@ take-tail n (x ∷ xs) h = refl
 tail-room : (n : ℕ) (xs : List ℕ) → suc n ≤ length xs → n ≤ length (tail xs)
 tail-room n [] h = absurd (omega arith)
 tail-room n (x ∷ xs) h = omega arith
-
--- enough digits, and enough of the message, for so many cells of a kind
-abbrev pub Enough : Cell → ℕ → List ℕ → List ℕ → Type 0
-Enough burst n ds ms = Unit {0}
-Enough fixed n ds ms = Unit {0}
-Enough digit n ds ms = n ≤ length ds
-Enough message n ds ms = n ≤ length ms
 
 pub weave-replicate : (kind : Cell) (n : ℕ) (ds ms : List ℕ) → Enough kind n ds ms → weave (replicate n kind) ds ms ≡ content kind n ds ms
 unfolding weave
@@ -134,3 +120,14 @@ pub pick-other : (kind c : Cell) (n : ℕ) (w : List ℕ) → is kind c ≡ fals
 unfolding pick
 pick-other kind c zero w e = refl
 pick-other kind c (suc n) w e = rw e (pick-other kind c n (tail w) e)
+
+-- ---- How many
+
+pub tally-count : (kind : Cell) (n k : ℕ) (kd : ℕ → Cell) → tally kind (tabulate n k kd) ≡ count n k (λ x. is kind (kd x))
+unfolding tally tabulate sum
+tally-count kind zero k kd = refl
+tally-count kind (suc n) k kd = omega (arith, tally-count kind n (suc k) kd)
+
+-- a part that goes to the end is what is left
+pub rest-is : (n : ℕ) (xs : List ℕ) → take (length xs - n) (drop n xs) ≡ drop n xs
+rest-is n xs = take-all (length xs - n) (drop n xs) (omega (arith, length-drop n xs))

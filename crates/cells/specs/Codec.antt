@@ -36,6 +36,11 @@ pub record LeadsTo (c : Codec) (w starts ms : List ℕ) : Type 0 where
   pub symbols : allBelow (c .alphabet) ms ≡ true
   pub outside : (x : ℕ) → x < c .wordLen → c .spoilt starts x ≡ false → getD w x 0 ≡ getD (c .encode starts ms) x 0
 
+-- what is written is a word: of the code's length, in its alphabet
+abbrev pub WritesWords : Codec → Type 0
+WritesWords c = (starts ms : List ℕ) → c .placed starts ≡ true → length ms ≡ c .messageLen → allBelow (c .alphabet) ms ≡ true
+    → (length (c .encode starts ms) ≡ c .wordLen) × (allBelow (c .alphabet) (c .encode starts ms) ≡ true)
+
 -- the decoder accepts exactly what some placement and message lead to, and answers with those
 abbrev pub Exact : Codec → Type 0
 Exact c = (w starts ms : List ℕ) → Word c w → (c .decode w ≡ accepted starts ms) ↔ LeadsTo c w starts ms

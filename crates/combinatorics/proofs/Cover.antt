@@ -10,17 +10,12 @@ use lib.Dec.{leb, ltb}
 use lib.ListN.{length, length-reverse}
 use Rattle.combinatorics.specs.Choose.{choose}
 use Rattle.combinatorics.specs.Rank.{rankFrom}
-use Rattle.combinatorics.specs.Stretch.{has, first}
+use Rattle.combinatorics.specs.Stretch.{has, first, lastEnd}
 use Rattle.combinatorics.specs.Bursts.{inBurst, placements, reduceFrom, rankOf, startsOf, covers, coverRank}
 use Rattle.combinatorics.proofs.Cases.{by-le, by-bool}
 use Rattle.combinatorics.proofs.Choose.{choose-mono}
 use Rattle.combinatorics.proofs.Stretch.{at-or-past, has-none, has-some, first-false, first-true, first-is, first-most}
 use Rattle.combinatorics.proofs.Bursts.{Placed, RankedAs, by-burst, burst-here, burst-there, rank-lt, starts-of-rank, rank-of-starts}
-
--- one past the last worn position below n, or 0
-unfoldable pub lastEnd : (ℕ → Bool) → ℕ → ℕ
-lastEnd worn zero = 0
-lastEnd worn (suc n) = let r = lastEnd worn n in cond (worn n) (suc n) r
 
 unfoldable pub greedyDown : (ℕ → Bool) → ℕ → ℕ → ℕ → List ℕ
 greedyDown worn b zero n = []

@@ -1,11 +1,13 @@
 -- Laws of tests over a list. Assumes nothing.
-use mathlib.Core.Path.{_≡_, refl, ap₂}
+use mathlib.Core.Path.{_≡_, refl, sym, ap, ap₂, _∙_}
 use mathlib.Core.Bool.{Bool, true, false, _&&_, false≢true}
-use mathlib.Core.List.{List, [], _∷_}
-use Prim.Native.Nat.{ℕ, zero, suc, _<_}
+use mathlib.Core.List.{List, [], _∷_, _++_}
+use Prim.Native.Nat.{ℕ, zero, suc, _+_, _≤_, _<_}
+use native.Mathlib.Numerals.{add-one}
 use native.Mathlib.Omega.{arith}
 use lib.Dec.{ltb, eqb}
-use lib.ListN.{length, getD}
+use lib.ListN.{length, getD, take, drop, set, drop-of-length-le}
+use lib.Seq.{take-all, take-suc, take-suc-set, drop-cons}
 use Rattle.combinatorics.specs.Lists.{all, allBelow, sameList}
 use Rattle.combinatorics.proofs.Cases.{by-le, by-eq, eqb-same, leb-holds}
 
@@ -37,3 +39,28 @@ pub at-below : (q : ℕ) (xs : List ℕ) → ((x : ℕ) → x < length xs → ge
 unfolding all
 at-below q [] h = refl
 at-below q (y ∷ ys) h = rw (leb-holds (suc y) q (h 0 (omega arith)), at-below q ys (λ x l. h (suc x) (omega arith)))
+
+-- ---- As a loop goes: a test over the list from element i on
+
+module _ (t : ℕ → Bool) (xs : List ℕ) (i : ℕ) where
+  all-next : i < length xs → all t (drop i xs) ≡ (t (getD xs i 0) && all t (drop (i + 1) xs))
+  unfolding all
+  all-next h = rw (drop-cons xs i 0 h, add-one i)
+
+  pub all-fails : i < length xs → t (getD xs i 0) ≡ false → all t (drop i xs) ≡ false
+  all-fails h e = rw (all-next h, e)
+
+  pub all-later : i < length xs → t (getD xs i 0) ≡ true → all t (drop i xs) ≡ all t (drop (i + 1) xs)
+  all-later h e = rw (all-next h, e)
+
+  pub all-over : length xs ≤ i → all t (drop i xs) ≡ true
+  unfolding all
+  all-over h = rw (drop-of-length-le xs h)
+
+-- ---- As a loop goes: filling a list from the left with what another holds
+
+pub fill-turn : (out t : List ℕ) (i : ℕ) → i < length out → i < length t → take i out ≡ take i t → take (i + 1) (set out i (getD t i 0)) ≡ take (i + 1) t
+fill-turn out t i h k e = rw (add-one i) (take-suc-set out i (getD t i 0) h ∙ ap (λ (r : List ℕ). r ++ (getD t i 0 ∷ [])) e ∙ sym (take-suc t i 0 k))
+
+pub fill-done : (out t : List ℕ) (i : ℕ) → length out ≤ i → take i out ≡ take i t → length out ≡ i → out ≡ take (length out) t
+fill-done out t i h e l = sym (take-all i out h) ∙ e ∙ ap (λ (n : ℕ). take n t) (sym l)

@@ -9,7 +9,8 @@ use native.Mathlib.Omega.{arith}
 use Rattle.combinatorics.specs.Bursts.{inBurst, placements, coverRank}
 use Rattle.combinatorics.proofs.Cases.{by-le}
 use Rattle.combinatorics.proofs.Bursts.{by-burst, burst-here, burst-there}
-use Rattle.combinatorics.proofs.Cover.{lastEnd, greedyDown, greedy, Covers, last-le, last-all, last-is, turned-burst, greedy-covers}
+use Rattle.combinatorics.specs.Stretch.{lastEnd}
+use Rattle.combinatorics.proofs.Cover.{greedyDown, greedy, Covers, last-le, last-all, last-is, turned-burst, greedy-covers}
 
 -- ---- the last defect
 

@@ -1,4 +1,4 @@
--- "the ways to choose m things out of n". Assumes nothing.
+-- The ways to choose k things out of n. Assumes nothing.
 use Prim.Native.Nat.{ℕ, zero, suc, _+_}
 
 -- by Pascal's rule: of the last of the n things, with it or without it

@@ -49,3 +49,8 @@ stretch n k = tabulate n k (λ x. x)
 unfoldable pub top : (ℕ → ℕ) → ℕ → ℕ → ℕ
 top f zero v = zero
 top f (suc n) v = let r = top f n v in cond (leb (f n) v) n r
+
+-- one past the last number below n that is in the set, or 0
+unfoldable pub lastEnd : (ℕ → Bool) → ℕ → ℕ
+lastEnd w zero = 0
+lastEnd w (suc n) = let r = lastEnd w n in cond (w n) (suc n) r

@@ -10,16 +10,20 @@ use lib.ListN.{length}
 use Rattle.refusals.specs.Refusals.{must, noPattern, valueTooLarge, disagrees}
 use Rattle.combinatorics.proofs.Cases.{by-le, leb-holds, leb-fails}
 use Rattle.combinatorics.proofs.Lists.{below-at}
+use Rattle.combinatorics.proofs.Stretch.{length-tabulate}
 use Rattle.cells.specs.Cells.{message, pick}
-use Rattle.cells.specs.Codec.{accepted, refused, Word, LeadsTo, Exact}
+use Rattle.cells.specs.Codec.{accepted, refused, Word, LeadsTo, WritesWords, Exact}
+use Rattle.cells.specs.Digits.{spell, places}
+use Rattle.cells.proofs.Cells.{length-woven, woven-below}
 use Rattle.cells.proofs.Codec.{one-pair, others-refused}
-use Rattle.construction_a.specs.Figures.{Params, parts, placementCount, messageLen}
-use Rattle.construction_a.specs.Writing.{plan, placementOf}
+use Rattle.cells.proofs.Digits.{Spelled, spell-spelled, spelled-below}
+use Rattle.construction_a.specs.Figures.{Params, parts, placementCount, indexTail, messageLen}
+use Rattle.construction_a.specs.Writing.{kindAt, plan, rank, placementOf, word}
 use Rattle.construction_a.specs.Reading.{looksFixed, indexFound, written, agrees, readRank, readFrom, read}
 use Rattle.construction_a.specs.DemandTwo.{constructionA, Listed, no-pattern, too-large, disagreeing, DemandTwo}
-use Rattle.construction_a.proofs.Figures.{Served, serve, placed-starts, starts-placed}
+use Rattle.construction_a.proofs.Figures.{Served, serve, span-enough, placed-starts, starts-placed}
 use Rattle.construction_a.proofs.Plan.{messages-count}
-use Rattle.construction_a.proofs.Complete.{complete}
+use Rattle.construction_a.proofs.Complete.{rank-below, complete}
 use Rattle.construction_a.proofs.Sound.{Accepted, sound}
 
 -- ---- Exactly
@@ -34,6 +38,20 @@ exact f ok w ss ms found = (
       let p = placed-starts f ss (l .placement) in
       complete f ok ss (p .0) (p .1) ms w (omega (arith, l .count, messages-count f ok ss (p .0) (p .1))) (l .outside),
 )
+
+-- ---- Words
+
+pub writes : (f : Params) → Served f → WritesWords (constructionA f)
+unfolding word plan
+writes f ok ss ms e l m =
+    let p = placed-starts f ss e in
+    let ds = spell (f .q) (places (f .m) (indexTail f)) (rank f ss) in
+    let some : 0 < f .q = omega (arith, ok .range .q-least) in
+    let s : Spelled (f .q) (places (f .m) (indexTail f)) ds =
+    spell-spelled (f .q) (places (f .m) (indexTail f)) (rank f ss) (omega (arith, rank-below f ok ss (p .0) (p .1), span-enough f ok)) in (
+      length-woven (plan f ss) ds ms ∙ length-tabulate (f .n) 0 (kindAt f ss),
+      woven-below (f .q) (plan f ss) ds ms some (spelled-below (f .q) (places (f .m) (indexTail f)) ds (ok .range .q-least) s) (below-at (f .q) ms some m),
+    )
 
 -- ---- The numbers
 
@@ -74,6 +92,7 @@ pub demand-two : DemandTwo
 demand-two f i h =
     let ok = serve f i h in
     record {
+      written = writes f ok;
       exactly = exact f ok;
       one-pair = one-pair (constructionA f) (exact f ok);
       others = others-refused (constructionA f) (exact f ok);

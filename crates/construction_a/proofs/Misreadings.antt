@@ -18,11 +18,11 @@ use Rattle.cells.specs.Digits.{span, spell, value, places}
 use Rattle.construction_a.specs.Figures.{blocks, parts, blockMin, indexTail, headOf}
 use Rattle.construction_a.specs.Writing.{becomes, withBurst, withBursts, isBurst, next, fullPart, barePart, chosen, beside, isChosen, isIndexIn, isIndex, indexBlocks, isFixed, cellOf, kindAt, plan, word}
 use Rattle.construction_a.specs.Reading.{looksFixed, later, bareParts, indexInPart, collect, indexFound, heads, written, agrees, readRank, read}
-use Rattle.construction_a.specs.Strips.{Row, row, strip, holds}
+use Rattle.construction_a.specs.Strips.{Row, row, figures, holds}
 
 -- the B-blocks, ascending
 abbrev burstBlocks : ℕ → List ℕ → List ℕ
-burstBlocks b ss = members 9 0 (isBurst (strip 90 3 3 b) ss)
+burstBlocks b ss = members 9 0 (isBurst (figures 90 3 3 b) ss)
 
 -- a refused word by its number, an accepted one by 0 and the starts
 abbrev answer : Reading → List ℕ
@@ -46,25 +46,25 @@ rows =
     -- "the leftmost block of the word that is not yet B": blocks 0 and 1 where three runs end in block 4
     ∷ row (burstBlocks 3 (40 ∷ 43 ∷ 46 ∷ [])) (0 ∷ 1 ∷ 4 ∷ [])
     -- and such a block's head holds the message, not 0
-    ∷ row (heads (strip 90 3 3 3) (word (strip 90 3 3 3) (40 ∷ 43 ∷ 46 ∷ []) (replicate 66 2)) (0 ∷ [])) (2 ∷ 2 ∷ 2 ∷ 2 ∷ [])
+    ∷ row (heads (figures 90 3 3 3) (word (figures 90 3 3 3) (40 ∷ 43 ∷ 46 ∷ []) (replicate 66 2)) (0 ∷ [])) (2 ∷ 2 ∷ 2 ∷ 2 ∷ [])
     -- "shorter ones first": parts of 30, 30, 31 positions
-    ∷ row (tabulate 4 0 (λ i. headOf (strip 91 3 3 3) (i * 3))) (0 ∷ 30 ∷ 60 ∷ 91 ∷ [])
+    ∷ row (tabulate 4 0 (λ i. headOf (figures 91 3 3 3) (i * 3))) (0 ∷ 30 ∷ 60 ∷ 91 ∷ [])
     -- "neighbours i and i+1 give i+1; parts 0 and p−1 give part 0", and no other pair gives one
     ∷ row (given (later 5 (1 ∷ 2 ∷ []))) (2 ∷ [])
     ∷ row (given (later 5 (0 ∷ 4 ∷ []))) (0 ∷ [])
     ∷ row (given (later 5 (0 ∷ 2 ∷ []))) []
     ∷ row (given (later 5 (1 ∷ 4 ∷ []))) []
     -- "First strip, read: all 0 or all 1 is 7"
-    ∷ row (answer (read (strip 30 2 1 3) (replicate 30 0))) (7 ∷ [])
-    ∷ row (answer (read (strip 30 2 1 3) (replicate 30 1))) (7 ∷ [])
+    ∷ row (answer (read (figures 30 2 1 3) (replicate 30 0))) (7 ∷ [])
+    ∷ row (answer (read (figures 30 2 1 3) (replicate 30 1))) (7 ∷ [])
     -- "101100 changed to 111111 is 8, to 100000 is 9"
-    ∷ row (answer (read (strip 30 2 1 3) (withIndex (1 ∷ 0 ∷ 1 ∷ 1 ∷ 0 ∷ 0 ∷ [])))) (0 ∷ 12 ∷ [])
-    ∷ row (answer (read (strip 30 2 1 3) (withIndex (1 ∷ 1 ∷ 1 ∷ 1 ∷ 1 ∷ 1 ∷ [])))) (8 ∷ [])
-    ∷ row (answer (read (strip 30 2 1 3) (withIndex (1 ∷ 0 ∷ 0 ∷ 0 ∷ 0 ∷ 0 ∷ [])))) (9 ∷ [])
+    ∷ row (answer (read (figures 30 2 1 3) (withIndex (1 ∷ 0 ∷ 1 ∷ 1 ∷ 0 ∷ 0 ∷ [])))) (0 ∷ 12 ∷ [])
+    ∷ row (answer (read (figures 30 2 1 3) (withIndex (1 ∷ 1 ∷ 1 ∷ 1 ∷ 1 ∷ 1 ∷ [])))) (8 ∷ [])
+    ∷ row (answer (read (figures 30 2 1 3) (withIndex (1 ∷ 0 ∷ 0 ∷ 0 ∷ 0 ∷ 0 ∷ [])))) (9 ∷ [])
     -- "the written value is T or more": T itself, 28
-    ∷ row (answer (read (strip 30 2 1 3) (withIndex (1 ∷ 1 ∷ 1 ∷ 1 ∷ 0 ∷ 0 ∷ [])))) (8 ∷ [])
+    ∷ row (answer (read (figures 30 2 1 3) (withIndex (1 ∷ 1 ∷ 1 ∷ 1 ∷ 0 ∷ 0 ∷ [])))) (8 ∷ [])
     -- "each F-block it gives must start with 0": block 4 of n 60, q 4, m 2, b 4 does not
-    ∷ row (answer (read (strip 60 4 2 4) (set (word (strip 60 4 2 4) (8 ∷ 12 ∷ []) (replicate 44 0)) 40 1))) (9 ∷ [])
+    ∷ row (answer (read (figures 60 4 2 4) (set (word (figures 60 4 2 4) (8 ∷ 12 ∷ []) (replicate 44 0)) 40 1))) (9 ∷ [])
     ∷ []
 
 rows-hold : all holds rows ≡ true

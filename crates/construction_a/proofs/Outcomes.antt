@@ -25,13 +25,16 @@ figures-served f i e = rw (i, e)
 
 -- ---- What a caller learns of its own figures from the answer
 
--- figures with T, r and k can be served
-pub figured-served : (f : Params) (t r k : ℕ) → figuresOut f ≡ figured t r k → Served f
-figured-served f t r k e =
+-- figures with T, r and k are in range and fit, and can be served
+pub figured-fits : (f : Params) (t r k : ℕ) → figuresOut f ≡ figured t r k → (inRange f ≡ true) × (fits f ≡ true)
+figured-fits f t r k e =
     by-bool (inRange f)
-    (λ i. by-bool (fits f) (serve f i)
+    (λ i. by-bool (fits f) (λ d. (i, d))
     (λ d. let x : unserved unfit ≡ figured t r k = sym (figures-unfit f i d) ∙ e in let z : _≡_ {A = ℕ} 0 1 = cc in absurd (omega arith)))
     (λ i. let x : unserved invalid ≡ figured t r k = sym (figures-invalid f i) ∙ e in let z : _≡_ {A = ℕ} 0 1 = cc in absurd (omega arith))
+
+pub figured-served : (f : Params) (t r k : ℕ) → figuresOut f ≡ figured t r k → Served f
+figured-served f t r k e = let b = figured-fits f t r k e in serve f (b .0) (b .1)
 
 -- a call whose order of refusals begins with 1 and 2 refuses figures with the number that they have alone
 pub refused-alike : {A : Type 0} (f : Params) (a : ℕ) (refuse : ℕ → A) (rest : A) → figuresOut f ≡ unserved a

@@ -1,24 +1,42 @@
--- "T counts all placements" and the rank "lies from 0 to T − 1": rank is a bijection from the placements onto the numbers below T. Assumes nothing.
+-- Rank is a bijection from the placements onto the numbers below T, and covering gives the cover of least rank. Assumes nothing.
 use mathlib.Core.Path.{_≡_}
-use mathlib.Core.Bool.{true}
+use mathlib.Core.Bool.{Bool, true}
 use mathlib.Core.List.{List}
 use Prim.Native.Nat.{ℕ, _<_}
+use Rattle.combinatorics.specs.Bursts.{coverRank}
 use Rattle.combinatorics.proofs.Bursts.{rank-lt, starts-of-rank, rank-of-starts}
+use Rattle.combinatorics.proofs.Cover.{cover-least, cover-is, covered-iff, covers-of, of-covers}
 use Rattle.construction_a.specs.Figures.{Params, isPlacement, placementCount}
 use Rattle.construction_a.specs.Writing.{rank, placementOf}
+use Rattle.construction_a.specs.Ranking.{RankBijection, CoveredBy, CoversLeast}
 use Rattle.construction_a.proofs.Figures.{Served, placed-starts, starts-placed}
 
-pub record Bijection (f : Params) : Type 0 where
-  pub below : (ss : List ℕ) → isPlacement f ss ≡ true → rank f ss < placementCount f
-  pub back : (ss : List ℕ) → isPlacement f ss ≡ true → placementOf f (rank f ss) ≡ ss
-  pub placed : (v : ℕ) → v < placementCount f → isPlacement f (placementOf f v) ≡ true
-  pub same : (v : ℕ) → v < placementCount f → rank f (placementOf f v) ≡ v
-
-pub rank-bijection : (f : Params) → Served f → Bijection f
+pub rank-bijection : (f : Params) → Served f → RankBijection f
 rank-bijection f ok =
     record {
       below = λ ss e. let p = placed-starts f ss e in rank-lt (f .n) (f .m) (f .b) (ok .long) ss (p .0) (p .1);
       back = λ ss e. let p = placed-starts f ss e in starts-of-rank (f .n) (f .m) (f .b) (ok .long) ss (p .0) (p .1);
       placed = λ v l. let r = rank-of-starts (f .n) (f .m) (f .b) (ok .long) (ok .total) v l in starts-placed f (placementOf f v) (r .placed) (r .count);
       same = λ v l. rank-of-starts (f .n) (f .m) (f .b) (ok .long) (ok .total) v l .rank;
+    }
+
+pub covers-least : (f : Params) → Served f → (worn : ℕ → Bool) → CoversLeast f worn
+covers-least f ok worn =
+    let gives : coverRank (f .n) (f .m) (f .b) worn < placementCount f → CoveredBy f worn (placementOf f (coverRank (f .n) (f .m) (f .b) worn)) =
+    λ l.
+    let c = cover-is (f .n) (f .m) (f .b) worn (ok .long) (ok .total) l in
+    let ss = placementOf f (coverRank (f .n) (f .m) (f .b) worn) in
+    record { placed = starts-placed f ss (c .placed) (c .count); all = of-covers (f .n) (f .b) worn ss (c .all) } in
+    record {
+      some = (
+        λ l. (placementOf f (coverRank (f .n) (f .m) (f .b) worn), gives l),
+        λ c.
+            let p = placed-starts f (c .0) (c .1 .placed) in
+            covered-iff (f .n) (f .m) (f .b) worn (ok .long) (ok .total) .1
+            (c .0, record { placed = p .0; count = p .1; all = covers-of (f .n) (f .b) worn (c .0) (c .1 .all) }),
+      );
+      gives = gives;
+      least = λ ss c.
+          let p = placed-starts f ss (c .placed) in
+          cover-least (f .n) (f .m) (f .b) worn (ok .long) ss (p .0) (p .1) (covers-of (f .n) (f .b) worn ss (c .all));
     }

@@ -8,7 +8,7 @@ use mathlib.Core.Option.{none, some}
 use Prim.Native.Nat.{ℕ, _≤_, _<_}
 use Rattle.refusals.specs.Refusals.{noPattern, valueTooLarge, disagrees}
 use Rattle.combinatorics.specs.Bursts.{inBurst}
-use Rattle.cells.specs.Codec.{Codec, Word, LeadsTo, Exact, refused}
+use Rattle.cells.specs.Codec.{Codec, Word, LeadsTo, WritesWords, Exact, refused}
 use Rattle.construction_a.specs.Figures.{Params, inRange, fits, isPlacement, parts, placementCount, messageLen}
 use Rattle.construction_a.specs.Writing.{placementOf, word}
 use Rattle.construction_a.specs.Reading.{looksFixed, indexFound, written, agrees, read}
@@ -35,6 +35,8 @@ pub data Listed (f : Params) (w : List ℕ) : ℕ → Type 0 where
       → agrees f w ks (placementOf f (written f w ks)) ≡ false → Listed f w disagrees
 
 pub record ReadsExactly (f : Params) : Type 0 where
+  -- what is written has n symbols, each below q
+  pub written : WritesWords (constructionA f)
   -- a word is accepted with a placement and a message exactly when these lead to it
   pub exactly : Exact (constructionA f)
   -- and no two pairs lead to one word

@@ -1,4 +1,5 @@
--- Document 01's bench strips that are "starred: to be proved", as one table. The proof is `starred-hold` of proofs/Strips.antt. Assumes nothing.
+-- Document 01's bench strips that are "starred: to be proved", as one table; the row on the job table stands in jobs/specs/Rows.antt. The proof is
+-- `starred-hold` of proofs/Strips.antt. Assumes nothing.
 use mathlib.Core.Path.{_≡_}
 use mathlib.Core.Bool.{Bool, true}
 use mathlib.Core.List.{List, [], _∷_, _++_}
@@ -23,8 +24,8 @@ row g s = record { given = g; stated = s }
 unfoldable pub holds : Row → Bool
 holds r = sameList (r .given) (r .stated)
 
-abbrev pub strip : ℕ → ℕ → ℕ → ℕ → Params
-strip n q m b = record { n = n; q = q; m = m; b = b }
+abbrev pub figures : ℕ → ℕ → ℕ → ℕ → Params
+figures n q m b = record { n = n; q = q; m = m; b = b }
 
 -- figures alone: 0, T, r and k, or the refusal
 abbrev numbers : FiguresOut → List ℕ
@@ -45,31 +46,31 @@ begins f ss = heads f (word f ss (replicate (messageLen f) 0)) (indexBlocks f ss
 unfoldable pub starred : List Row
 starred =
     -- "n 30, q 2, m 1, b 3: T 28, r 5, k 20."
-    row (numbers (figuresOut (strip 30 2 1 3))) (0 ∷ 28 ∷ 5 ∷ 20 ∷ [])
+    row (numbers (figuresOut (figures 30 2 1 3))) (0 ∷ 28 ∷ 5 ∷ 20 ∷ [])
     -- "Start 12, message all 1: 0, eleven 1s, 000, 11111, 101100, 1111."
-    ∷ row (word (strip 30 2 1 3) (12 ∷ []) (replicate 20 1))
+    ∷ row (word (figures 30 2 1 3) (12 ∷ []) (replicate 20 1))
     (0 ∷ replicate 11 1 ++ replicate 3 0 ++ replicate 5 1 ++ (1 ∷ 0 ∷ 1 ∷ 1 ∷ 0 ∷ 0 ∷ []) ++ replicate 4 1)
     -- "b 5 there fits; b 6 is 2."
-    ∷ row (bit (fits (strip 30 2 1 5)) ∷ []) (1 ∷ [])
-    ∷ row (numbers (figuresOut (strip 30 2 1 6))) (2 ∷ [])
+    ∷ row (bit (fits (figures 30 2 1 5)) ∷ []) (1 ∷ [])
+    ∷ row (numbers (figuresOut (figures 30 2 1 6))) (2 ∷ [])
     -- "n 60, q 4, m 2, b 4: T 1431, r 2, k 44."
-    ∷ row (numbers (figuresOut (strip 60 4 2 4))) (0 ∷ 1431 ∷ 2 ∷ 44 ∷ [])
+    ∷ row (numbers (figuresOut (figures 60 4 2 4))) (0 ∷ 1431 ∷ 2 ∷ 44 ∷ [])
     -- "Starts 8, 12: rank 44, I-blocks 2 and 3 begin 1 0 0 and 3 3 0."
-    ∷ row (rank (strip 60 4 2 4) (8 ∷ 12 ∷ []) ∷ []) (44 ∷ [])
-    ∷ row (indexBlocks (strip 60 4 2 4) (8 ∷ 12 ∷ [])) (2 ∷ 3 ∷ [])
-    ∷ row (begins (strip 60 4 2 4) (8 ∷ 12 ∷ [])) (1 ∷ 0 ∷ 0 ∷ 3 ∷ 3 ∷ 0 ∷ [])
+    ∷ row (rank (figures 60 4 2 4) (8 ∷ 12 ∷ []) ∷ []) (44 ∷ [])
+    ∷ row (indexBlocks (figures 60 4 2 4) (8 ∷ 12 ∷ [])) (2 ∷ 3 ∷ [])
+    ∷ row (begins (figures 60 4 2 4) (8 ∷ 12 ∷ [])) (1 ∷ 0 ∷ 0 ∷ 3 ∷ 3 ∷ 0 ∷ [])
     -- "n 90, q 3, m 3, b 3: T 95284, r 3, k 66."
-    ∷ row (numbers (figuresOut (strip 90 3 3 3))) (0 ∷ 95284 ∷ 3 ∷ 66 ∷ [])
+    ∷ row (numbers (figuresOut (figures 90 3 3 3))) (0 ∷ 95284 ∷ 3 ∷ 66 ∷ [])
     -- "Starts 22, 30, 65: rank 36390, I-blocks 0, 4, 7 begin 1110, 1221, 2210."
-    ∷ row (rank (strip 90 3 3 3) (22 ∷ 30 ∷ 65 ∷ []) ∷ []) (36390 ∷ [])
-    ∷ row (indexBlocks (strip 90 3 3 3) (22 ∷ 30 ∷ 65 ∷ [])) (0 ∷ 4 ∷ 7 ∷ [])
-    ∷ row (begins (strip 90 3 3 3) (22 ∷ 30 ∷ 65 ∷ [])) (1 ∷ 1 ∷ 1 ∷ 0 ∷ 1 ∷ 2 ∷ 2 ∷ 1 ∷ 2 ∷ 2 ∷ 1 ∷ 0 ∷ [])
+    ∷ row (rank (figures 90 3 3 3) (22 ∷ 30 ∷ 65 ∷ []) ∷ []) (36390 ∷ [])
+    ∷ row (indexBlocks (figures 90 3 3 3) (22 ∷ 30 ∷ 65 ∷ [])) (0 ∷ 4 ∷ 7 ∷ [])
+    ∷ row (begins (figures 90 3 3 3) (22 ∷ 30 ∷ 65 ∷ [])) (1 ∷ 1 ∷ 1 ∷ 0 ∷ 1 ∷ 2 ∷ 2 ∷ 1 ∷ 2 ∷ 2 ∷ 1 ∷ 0 ∷ [])
     -- "n 3, q 4, m 1, b 1: k 0; q 3 there is 2."
-    ∷ row (bit (fits (strip 3 4 1 1)) ∷ messageLen (strip 3 4 1 1) ∷ []) (1 ∷ 0 ∷ [])
-    ∷ row (numbers (figuresOut (strip 3 3 1 1))) (2 ∷ [])
+    ∷ row (bit (fits (figures 3 4 1 1)) ∷ messageLen (figures 3 4 1 1) ∷ []) (1 ∷ 0 ∷ [])
+    ∷ row (numbers (figuresOut (figures 3 3 1 1))) (2 ∷ [])
     -- "Covering, first strip: worn 27 and 29 give 27; 26 and 29 give 6."
-    ∷ row (covered (coverOut (strip 30 2 1 3) (mapOf 30 (27 ∷ 29 ∷ [])))) (0 ∷ 27 ∷ [])
-    ∷ row (covered (coverOut (strip 30 2 1 3) (mapOf 30 (26 ∷ 29 ∷ [])))) (6 ∷ [])
+    ∷ row (covered (coverOut (figures 30 2 1 3) (mapOf 30 (27 ∷ 29 ∷ [])))) (0 ∷ 27 ∷ [])
+    ∷ row (covered (coverOut (figures 30 2 1 3) (mapOf 30 (26 ∷ 29 ∷ [])))) (6 ∷ [])
     ∷ []
 
 -- every row's two sides are the same

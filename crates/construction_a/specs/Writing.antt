@@ -41,7 +41,8 @@ next n i = cond (eqb (suc i) n) 0 (suc i)
 abbrev pub row : ℕ → (ℕ → Bool) → ℕ → ℕ → Bool
 row m w i j = w (i * m + j)
 
--- the first part whose blocks are all B, and the first that has none, or p
+-- the first part whose blocks are all B, and the first that has none, or p. There are m B-blocks and m blocks in a part, so that all B lie in one
+-- part exactly where all of its blocks are B.
 unfoldable pub fullPart : ℕ → ℕ → (ℕ → Bool) → ℕ
 fullPart p m B = first p 0 (λ i. eqb (count m 0 (row m B i)) m)
 

@@ -22,7 +22,7 @@ kindOf letter =
     (cond (eqb letter 70) (some finishing)
     none))
 
--- a call by its letter; "unknown letter" is a record unreadable, 11, and comes before the call's own refusals
+-- a call by its letter; another letter is 11 as in a record, before the call's own refusals (docs/DECISIONS.md)
 abbrev pub callBy : Option Kind → List Entry → ℕ → TableOut
 callBy none es n = refuse es badRecord
 callBy (some k) es n = callAs k es n
@@ -44,7 +44,7 @@ callsOf [] ns = []
 callsOf (k ∷ ks) [] = []
 callsOf (k ∷ ks) (n ∷ ns) = callBefore (kindOf k) n (callsOf ks ns)
 
--- "3: a lent list .. has another length": the numbers and the answers are as many as the letters
+-- The numbers and the answers are as many as the letters: 3 as for lent lists of words (docs/DECISIONS.md).
 unfoldable pub lengthsFit : List ℕ → List ℕ → List ℕ → Bool
 lengthsFit letters numbers answers = eqb (length numbers) (length letters) && eqb (length answers) (length letters)
 

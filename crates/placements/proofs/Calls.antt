@@ -1,18 +1,22 @@
 -- What a caller needs: what its figures give, which starts an answer has in use, and that covering answers as the definitions do. Assumes nothing.
 use mathlib.Core.Path.{_≡_, refl, ap, _∙_}
+use mathlib.Core.Logic.{_≢_}
 use mathlib.Core.Bool.{Bool, true, false, cond}
 use mathlib.Core.List.{List, []}
 use Prim.Native.Nat.{ℕ, _-_, _≤_}
+use lib.Dec.{ltb, eqb}
 use lib.ListN.{length, replicate}
 use lib.Seq.{take-append-seam}
-use Rattle.refusals.specs.Refusals.{must, served, uncovered}
+use Rattle.refusals.specs.Refusals.{must, served, wrongLength, badSymbol, uncovered}
 use Rattle.combinatorics.specs.Bursts.{apart, startsOf, coverRank}
 use Rattle.combinatorics.specs.Lists.{allBelow}
-use Rattle.combinatorics.proofs.Cases.{eqb-same}
+use Rattle.combinatorics.proofs.Cases.{eqb-same, eqb-other}
 use Rattle.combinatorics.proofs.Loops.{apart-longer}
-use Rattle.construction_a.specs.Figures.{Params, maxWord, maxBursts, inRange, fits}
-use Rattle.construction_a.specs.Outcomes.{Held, inUse, held, worn, unplaced, coverOut}
+use Rattle.construction_a.specs.Figures.{Params, maxWord, maxBursts, inRange, fits, placementCount}
+use Rattle.construction_a.specs.Outcomes.{Held, inUse, held, worn, unserved, figuresOut, unplaced, coverOut}
+use Rattle.construction_a.specs.Writing.{placementOf}
 use Rattle.construction_a.proofs.Figures.{Served}
+use Rattle.construction_a.proofs.Outcomes.{refused-alike}
 use Rattle.placements.specs.declared.Placement.{Placement}
 use Rattle.placements.specs.Bridge.{heldAs, startsIn, coverable, leastCover, Rankable, Room}
 
@@ -26,15 +30,35 @@ rankable {p} n b few short some valid = record { few = few; some = some; valid =
 pub starts-held : {p : Placement} (ss : List ℕ) → heldAs p ≡ held ss → startsIn p ≡ ss
 starts-held ss e = ap inUse e ∙ take-append-seam ss (replicate (maxBursts - length ss) 0)
 
-covered-as : (t : Bool) (h : Held)
-    → must t (unplaced uncovered) (record { answer = served; placement = h }) ≡ record { answer = cond t served uncovered; placement = cond t h (held []) }
-covered-as true h = refl
-covered-as false h = refl
+-- ---- "covering 1 2 3 4 6"
 
--- "covering 1 2 3 4 6", past 4
-pub cover-out : (f : Params) (map : List ℕ) → inRange f ≡ true → fits f ≡ true → length map ≡ f .n → allBelow 2 map ≡ true
-    → coverOut f map ≡ record { answer = cond (coverable (f .n) (f .m) (f .b) map) served uncovered; placement = leastCover (f .n) (f .m) (f .b) map }
+-- 3 and 4
+pub cover-length : (f : Params) (map : List ℕ) → inRange f ≡ true → fits f ≡ true → length map ≢ f .n → coverOut f map ≡ unplaced wrongLength
 unfolding coverOut
-cover-out f map range fit size bytes =
-    rw (range, fit, eqb-same (length map) (f .n) size, bytes)
-    (covered-as (coverable (f .n) (f .m) (f .b) map) (held (startsOf (f .n) (f .m) (f .b) (coverRank (f .n) (f .m) (f .b) (worn map)))))
+cover-length f map range fit size = rw (range, fit, eqb-other (length map) (f .n) size)
+
+pub cover-symbol : (f : Params) (map : List ℕ) → inRange f ≡ true → fits f ≡ true → length map ≡ f .n → allBelow 2 map ≡ false → coverOut f map ≡ unplaced badSymbol
+unfolding coverOut
+cover-symbol f map range fit size bytes = rw (range, fit, eqb-same (length map) (f .n) size, bytes)
+
+-- 1 and 2, with the number that the figures have alone
+pub cover-unfit : (f : Params) (map : List ℕ) (a : ℕ) → figuresOut f ≡ unserved a → coverOut f map ≡ unplaced a
+unfolding coverOut
+cover-unfit f map a e =
+    let v = coverRank (f .n) (f .m) (f .b) (worn map) in
+    refused-alike f a unplaced
+    (must (eqb (length map) (f .n)) (unplaced wrongLength)
+    (must (allBelow 2 map) (unplaced badSymbol)
+    (must (ltb v (placementCount f)) (unplaced uncovered)
+    (record { answer = served; placement = held (placementOf f v) })))) e
+
+-- 6, and a cover
+pub cover-none : (f : Params) (map : List ℕ) → inRange f ≡ true → fits f ≡ true → length map ≡ f .n → allBelow 2 map ≡ true
+    → coverable (f .n) (f .m) (f .b) map ≡ false → coverOut f map ≡ unplaced uncovered
+unfolding coverOut
+cover-none f map range fit size bytes none = rw (range, fit, eqb-same (length map) (f .n) size, bytes, none)
+
+pub cover-some : (f : Params) (map : List ℕ) → inRange f ≡ true → fits f ≡ true → length map ≡ f .n → allBelow 2 map ≡ true
+    → coverable (f .n) (f .m) (f .b) map ≡ true → coverOut f map ≡ record { answer = served; placement = leastCover (f .n) (f .m) (f .b) map }
+unfolding coverOut
+cover-some f map range fit size bytes some = rw (range, fit, eqb-same (length map) (f .n) size, bytes, some)

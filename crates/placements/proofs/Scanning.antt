@@ -5,7 +5,8 @@ use Prim.Native.Nat.{ℕ, _-_, _*_, _≤_, _<_, max}
 use native.Mathlib.Omega.{arith}
 use lib.ListN.{set, replicate}
 use Rattle.combinatorics.specs.Bursts.{placements, startsOf, coverRank}
-use Rattle.combinatorics.proofs.Cover.{lastEnd, greedyDown, greedy, greedy-placed, greedy-is}
+use Rattle.combinatorics.specs.Stretch.{lastEnd}
+use Rattle.combinatorics.proofs.Cover.{greedyDown, greedy, greedy-placed, greedy-is}
 use Rattle.combinatorics.proofs.Scan.{burstStart, leftmost, leftmost-none, leftmost-next, greedy-none, greedy-next, greedy-turned, burst-room}
 use Rattle.construction_a.specs.Figures.{maxBursts}
 use Rattle.construction_a.specs.Outcomes.{held}

@@ -6,8 +6,9 @@ use Prim.Native.Nat.{ℕ, _*_, _≤_}
 use lib.Dec.{ltb}
 use Rattle.combinatorics.specs.Bursts.{apart, placements, startsOf, coverRank}
 use Rattle.construction_a.specs.Figures.{maxWord, maxBursts}
-use Rattle.construction_a.specs.Outcomes.{Held, inUse, held, worn}
+use Rattle.construction_a.specs.Outcomes.{Held, inUse, held, worn, Covered}
 use Rattle.placements.specs.declared.Placement.{Placement}
+use Rattle.placements.specs.declared.CoverAnswer.{CoverAnswer}
 
 -- "A placement is held as six starts and the count in use."
 abbrev pub heldAs : Placement → Held
@@ -37,3 +38,7 @@ coverable n m b map = ltb (coverRank n m b (worn map)) (placements n m b)
 -- "the planner gives the placement of least rank whose runs cover every worn position"; no starts where none covers
 abbrev pub leastCover : ℕ → ℕ → ℕ → List ℕ → Held
 leastCover n m b map = cond (coverable n m b map) (held (startsOf n m b (coverRank n m b (worn map)))) (held [])
+
+-- the answer of covering, and the placement beside it
+abbrev pub coveredAs : CoverAnswer → Covered
+coveredAs c = record { answer = c .answer; placement = heldAs (c .placement) }

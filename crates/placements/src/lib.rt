@@ -1,17 +1,21 @@
 // Placements: which are valid, their rank, the placement of a rank, and the placement of least rank that covers a defect map. Assumes nothing.
 ghost use mathlib.Core.Path.{_≡_};
+ghost use mathlib.Core.Bool.{true};
 ghost use mathlib.Core.List.{[]};
 ghost use Prim.Native.Nat.{_+_, _-_, _≤_, _<_, max};
 ghost use lib.ListN.{length};
 ghost use Rattle.combinatorics.specs.Bursts.{apart, placements, rankOf, startsOf};
 ghost use Rattle.combinatorics.specs.Choose.{choose};
 ghost use Rattle.combinatorics.specs.Rank.{ways};
-ghost use Rattle.combinatorics.specs.Stretch.{top};
-ghost use Rattle.combinatorics.proofs.Cover.{lastEnd};
+ghost use Rattle.combinatorics.specs.Stretch.{top, lastEnd};
 ghost use Rattle.binomials.specs.Limits.{maxThings, maxChosen};
-ghost use Rattle.construction_a.specs.Figures.{maxWord, maxBursts};
-ghost use Rattle.construction_a.specs.Outcomes.{held, worn};
-ghost use Rattle.placements.specs.Bridge.{heldAs, startsIn, coverable, leastCover, Rankable, Room};
+ghost use Rattle.construction_a.specs.Figures.{maxWord, maxBursts, inRange, fits};
+ghost use Rattle.construction_a.specs.Outcomes.{held, worn, unplaced, coverOut};
+ghost use Rattle.params.specs.Bridge.{given};
+ghost use Rattle.placements.specs.Bridge.{heldAs, coveredAs, startsIn, coverable, leastCover, Rankable, Room};
+use params::Figures;
+use params::Params;
+use refusals::Refusal;
 
 // "A placement is held as six starts and the count in use." Starts past the count are 0 in an answer and unread in a call.
 pub struct Placement {
@@ -119,7 +123,57 @@ fn reduced_start(below: u64, number: u64, rank: u64) -> u64
     low
 }
 
-// The answer of covering: whether some placement covers the map, and the one of least rank that does.
+// The answer of covering, 0 or a refusal, and the placement beside it, with no starts where the answer is a refusal.
+pub struct CoverAnswer {
+    pub answer: u8,
+    pub placement: Placement,
+}
+
+// The placement of least rank whose bursts cover every defect of a map of n bytes, 1 where a position is defective and 0 elsewhere.
+// Refusals: 1 2 3 4 6.
+pub fn cover(figures: Params, map: &[u8]) -> CoverAnswer
+    ensures { λ r. ⌜ coveredAs r ≡ coverOut (given figures) (now (map .entry)) ⌝ }
+{
+    let answer = Params::figures(figures.n, figures.q, figures.m, figures.b);
+    match answer {
+        Figures::Refused(number) => uncovered(number),
+        Figures::Fit(_) => cover_fitting(figures, map),
+    }
+}
+
+// The same for figures that fit. Refusals: 3 4 6.
+fn cover_fitting(figures: Params, map: &[u8]) -> CoverAnswer
+    requires { ⌜ (inRange (given figures) ≡ true) × (fits (given figures) ≡ true) ⌝ }
+    ensures { λ r. ⌜ coveredAs r ≡ coverOut (given figures) (now (map .entry)) ⌝ }
+{
+    if map.len() != figures.n as usize {
+        return uncovered(Refusal::LENGTH);
+    }
+    if !symbols::all_below(map, 2) {
+        return uncovered(Refusal::SYMBOL);
+    }
+    let found = least_cover(figures.n, figures.m, figures.b, map);
+    if !found.covered {
+        return uncovered(Refusal::UNCOVERED);
+    }
+    let placement = found.placement;
+    CoverAnswer {
+        answer: Refusal::NONE,
+        placement,
+    }
+}
+
+// A refusal, with no placement.
+fn uncovered(number: u8) -> CoverAnswer
+    ensures { λ r. ⌜ coveredAs r ≡ unplaced number ⌝ }
+{
+    CoverAnswer {
+        answer: number,
+        placement: Placement::none(),
+    }
+}
+
+// Whether some placement covers the map, and the one of least rank that does.
 pub struct Covering {
     pub covered: bool,
     pub placement: Placement,

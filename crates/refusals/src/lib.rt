@@ -1,8 +1,8 @@
 // The refusal numbers of document 01, one name each. Assumes nothing.
 ghost use mathlib.Core.Path.{_≡_};
-ghost use Rattle.refusals.specs.Refusals.{refusals};
+ghost use Rattle.refusals.specs.Refusals.{served, invalid, unfit, wrongLength, badSymbol, badStarts, uncovered, noPattern, valueTooLarge, disagrees, badPayload, badRecord, jobCancelled, alreadyOpen, notOpen, tableFull, refusals};
 
-// What an entry point answers where it can't serve a call; 0 stands for an accepted call.
+// A refusal's number, and under this name the numbers themselves; 0 stands for an accepted call.
 pub struct Refusal {
     pub number: u8,
 }
@@ -42,9 +42,25 @@ impl Refusal {
 
     pub const FULL: u8 = 15;
 
-    // Both lists, in document 01's order: this ties the names here to those of specs/.
+    // Both lists, in document 01's order. Its contract ties each name here to that of specs/.
     pub fn all() -> [u8; 15]
-        ensures { λ r. ⌜ r ≡ refusals ⌝ }
+        ensures list { λ r. ⌜ r ≡ refusals ⌝ }
+        ensures { λ _. do ⌜ (← ⟦Refusal::NONE⟧ .entry) ≡ served ⌝ }
+        ensures { λ _. do ⌜ (← ⟦Refusal::INVALID⟧ .entry) ≡ invalid ⌝ }
+        ensures { λ _. do ⌜ (← ⟦Refusal::UNFIT⟧ .entry) ≡ unfit ⌝ }
+        ensures { λ _. do ⌜ (← ⟦Refusal::LENGTH⟧ .entry) ≡ wrongLength ⌝ }
+        ensures { λ _. do ⌜ (← ⟦Refusal::SYMBOL⟧ .entry) ≡ badSymbol ⌝ }
+        ensures { λ _. do ⌜ (← ⟦Refusal::STARTS⟧ .entry) ≡ badStarts ⌝ }
+        ensures { λ _. do ⌜ (← ⟦Refusal::UNCOVERED⟧ .entry) ≡ uncovered ⌝ }
+        ensures { λ _. do ⌜ (← ⟦Refusal::PATTERN⟧ .entry) ≡ noPattern ⌝ }
+        ensures { λ _. do ⌜ (← ⟦Refusal::VALUE⟧ .entry) ≡ valueTooLarge ⌝ }
+        ensures { λ _. do ⌜ (← ⟦Refusal::DISAGREES⟧ .entry) ≡ disagrees ⌝ }
+        ensures { λ _. do ⌜ (← ⟦Refusal::PAYLOAD⟧ .entry) ≡ badPayload ⌝ }
+        ensures { λ _. do ⌜ (← ⟦Refusal::RECORD⟧ .entry) ≡ badRecord ⌝ }
+        ensures { λ _. do ⌜ (← ⟦Refusal::CANCELLED⟧ .entry) ≡ jobCancelled ⌝ }
+        ensures { λ _. do ⌜ (← ⟦Refusal::ALREADY_OPEN⟧ .entry) ≡ alreadyOpen ⌝ }
+        ensures { λ _. do ⌜ (← ⟦Refusal::NOT_OPEN⟧ .entry) ≡ notOpen ⌝ }
+        ensures { λ _. do ⌜ (← ⟦Refusal::FULL⟧ .entry) ≡ tableFull ⌝ }
     {
         [
             Refusal::INVALID,

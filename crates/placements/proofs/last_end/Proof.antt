@@ -5,7 +5,7 @@ use native.Mathlib.Omega.{arith}
 use borrow.Author.Needs.{needs}
 use lib.ListN.{getD}
 use Rattle.combinatorics.proofs.Cases.{eqb-same, eqb-other}
-use Rattle.combinatorics.proofs.Cover.{lastEnd}
+use Rattle.combinatorics.specs.Stretch.{lastEnd}
 use Rattle.combinatorics.proofs.Scan.{last-none, last-here, last-before}
 use Rattle.construction_a.specs.Outcomes.{worn}
 use Rattle.placements.proofs.last_end.Statement.{statement}

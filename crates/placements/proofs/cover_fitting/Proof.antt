@@ -1,0 +1,74 @@
+-- `cover_fitting` meets its contract, refusal by refusal. Assumes nothing.
+use mathlib.Core.Path.{_≡_, sym, ap, ap₂, _∙_}
+use mathlib.Core.Bool.{Bool, true, false, cond}
+use native.Mathlib.Omega.{arith}
+use borrow.Author.Needs.{needs}
+use borrow.Author.Tests.{not-true, not-false}
+use Rattle.refusals.specs.Refusals.{served, uncovered as uncoveredNumber}
+use Rattle.construction_a.specs.Outcomes.{Held, Covered, held}
+use Rattle.construction_a.proofs.Figures.{serve}
+use Rattle.params.specs.Bridge.{given}
+use Rattle.placements.specs.Bridge.{coverable, leastCover}
+use Rattle.placements.proofs.Calls.{room-of, cover-length, cover-symbol, cover-none, cover-some}
+use Rattle.placements.proofs.cover_fitting.Statement.{statement}
+use Rattle.placements.proofs.cover_fitting.Tie as tie
+
+cast-if1 : tie.Need-cast-if1
+cast-if1 c = search needs
+
+uncovered-requires : tie.Need-uncovered-requires
+uncovered-requires c κs = search needs
+
+returns : tie.Need-returns
+returns c =
+    let s = c .before .before .before .before in
+    c .uncovered .ensures ∙ sym (cover-length (given (s .args .figures)) (s .args .map .now) (s .pre .0) (s .pre .1) (c .before .if1 .taken))
+
+all-below-requires : tie.Need-all-below-requires
+all-below-requires c κs = search needs
+
+uncovered-requires-2 : tie.Need-uncovered-requires-2
+uncovered-requires-2 c κs = search needs
+
+returns-2 : tie.Need-returns-2
+returns-2 c =
+    let s = c .before .before .before .before .before .before in
+    c .uncovered2 .ensures
+    ∙ sym (cover-symbol (given (s .args .figures)) (s .args .map .now) (s .pre .0) (s .pre .1) (c .before .before .before .if1 .left) (sym (c .before .before .all-below .ensures) ∙ not-true _ (c .before .if2 .taken)))
+
+least-cover-requires : tie.Need-least-cover-requires
+least-cover-requires c κs =
+    let s = c .before .before .before .before .before in
+    (room-of (given (s .args .figures)) (serve (given (s .args .figures)) (s .pre .0) (s .pre .1)), c .before .before .if1 .left)
+
+uncovered-requires-3 : tie.Need-uncovered-requires-3
+uncovered-requires-3 c κs = search needs
+
+returns-3 : tie.Need-returns-3
+returns-3 c =
+    let s = c .before .before .before .before .before .before .before .before .before in
+    c .uncovered3 .ensures
+    ∙ sym (cover-none (given (s .args .figures)) (s .args .map .now) (s .pre .0) (s .pre .1) (c .before .before .before .before .before .before .if1 .left)
+    (sym (c .before .before .before .before .before .all-below .ensures) ∙ not-false _ (c .before .before .before .before .if2 .left)) (sym (c .before .before .before .least-cover .ensures .0) ∙ not-true _ (c .before .if3 .taken)))
+
+returns-4 : tie.Need-returns-4
+returns-4 c =
+    let s = c .before .before .before .before .before .before .before .before .before in
+    ap {B = Covered} (λ (h : Held). record { answer = served; placement = h }) (c .before .before .before .least-cover .ensures .1)
+    ∙ sym (cover-some (given (s .args .figures)) (s .args .map .now) (s .pre .0) (s .pre .1) (c .before .before .before .before .before .before .if1 .left)
+    (sym (c .before .before .before .before .before .all-below .ensures) ∙ not-false _ (c .before .before .before .before .if2 .left)) (sym (c .before .before .before .least-cover .ensures .0) ∙ not-false _ (c .before .if3 .left)))
+
+pub cover-fitting-spec : {M : Type 1} → statement M
+cover-fitting-spec =
+    tie.close
+    (tie.spec
+    cast-if1
+    uncovered-requires
+    returns
+    all-below-requires
+    uncovered-requires-2
+    returns-2
+    least-cover-requires
+    uncovered-requires-3
+    returns-3
+    returns-4)
