@@ -1,13 +1,19 @@
 -- Laws of digits: a value below the span is spelled and read back, and so are stored digits in range. Assumes nothing.
 use mathlib.Core.Path.{_≡_, refl, sym, ap, ap₂, _∙_}
 use mathlib.Core.Logic.{_≢_}
+use mathlib.Core.Bool.{true}
 use mathlib.Core.List.{List, [], _∷_, _++_, tail, flatMap}
 use Prim.Native.Nat.{ℕ, zero, suc, _+_, _-_, _*_, _/_, _%_, _^_, _≤_, _<_}
 use native.Mathlib.Nat.{div-lt-iff-lt-mul, mod-lt, div-add-mod', pow-zero, pow-suc, pow-succ', mul-assoc, mul-mul-mul-comm, mul-comm, mul-pos, add-sub-cancel-left, mod-eq-of-lt, div-one, div-div-eq-div-mul, le-mul-of-pos-right}
 use native.Mathlib.Omega.{arith}
+use borrow.Author.Tests.{leb-true}
+use lib.Dec.{ltb}
 use lib.Arith.{digits-lt, digits-div, digits-mod, mod-mul}
 use lib.ListN.{length, getD, replicate, length-append, length-replicate}
+use Rattle.combinatorics.specs.Lists.{all, allBelow}
 use Rattle.combinatorics.specs.Stretch.{tabulate}
+use Rattle.combinatorics.proofs.Cases.{leb-holds}
+use Rattle.combinatorics.proofs.Lists.{both}
 use Rattle.combinatorics.proofs.Stretch.{Each}
 use Rattle.cells.specs.Digits.{Place, lead, plain, radix, offset, span, spell, value, places}
 
@@ -69,6 +75,11 @@ unfolding span
 span-group q zero rest = rw pow-zero (omega arith)
 span-group q (suc r) rest = rw (span-group q r rest, pow-succ') (sym (mul-assoc q (q ^ r) (span q rest)))
 
+pub span-plain : (q r : ℕ) → span q (replicate r plain) ≡ q ^ r
+unfolding span
+span-plain q zero = sym (pow-zero q)
+span-plain q (suc r) = rw (span-plain q r) (sym (pow-succ' q r))
+
 pub span-places : (q m r : ℕ) → span q (places m r) ≡ ((q - 1) * q ^ r) ^ m
 unfolding span places
 span-places q zero r = sym (pow-zero ((q - 1) * q ^ r))
@@ -89,6 +100,32 @@ mul-pow a b (suc m) =
 pub span-longer : (q m r : ℕ) → span q (places m (suc r)) ≡ span q (places m r) * q ^ m
 span-longer q m r =
     rw (span-places q m (suc r), span-places q m r, pow-suc q r, ← mul-assoc (q - 1) (q ^ r) q) (mul-pow ((q - 1) * q ^ r) q m)
+
+-- as many digits count as there are places
+pub value-front : (q : ℕ) (xs : List Place) (ds rest : List ℕ) → length ds ≡ length xs → value q xs (ds ++ rest) ≡ value q xs ds
+unfolding value
+value-front q [] [] rest e = refl
+value-front q [] (d ∷ ds) rest e = refl
+value-front q (x ∷ xs) [] rest e = absurd (omega arith)
+value-front q (x ∷ xs) (d ∷ ds) rest e = rw (value-front q xs ds rest (omega arith))
+
+-- over plain places, digits in range are symbols below q
+pub plain-spelled : (q w : ℕ) (ds : List ℕ) → length ds ≡ w → allBelow q ds ≡ true → Spelled q (replicate w plain) ds
+unfolding all
+plain-spelled q zero [] e h = tt
+plain-spelled q zero (d ∷ ds) e h = absurd (omega arith)
+plain-spelled q (suc w) [] e h = absurd (omega arith)
+plain-spelled q (suc w) (d ∷ ds) e h =
+    let b = both (ltb d q) (allBelow q ds) h in
+    let l : d < q = leb-true (suc d) q (b .0) in
+    (omega arith, omega arith, plain-spelled q w ds (omega arith) (b .1))
+
+pub spelled-plain : (q w : ℕ) (ds : List ℕ) → Spelled q (replicate w plain) ds → allBelow q ds ≡ true
+unfolding all
+spelled-plain q zero [] h = refl
+spelled-plain q zero (d ∷ ds) h = absurd h
+spelled-plain q (suc w) [] h = absurd h
+spelled-plain q (suc w) (d ∷ ds) (a, b, h) = rw (leb-holds (suc d) q (omega arith)) (spelled-plain q w ds h)
 
 -- ---- As a loop goes: from the left by Horner's rule, from the right by quotient and remainder
 

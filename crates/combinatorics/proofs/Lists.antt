@@ -1,15 +1,15 @@
 -- Laws of tests over a list. Assumes nothing.
 use mathlib.Core.Path.{_≡_, refl, sym, ap, ap₂, _∙_}
 use mathlib.Core.Bool.{Bool, true, false, _&&_, false≢true}
-use mathlib.Core.List.{List, [], _∷_, _++_}
+use mathlib.Core.List.{List, [], _∷_, _++_, flatMap}
 use Prim.Native.Nat.{ℕ, zero, suc, _+_, _≤_, _<_}
 use native.Mathlib.Numerals.{add-one}
 use native.Mathlib.Omega.{arith}
 use lib.Dec.{ltb, eqb}
-use lib.ListN.{length, getD, take, drop, set, drop-of-length-le}
+use lib.ListN.{length, getD, take, drop, set, replicate, drop-of-length-le}
 use lib.Seq.{take-all, take-suc, take-suc-set, drop-cons}
 use Rattle.combinatorics.specs.Lists.{all, allBelow, sameList}
-use Rattle.combinatorics.proofs.Cases.{by-le, by-eq, eqb-same, leb-holds}
+use Rattle.combinatorics.proofs.Cases.{by-le, by-eq, eqb-same, eqb-true, leb-holds}
 
 pub both : (a b : Bool) → (a && b) ≡ true → (a ≡ true) × (b ≡ true)
 both true b e = (refl, e)
@@ -64,3 +64,45 @@ fill-turn out t i h k e = rw (add-one i) (take-suc-set out i (getD t i 0) h ∙ 
 
 pub fill-done : (out t : List ℕ) (i : ℕ) → length out ≤ i → take i out ≡ take i t → length out ≡ i → out ≡ take (length out) t
 fill-done out t i h e l = sym (take-all i out h) ∙ e ∙ ap (λ (n : ℕ). take n t) (sym l)
+
+-- ---- A test of every element, over lists put together and taken apart
+
+module _ {A : Type 0} (t : A → Bool) where
+  pub all-append : (xs ys : List A) → all t xs ≡ true → all t ys ≡ true → all t (xs ++ ys) ≡ true
+  unfolding all
+  all-append [] ys h g = g
+  all-append (x ∷ xs) ys h g = let b = both (t x) (all t xs) h in rw (b .0) (all-append xs ys (b .1) g)
+
+  pub all-take : (n : ℕ) (xs : List A) → all t xs ≡ true → all t (take n xs) ≡ true
+  unfolding all
+  all-take zero xs h = refl
+  all-take (suc n) [] h = refl
+  all-take (suc n) (x ∷ xs) h = let b = both (t x) (all t xs) h in rw (b .0) (all-take n xs (b .1))
+
+  pub all-drop : (n : ℕ) (xs : List A) → all t xs ≡ true → all t (drop n xs) ≡ true
+  unfolding all
+  all-drop zero xs h = h
+  all-drop (suc n) [] h = refl
+  all-drop (suc n) (x ∷ xs) h = all-drop n xs (both (t x) (all t xs) h .1)
+
+  pub all-replicate : (n : ℕ) (a : A) → t a ≡ true → all t (replicate n a) ≡ true
+  unfolding all
+  all-replicate zero a h = refl
+  all-replicate (suc n) a h = rw h (all-replicate n a h)
+
+  -- where each x that passes one test gives a list that passes the other
+  pub all-flat : {B : Type 0} (s : B → Bool) (g : B → List A) → ((x : B) → s x ≡ true → all t (g x) ≡ true)
+      → (xs : List B) → all s xs ≡ true → all t (flatMap g xs) ≡ true
+  unfolding all flatMap
+  all-flat s g each [] h = refl
+  all-flat s g each (x ∷ xs) h =
+      let b = both (s x) (all s xs) h in
+      all-append (g x) (flatMap g xs) (each x (b .0)) (all-flat s g each xs (b .1))
+
+-- a list of one number alone
+pub all-same : (a : ℕ) (xs : List ℕ) → all (λ x. eqb x a) xs ≡ true → xs ≡ replicate (length xs) a
+unfolding all
+all-same a [] h = refl
+all-same a (x ∷ xs) h =
+    let b = both (eqb x a) (all (λ x. eqb x a) xs) h in
+    ap₂ {C = List ℕ} _∷_ (eqb-true x a (b .0)) (all-same a xs (b .1))

@@ -1,0 +1,182 @@
+-- Demand 3 holds: for every exact codec, and so for Construction A. Assumes nothing.
+use mathlib.Core.Path.{_≡_, refl, sym, ap, _∙_}
+use mathlib.Core.Bool.{Bool, true, false, _&&_, true≢false}
+use mathlib.Core.List.{List, []}
+use mathlib.Core.Option.{Option, none, some}
+use Prim.Native.Nat.{ℕ, _≤_}
+use native.Mathlib.Omega.{arith}
+use lib.ListN.{length}
+use Rattle.refusals.specs.Refusals.{served, jobCancelled, notOpen, badPayload}
+use Rattle.combinatorics.specs.Lists.{any}
+use Rattle.combinatorics.proofs.Cases.{eqb-same}
+use Rattle.combinatorics.proofs.Lists.{both}
+use Rattle.cells.specs.Bytes.{payloadLen}
+use Rattle.cells.specs.Codec.{Reading, accepted, refused, Codec, Word, Exact}
+use Rattle.cells.proofs.Codec.{one-pair}
+use Rattle.construction_a.specs.Figures.{Params, inRange, fits}
+use Rattle.construction_a.specs.DemandTwo.{constructionA, Listed, no-pattern, too-large, disagreeing}
+use Rattle.construction_a.proofs.Figures.{ranged}
+use Rattle.construction_a.proofs.DemandTwo.{demand-two}
+use Rattle.jobs.specs.declared.Entry.{Entry}
+use Rattle.jobs.specs.Jobs.{Kind, opening, cancelling, finishing, Call}
+use Rattle.jobs.specs.Table.{emptyTable, answersFrom, tableFrom}
+use Rattle.jobs.specs.Ledger.{newest, statusAfter, status, ledgerFrom, acceptedBy}
+use Rattle.jobs.specs.Simulation.{Agrees, Follows}
+use Rattle.jobs.proofs.Simulates.{simulation-from-empty, accepted-by}
+use Rattle.jobcodec.specs.Payload.{carriesJob, jobNumber, messageOf, payloadIn, spellsPayload}
+use Rattle.jobcodec.specs.JobWrite.{whereOpen}
+use Rattle.jobcodec.specs.JobRead.{JobRead, handOut, withhold, jobIn, jobReading, jobReadOut}
+use Rattle.jobcodec.specs.DemandThree.{Gives, OnlyPair, BothFacts, isRefusal, HandsOut, Claim, DemandThree}
+use Rattle.jobcodec.proofs.Examples.{figures, wordWith, buffer, opened, computed}
+use Rattle.jobcodec.proofs.Payload.{payload-back, payload-passes, payload-is, message-is}
+
+-- ---- Pairs, under any exact codec
+
+module _ (c : Codec) (exact : Exact c) (two : 2 ≤ c .alphabet) (w : List ℕ) (found : Word c w) where
+  -- the pair that gives a word is what is read from it
+  pub read-pair : (starts y : List ℕ) → Gives c w starts y → c .decode w ≡ accepted starts (messageOf (c .alphabet) (c .messageLen) y)
+  read-pair starts y g = exact w starts (messageOf (c .alphabet) (c .messageLen) y) found .1 (g .leads)
+
+  pub pair-read : (starts ms : List ℕ) → c .decode w ≡ accepted starts ms → spellsPayload (c .alphabet) (c .messageLen) ms ≡ true
+      → Gives c w starts (payloadIn (c .alphabet) (c .messageLen) ms)
+  pair-read starts ms e t =
+      let l = exact w starts ms found .0 e in
+      record { whole = payload-is (c .alphabet) (c .messageLen) ms t; leads = rw (message-is (c .alphabet) (c .messageLen) two ms (l .count) (l .symbols) t) l }
+
+  -- at most one pair gives a word
+  pub only-pair : (starts y : List ℕ) → Gives c w starts y → OnlyPair c w starts y
+  only-pair starts y g =
+      let q = c .alphabet in
+      let k = c .messageLen in
+      record {
+        gives = g;
+        no-other = λ starts′ y′ g′.
+            let p = one-pair c exact w starts′ (messageOf q k y′) starts (messageOf q k y) found (g′ .leads) (g .leads) in
+            (p .0, sym (payload-back q k two y′ (g′ .whole)) ∙ ap (payloadIn q k) (p .1) ∙ payload-back q k two y (g .whole));
+      }
+
+-- ---- What is handed out
+
+pub not-served : {P : Type 0} (a : ℕ) → isRefusal a ≡ true → a ≡ served → P
+unfolding isRefusal any
+not-served a r e = absurd (true≢false (sym r ∙ ap isRefusal e))
+
+module _ (c : Codec) (h : List Call) (w out : List ℕ) where
+  -- no pair gives the word
+  none-gives : ((starts y : List ℕ) → Gives c w starts y → ⊥) → (a : ℕ) → isRefusal a ≡ true → HandsOut c h w out (withhold out a)
+  none-gives no-pair a r =
+      record {
+        exactly = (not-served a r, λ u. absurd (no-pair (u .0) (u .1) (u .2 .only .gives)));
+        hands = λ starts y u. absurd (no-pair starts y (u .only .gives));
+        otherwise = λ _. (a, r, refl);
+        after-cancelling = λ starts y u _. absurd (no-pair starts y (u .gives));
+        after-finishing = λ starts y u _. absurd (no-pair starts y (u .gives));
+        never-called = λ starts y u _. absurd (no-pair starts y (u .gives));
+      }
+
+  -- one pair does, and the table stands for the calls: the newest of them on its number decides
+  module _ (starts y : List ℕ) (only : OnlyPair c w starts y) (r : JobRead) (is : r ≡ whereOpen (status h (jobNumber y)) (withhold out) (handOut y)) where
+    by-newest : (o : Option Kind) → newest h (jobNumber y) ≡ o → r ≡ whereOpen (statusAfter o) (withhold out) (handOut y)
+    unfolding status
+    by-newest o e = is ∙ ap (λ (x : Option Kind). whereOpen (statusAfter x) (withhold out) (handOut y)) e
+
+    same-newest : (starts′ y′ : List ℕ) (o : Option Kind) → Gives c w starts′ y′ → newest h (jobNumber y′) ≡ o → newest h (jobNumber y) ≡ o
+    same-newest starts′ y′ o g e = sym (ap (λ (z : List ℕ). newest h (jobNumber z)) (only .no-other starts′ y′ g .1)) ∙ e
+
+    handed : (starts′ y′ : List ℕ) → BothFacts c h w starts′ y′ → r ≡ handOut y′
+    handed starts′ y′ u =
+        by-newest (some opening) (same-newest starts′ y′ (some opening) (u .only .gives) (u .opened)) ∙ ap handOut (sym (only .no-other starts′ y′ (u .only .gives) .1))
+
+    -- the second fact holds, or a refusal says that it does not
+    decided : {P : Type 0} (o : Option Kind) → newest h (jobNumber y) ≡ o → (BothFacts c h w starts y → P)
+        → ((a : ℕ) → isRefusal a ≡ true → r ≡ withhold out a → P) → P
+    unfolding isRefusal any
+    decided none e holds fails = fails notOpen refl (by-newest none e)
+    decided (some opening) e holds fails = holds (record { only = only; opened = e })
+    decided (some cancelling) e holds fails = fails jobCancelled refl (by-newest (some cancelling) e)
+    decided (some finishing) e holds fails = fails notOpen refl (by-newest (some finishing) e)
+
+    one-gives : HandsOut c h w out r
+    one-gives =
+        let last = newest h (jobNumber y) in
+        record {
+          exactly = (
+            λ e. decided last refl (λ u. (starts, y, u)) (λ a i d. not-served a i (sym (ap (λ (x : JobRead). x .answer) d) ∙ e)),
+            λ u. ap (λ (x : JobRead). x .answer) (handed (u .0) (u .1) (u .2)),
+          );
+          hands = handed;
+          otherwise = λ not-both. decided last refl (λ u. absurd (not-both starts y u)) (λ a i d. (a, i, d));
+          after-cancelling = λ starts′ y′ u e. by-newest (some cancelling) (same-newest starts′ y′ (some cancelling) (u .gives) e);
+          after-finishing = λ starts′ y′ u e. by-newest (some finishing) (same-newest starts′ y′ (some finishing) (u .gives) e);
+          never-called = λ starts′ y′ u e. by-newest none (same-newest starts′ y′ none (u .gives) e);
+        }
+
+-- ---- The job reading, under any exact codec whose refusals are document 01's
+
+module _ (c : Codec) (exact : Exact c) (two : 2 ≤ c .alphabet) (listed : (w : List ℕ) (a : ℕ) → c .decode w ≡ refused a → isRefusal a ≡ true)
+    (es : List Entry) (h : List Call) (g : Agrees es h) (w out : List ℕ) (found : Word c w) where
+  spelled : (starts ms : List ℕ) (b : Bool) → c .decode w ≡ accepted starts ms → spellsPayload (c .alphabet) (c .messageLen) ms ≡ b
+      → HandsOut c h w out (jobIn (c .alphabet) (c .messageLen) es out (accepted starts ms))
+  unfolding isRefusal any
+  spelled starts ms true e t =
+      let y = payloadIn (c .alphabet) (c .messageLen) ms in
+      rw (t, g .same (jobNumber y))
+      (one-gives c h w out starts y (only-pair c exact two w found starts y (pair-read c exact two w found starts ms e t))
+      (whereOpen (status h (jobNumber y)) (withhold out) (handOut y)) refl)
+  spelled starts ms false e t =
+      let q = c .alphabet in
+      let k = c .messageLen in
+      rw t
+      (none-gives c h w out
+      (λ starts′ y′ u.
+      let e′ = read-pair c exact two w found starts′ y′ u in
+      let m : messageOf q k y′ ≡ ms = cc in
+      true≢false (sym (payload-passes q k two y′ (u .whole)) ∙ ap (spellsPayload q k) m ∙ t))
+      badPayload refl)
+
+  by-reading : (d : Reading) → c .decode w ≡ d → HandsOut c h w out (jobIn (c .alphabet) (c .messageLen) es out d)
+  by-reading (accepted starts ms) e = spelled starts ms (spellsPayload (c .alphabet) (c .messageLen) ms) e refl
+  by-reading (refused a) e =
+      none-gives c h w out
+      (λ starts y u.
+      let e′ = read-pair c exact two w found starts y u in
+      let z : _≡_ {A = ℕ} 0 1 = cc in
+      omega arith)
+      a (listed w a e)
+
+  pub reading-hands-out : carriesJob (c .alphabet) (c .messageLen) ≡ true → length out ≡ payloadLen (c .alphabet) (c .messageLen)
+      → HandsOut c h w out (jobReading c es w out)
+  unfolding jobReading
+  reading-hands-out five lent =
+      rw (five, eqb-same (length w) (c .wordLen) (found .complete), eqb-same (length out) (payloadLen (c .alphabet) (c .messageLen)) lent, found .symbols)
+      (by-reading (c .decode w) refl)
+
+-- ---- Construction A
+
+listed-refusal : (f : Params) (w : List ℕ) (a : ℕ) → Listed f w a → isRefusal a ≡ true
+unfolding isRefusal any
+listed-refusal f w a (no-pattern _) = refl
+listed-refusal f w a (too-large _ _ _) = refl
+listed-refusal f w a (disagreeing _ _ _ _) = refl
+
+-- of what was seen of a list of calls, after whatever calls, and a job reading under the table after it
+pub follows-claim : (f : Params) (before calls : List Call) (answers : List ℕ) (es : List Entry) (w out : List ℕ) → Follows before calls answers es
+    → Claim (inRange f && fits f) (constructionA f) before calls w out answers (jobReadOut f es w out)
+unfolding jobReadOut
+follows-claim f before calls answers es w out follows =
+    record {
+      judged = follows .judged;
+      reading = λ p.
+          let fit = both (inRange f) (fits f) (p .figures) in
+          let two = demand-two f (fit .0) (fit .1) in
+          rw (follows .judged, accepted-by before calls, fit .0, fit .1, follows .agrees .once)
+          (reading-hands-out (constructionA f) (two .exactly) (ranged f (fit .0) .q-least) (λ w a e. listed-refusal f w a (two .listed w a .0 e))
+          es (ledgerFrom before calls) (follows .agrees) w out (p .found) (p .carries) (p .lent));
+    }
+
+pub demand-three : DemandThree
+demand-three f calls w out = follows-claim f [] calls (answersFrom emptyTable calls) (tableFrom emptyTable calls) w out (simulation-from-empty calls)
+
+-- it is not empty: both facts hold of the transfer example's word
+both-facts : (starts : List ℕ) × (y : List ℕ) × BothFacts (constructionA figures) (acceptedBy opened (answersFrom emptyTable opened) []) (wordWith 255) starts y
+both-facts = demand-three figures opened (wordWith 255) buffer .reading (computed .presented) .exactly .0 (computed .handed)

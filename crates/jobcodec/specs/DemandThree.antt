@@ -1,0 +1,87 @@
+-- Demand 3: after any list of calls on the job table, a job is handed out exactly when its word came from one pair of placement and payload and
+-- its last accepted call was an opening. The statement; its proof is `demand-three` of proofs/DemandThree.antt. Assumes nothing.
+use mathlib.Core.Path.{_≡_}
+use mathlib.Core.Logic.{_↔_}
+use mathlib.Core.Bool.{Bool, true, _&&_}
+use mathlib.Core.List.{List, []}
+use mathlib.Core.Option.{none, some}
+use Prim.Native.Nat.{ℕ}
+use lib.Dec.{eqb}
+use lib.ListN.{length}
+use Rattle.refusals.specs.Refusals.{served, jobCancelled, notOpen, refusals}
+use Rattle.combinatorics.specs.Lists.{any}
+use Rattle.cells.specs.Bytes.{payloadLen}
+use Rattle.cells.specs.Codec.{Codec, Word, LeadsTo}
+use Rattle.construction_a.specs.Figures.{Params, inRange, fits}
+use Rattle.construction_a.specs.DemandTwo.{constructionA}
+use Rattle.jobs.specs.Jobs.{opening, cancelling, finishing, Call}
+use Rattle.jobs.specs.Table.{emptyTable, answersFrom, tableFrom}
+use Rattle.jobs.specs.Ledger.{newest, verdictsFrom, acceptedBy}
+use Rattle.jobcodec.specs.Payload.{IsPayload, carriesJob, jobNumber, messageOf}
+use Rattle.jobcodec.specs.JobRead.{JobRead, handOut, withhold, jobReadOut}
+
+-- ---- The first fact, under any codec
+
+-- "A pair gives the word of its placement and of the message that spells its payload, leftovers 0", and w differs from it only inside the
+-- placement's bursts
+pub record Gives (c : Codec) (w starts payload : List ℕ) : Type 0 where
+  pub whole : IsPayload (c .alphabet) (c .messageLen) payload
+  pub leads : LeadsTo c w starts (messageOf (c .alphabet) (c .messageLen) payload)
+
+-- one pair does, and no other. "Placements whose m starts agree are one": a placement is the list of its starts.
+pub record OnlyPair (c : Codec) (w starts payload : List ℕ) : Type 0 where
+  pub gives : Gives c w starts payload
+  pub no-other : (starts′ payload′ : List ℕ) → Gives c w starts′ payload′ → (starts′ ≡ starts) × (payload′ ≡ payload)
+
+-- ---- Both facts, by the accepted calls, newest first: the newest on the payload's number is an opening
+
+pub record BothFacts (c : Codec) (calls : List Call) (w starts payload : List ℕ) : Type 0 where
+  pub only : OnlyPair c w starts payload
+  pub opened : newest calls (jobNumber payload) ≡ some opening
+
+-- a number of document 01's lists
+unfoldable pub isRefusal : ℕ → Bool
+isRefusal a = any (eqb a) refusals
+
+-- what a job reading of w after those calls is to be
+pub record HandsOut (c : Codec) (calls : List Call) (w out : List ℕ) (r : JobRead) : Type 0 where
+  -- the job is handed out exactly when both facts hold
+  pub exactly : (r .answer ≡ served) ↔ ((starts : List ℕ) × (payload : List ℕ) × BothFacts c calls w starts payload)
+  -- and it is that payload
+  pub hands : (starts payload : List ℕ) → BothFacts c calls w starts payload → r ≡ handOut payload
+  -- otherwise it is refused, and the lent buffer keeps what it held
+  pub otherwise : ((starts payload : List ℕ) → BothFacts c calls w starts payload → ⊥) → (a : ℕ) × (isRefusal a ≡ true) × (r ≡ withhold out a)
+  -- "Where only the second fact fails, the refusal is 12 after a cancellation, 14 after a finishing or no accepted call."
+  pub after-cancelling : (starts payload : List ℕ) → OnlyPair c w starts payload → newest calls (jobNumber payload) ≡ some cancelling
+      → r ≡ withhold out jobCancelled
+  pub after-finishing : (starts payload : List ℕ) → OnlyPair c w starts payload → newest calls (jobNumber payload) ≡ some finishing
+      → r ≡ withhold out notOpen
+  pub never-called : (starts payload : List ℕ) → OnlyPair c w starts payload → newest calls (jobNumber payload) ≡ none
+      → r ≡ withhold out notOpen
+
+-- ---- The claim
+
+-- "A strip is complete at n symbols; buffers fit where refusal 3 doesn't apply": figures that fit and carry a job, a word of the length and
+-- symbols that can be found, and a buffer for the payload
+pub record Presented (fit : Bool) (c : Codec) (w out : List ℕ) : Type 0 where
+  pub figures : fit ≡ true
+  pub carries : carriesJob (c .alphabet) (c .messageLen) ≡ true
+  pub found : Word c w
+  pub lent : length out ≡ payloadLen (c .alphabet) (c .messageLen)
+
+-- "It is a single claim about the whole list and the job reading after it", of what was seen: the answers of the calls, and the outcome of the
+-- reading under the table that the last call handed back. `before` are the calls accepted earlier.
+pub record Claim (fit : Bool) (c : Codec) (before calls : List Call) (w out answers : List ℕ) (r : JobRead) : Type 0 where
+  -- "Each call answers as the ledger does, 0 for accepted."
+  pub judged : answers ≡ verdictsFrom before calls
+  pub reading : Presented fit c w out → HandsOut c (acceptedBy calls answers before) w out r
+
+-- the claim for Construction A, "in a ledger that begins with every number unknown"
+abbrev pub ClaimA : Params → List Call → List ℕ → List ℕ → List ℕ → JobRead → Type 0
+ClaimA f calls w out answers r = Claim (inRange f && fits f) (constructionA f) [] calls w out answers r
+
+-- for every list of calls, refused ones included, all figures, words and buffers
+abbrev pub DemandThree : Type 0
+DemandThree =
+    (f : Params) (calls : List Call) (w out : List ℕ)
+    → ClaimA f calls w out (answersFrom emptyTable calls) (jobReadOut f (tableFrom emptyTable calls) w out)

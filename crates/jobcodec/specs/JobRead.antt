@@ -1,0 +1,56 @@
+-- What job read answers, and what the lent payload holds afterwards, for every input. Assumes nothing.
+use mathlib.Core.Bool.{not, _&&_}
+use mathlib.Core.List.{List}
+use Prim.Native.Nat.{ℕ}
+use lib.Dec.{eqb}
+use lib.ListN.{length}
+use Rattle.refusals.specs.Refusals.{must, served, invalid, unfit, wrongLength, badSymbol, badPayload}
+use Rattle.combinatorics.specs.Lists.{allBelow}
+use Rattle.cells.specs.Bytes.{payloadLen}
+use Rattle.cells.specs.Codec.{Codec, Reading, accepted, refused}
+use Rattle.construction_a.specs.Figures.{Params, inRange, fits}
+use Rattle.construction_a.specs.DemandTwo.{constructionA}
+use Rattle.jobs.specs.declared.Entry.{Entry}
+use Rattle.jobs.specs.Table.{twice}
+use Rattle.jobcodec.specs.Payload.{carriesJob, payloadIn, spellsPayload}
+use Rattle.jobcodec.specs.JobWrite.{jobStatus, whereOpen}
+
+pub record JobRead : Type 0 where
+  pub answer : ℕ
+  pub payload : List ℕ
+
+-- "Handing out is an accepted job reading, and the lent K bytes are then that payload."
+abbrev pub handOut : List ℕ → JobRead
+handOut payload = record { answer = served; payload = payload }
+
+-- "Every refusal returns its number only; output buffers .. keep their contents."
+abbrev pub withhold : List ℕ → ℕ → JobRead
+withhold out a = record { answer = a; payload = out }
+
+-- ---- Under any codec with alphabet q and messages of k symbols
+
+-- "The job reader goes on only with an accepted word": 10, 12 and 14 are left to refuse with
+abbrev pub jobIn : ℕ → ℕ → List Entry → List ℕ → Reading → JobRead
+jobIn q k es out (refused a) = withhold out a
+jobIn q k es out (accepted ss ms) =
+    must (spellsPayload q k ms) (withhold out badPayload)
+    (whereOpen (jobStatus es (payloadIn q k ms)) (withhold out)
+    (handOut (payloadIn q k ms)))
+
+-- "10 for K, 3 4 7 8 9, 10, 12 14"
+unfoldable pub jobReading : Codec → List Entry → List ℕ → List ℕ → JobRead
+jobReading c es w out =
+    let q = c .alphabet in
+    let k = c .messageLen in
+    must (carriesJob q k) (withhold out badPayload)
+    (must (eqb (length w) (c .wordLen) && eqb (length out) (payloadLen q k)) (withhold out wrongLength)
+    (must (allBelow (c .found) w) (withhold out badSymbol)
+    (jobIn q k es out (c .decode w))))
+
+-- ---- Under Construction A: "job read 1 2, 10 for K, 3 4 7 8 9, 10, 12 14"
+
+unfoldable pub jobReadOut : Params → List Entry → List ℕ → List ℕ → JobRead
+jobReadOut f es w out =
+    must (inRange f && not (twice es)) (withhold out invalid)
+    (must (fits f) (withhold out unfit)
+    (jobReading (constructionA f) es w out))

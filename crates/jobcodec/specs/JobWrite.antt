@@ -1,0 +1,37 @@
+-- What job write answers, and what the lent word holds afterwards, for every input. "Job calls lend all K payload bytes, number included."
+-- Assumes nothing.
+use mathlib.Core.Bool.{not, _&&_}
+use mathlib.Core.List.{List}
+use Prim.Native.Nat.{ℕ}
+use lib.Dec.{eqb}
+use lib.ListN.{length}
+use Rattle.refusals.specs.Refusals.{must, served, invalid, unfit, wrongLength, badStarts, badPayload}
+use Rattle.combinatorics.specs.Bursts.{apart}
+use Rattle.cells.specs.Bytes.{payloadLen}
+use Rattle.construction_a.specs.Figures.{Params, inRange, fits, messageLen}
+use Rattle.construction_a.specs.Writing.{word}
+use Rattle.construction_a.specs.Outcomes.{Held, inUse, Encoded, unwritten}
+use Rattle.jobs.specs.declared.Entry.{Entry}
+use Rattle.jobs.specs.Jobs.{Status, needsOpen}
+use Rattle.jobs.specs.Table.{standing, lookup, twice}
+use Rattle.jobcodec.specs.Payload.{carriesJob, jobNumber, messageOf}
+
+-- what the table has of a payload's job number
+abbrev pub jobStatus : List Entry → List ℕ → Status
+jobStatus es payload = standing (lookup es (jobNumber payload))
+
+-- "Writing or reading a job requires it open and leaves the book unchanged": 12 and 14 are left to refuse with, and no table is handed back
+abbrev pub whereOpen : {A : Type 0} → Status → (ℕ → A) → A → A
+whereOpen s refuse rest = must (eqb (needsOpen s) served) (refuse (needsOpen s)) rest
+
+-- "job write 1 2 10 3 5 12 14"
+unfoldable pub jobWriteOut : Params → List Entry → Held → List ℕ → List ℕ → Encoded
+jobWriteOut f es at payload out =
+    let k = messageLen f in
+    must (inRange f && not (twice es)) (unwritten out invalid)
+    (must (fits f) (unwritten out unfit)
+    (must (carriesJob (f .q) k) (unwritten out badPayload)
+    (must (eqb (at .count) (f .m) && eqb (length payload) (payloadLen (f .q) k) && eqb (length out) (f .n)) (unwritten out wrongLength)
+    (must (apart (f .b) (f .n) 0 (inUse at)) (unwritten out badStarts)
+    (whereOpen (jobStatus es payload) (unwritten out)
+    (record { answer = served; word = word f (inUse at) (messageOf (f .q) k payload) }))))))

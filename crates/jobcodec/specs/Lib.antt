@@ -1,0 +1,4 @@
+pub mod Payload
+pub mod JobWrite
+pub mod JobRead
+pub mod DemandThree
