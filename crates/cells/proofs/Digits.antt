@@ -2,19 +2,20 @@
 use mathlib.Core.Path.{_≡_, refl, sym, ap, ap₂, _∙_}
 use mathlib.Core.Logic.{_≢_}
 use mathlib.Core.Bool.{true}
-use mathlib.Core.List.{List, [], _∷_, _++_, tail, flatMap}
-use Prim.Native.Nat.{ℕ, zero, suc, _+_, _-_, _*_, _/_, _%_, _^_, _≤_, _<_}
-use native.Mathlib.Nat.{div-lt-iff-lt-mul, mod-lt, div-add-mod', pow-zero, pow-suc, pow-succ', mul-assoc, mul-mul-mul-comm, mul-comm, mul-pos, add-sub-cancel-left, mod-eq-of-lt, div-one, div-div-eq-div-mul, le-mul-of-pos-right}
+use mathlib.Core.List.{List, [], _∷_, _++_, tail, flatMap, append-nil}
+use Prim.Native.Nat.{ℕ, zero, suc, _+_, _-_, _*_, _/_, _%_, _^_, _≤_, _<_, min}
+use native.Mathlib.Nat.{min-eq-left, min-eq-right, div-lt-iff-lt-mul, mod-lt, div-add-mod', pow-zero, pow-suc, pow-succ', mul-assoc, mul-mul-mul-comm, mul-comm, mul-pos, add-sub-cancel-left, mod-eq-of-lt, div-one, div-div-eq-div-mul, le-mul-of-pos-right}
 use native.Mathlib.Omega.{arith}
 use borrow.Author.Tests.{leb-true}
 use lib.Dec.{ltb}
 use lib.Arith.{digits-lt, digits-div, digits-mod, mod-mul}
-use lib.ListN.{length, getD, replicate, length-append, length-replicate}
+use lib.ListN.{length, getD, drop, replicate, length-append, length-replicate, List·getD-append}
+use lib.Seq.{drop-nil, drop-at}
 use Rattle.combinatorics.specs.Lists.{all, allBelow}
 use Rattle.combinatorics.specs.Stretch.{tabulate}
-use Rattle.combinatorics.proofs.Cases.{leb-holds}
+use Rattle.combinatorics.proofs.Cases.{leb-holds, by-le}
 use Rattle.combinatorics.proofs.Lists.{both}
-use Rattle.combinatorics.proofs.Stretch.{Each}
+use Rattle.combinatorics.proofs.Stretch.{Each, length-tabulate, tabulate-at}
 use Rattle.cells.specs.Digits.{Place, lead, plain, radix, offset, span, spell, value, places}
 
 -- stored digits that are in range
@@ -150,6 +151,48 @@ horner-grows q [] ds a h = omega arith
 horner-grows q (x ∷ xs) ds a h =
     omega (arith, le-mul-of-pos-right a (radix-pos q x h), horner-grows q xs (tail ds) (a * radix q x + (getD ds 0 0 - offset x)) h)
 
+-- ---- With a cap: a value that reached it on the way has reached it at the end
+
+span-some : (q : ℕ) (xs : List Place) → 2 ≤ q → 0 < span q xs
+unfolding span
+span-some q [] h = omega arith
+span-some q (x ∷ xs) h = mul-pos (radix-pos q x h) (span-some q xs h)
+
+pub horner-capped : (q : ℕ) (xs : List Place) (ds : List ℕ) (a cap : ℕ) → 2 ≤ q → min (horner q xs ds (min a cap)) cap ≡ min (horner q xs ds a) cap
+horner-capped q xs ds a cap h =
+    by-le a cap (λ _. min (horner q xs ds (min a cap)) cap ≡ min (horner q xs ds a) cap)
+    (λ l.
+    let e : min a cap ≡ a = min-eq-left l in
+    rw e)
+    (λ l.
+    let e : min a cap ≡ cap = min-eq-right {n = cap} {m = a} (omega arith) in
+    let up = horner-grows q xs ds cap h in
+    let far : cap ≤ horner q xs ds a = omega (arith, horner-grows q xs ds a h) in
+    rw (e, min-eq-right up, min-eq-right far))
+
+-- ---- Places of one list behind those of another
+
+tail-at : (ds : List ℕ) (i : ℕ) → getD (tail ds) i 0 ≡ getD ds (suc i) 0
+tail-at [] i = refl
+tail-at (d ∷ ds) i = refl
+
+tail-drop : (ds : List ℕ) (n : ℕ) → drop n (tail ds) ≡ drop (suc n) ds
+tail-drop [] n = drop-nil n
+tail-drop (d ∷ ds) n = refl
+
+pub horner-append : (q : ℕ) (xs ys : List Place) (ds : List ℕ) (a : ℕ) → horner q (xs ++ ys) ds a ≡ horner q ys (drop (length xs) ds) (horner q xs ds a)
+unfolding horner
+horner-append q [] ys ds a = refl
+horner-append q (x ∷ xs) ys ds a =
+    horner-append q xs ys (tail ds) (a * radix q x + (getD ds 0 0 - offset x)) ∙ (rw (tail-drop ds (length xs)))
+
+-- digits past the places are not read
+pub horner-same : (q : ℕ) (xs : List Place) (ds es : List ℕ) (a : ℕ) → ((i : ℕ) → i < length xs → getD ds i 0 ≡ getD es i 0) → horner q xs ds a ≡ horner q xs es a
+unfolding horner
+horner-same q [] ds es a h = refl
+horner-same q (x ∷ xs) ds es a h =
+    rw (h 0 (omega arith)) (horner-same q xs (tail ds) (tail es) (a * radix q x + (getD es 0 0 - offset x)) (λ i l. tail-at ds i ∙ h (suc i) (omega arith) ∙ sym (tail-at es i)))
+
 pub span-snoc : (q : ℕ) (xs : List Place) (x : Place) → span q (xs ++ (x ∷ [])) ≡ span q xs * radix q x
 unfolding span
 span-snoc q [] x = omega arith
@@ -183,6 +226,11 @@ unfolding spell
 length-spell q [] v = refl
 length-spell q (x ∷ xs) v = ap suc (length-spell q xs (v % span q xs))
 
+-- the first block's places, and the others'
+pub places-first : (m r : ℕ) → places (suc m) r ≡ places 1 r ++ places m r
+unfolding places
+places-first m r = rw (append-nil (replicate r plain))
+
 -- ---- Digits that stand in the first 1 + r positions of some blocks
 
 module _ (q r : ℕ) (s f : ℕ → ℕ) where
@@ -209,3 +257,17 @@ module _ (q r : ℕ) (s f : ℕ → ℕ) where
   heads-spelled (k ∷ ks) l h =
       let z : f (s k) ≢ 0 = h .0 in
       (omega arith, omega (arith, l (s k)), into-tail r (suc (s k)) (places (length ks) r) (flatMap (λ k. tabulate (suc r) (s k) f) ks) l (heads-spelled ks l (h .1)))
+
+  -- by Horner's rule from block to block
+  pub horner-blocks : (m k : ℕ) (ks ds : List ℕ) (a : ℕ) → ((i : ℕ) → i < suc r → getD ds i 0 ≡ f (s k + i))
+      → horner q (places (suc m) r) (flatMap (λ k. tabulate (suc r) (s k) f) (k ∷ ks)) a
+      ≡ horner q (places m r) (flatMap (λ k. tabulate (suc r) (s k) f) ks) (horner q (places 1 r) ds a)
+  unfolding flatMap
+  horner-blocks m k ks ds a h =
+      let here = tabulate (suc r) (s k) f in
+      let rest = flatMap (λ k. tabulate (suc r) (s k) f) ks in
+      let n : length here ≡ length (places 1 r) = length-tabulate (suc r) (s k) f ∙ omega (arith, length-places 1 r) in
+      rw (places-first m r, horner-append q (places 1 r) (places m r) (here ++ rest) a, drop-at here rest (length (places 1 r)) n)
+      (ap (horner q (places m r) rest)
+      (horner-same q (places 1 r) (here ++ rest) ds a
+      (λ i l. List·getD-append here rest 0 i (omega arith) ∙ tabulate-at (suc r) (s k) i f (omega (arith, length-places 1 r)) ∙ sym (h i (omega (arith, length-places 1 r))))))

@@ -8,9 +8,10 @@ use native.Mathlib.Nat.{add-zero, add-suc}
 use native.Mathlib.Numerals.{add-one}
 use native.Mathlib.Omega.{arith}
 use lib.Dec.{leb, eqb}
-use lib.ListN.{length, length-append}
+use lib.ListN.{length, getD, take, set, length-append}
+use lib.Seq.{getD-set-same, getD-set-other}
 use Rattle.combinatorics.specs.Stretch.{sum, bit, count, has, first, keepIf, members, tabulate, top}
-use Rattle.combinatorics.proofs.Cases.{by-le, by-eq, by-bool}
+use Rattle.combinatorics.proofs.Cases.{by-le, by-eq, by-bool, eqb-same, eqb-other}
 
 abbrev pub same : ℕ → ℕ
 same x = x
@@ -170,6 +171,16 @@ unfolding sum
 count-ext zero k w w′ h = refl
 count-ext (suc n) k w w′ h = rw (h k (omega arith) (omega arith), count-ext n (suc k) w w′ (λ x a b. h x (omega arith) (omega arith)))
 
+pub has-ext : (n k : ℕ) (w w′ : ℕ → Bool) → ((x : ℕ) → k ≤ x → x < k + n → w x ≡ w′ x) → has n k w ≡ has n k w′
+unfolding has
+has-ext zero k w w′ h = refl
+has-ext (suc n) k w w′ h = rw (h k (omega arith) (omega arith), has-ext n (suc k) w w′ (λ x a b. h x (omega arith) (omega arith)))
+
+pub members-ext : (n k : ℕ) (w w′ : ℕ → Bool) → ((x : ℕ) → k ≤ x → x < k + n → w x ≡ w′ x) → members n k w ≡ members n k w′
+unfolding members
+members-ext zero k w w′ h = refl
+members-ext (suc n) k w w′ h = rw (h k (omega arith) (omega arith), members-ext n (suc k) w w′ (λ x a b. h x (omega arith) (omega arith)))
+
 pub count-none : (n k : ℕ) (w : ℕ → Bool) → ((x : ℕ) → k ≤ x → x < k + n → w x ≡ false) → count n k w ≡ 0
 unfolding sum
 count-none zero k w h = refl
@@ -294,6 +305,15 @@ abbrev pub Each : (ℕ → Type 0) → List ℕ → Type 0
 Each P [] = Unit {0}
 Each P (x ∷ xs) = P x × Each P xs
 
+pub each-map : (P Q : ℕ → Type 0) → ((x : ℕ) → P x → Q x) → (xs : List ℕ) → Each P xs → Each Q xs
+each-map P Q f [] h = tt
+each-map P Q f (x ∷ xs) h = (f x (h .0), each-map P Q f xs (h .1))
+
+pub each-at : (P : ℕ → Type 0) (xs : List ℕ) (i : ℕ) → i < length xs → Each P xs → P (getD xs i 0)
+each-at P [] i l h = absurd (omega arith)
+each-at P (x ∷ xs) zero l h = h .0
+each-at P (x ∷ xs) (suc i) l h = each-at P xs i (omega arith) (h .1)
+
 each-head : (P : ℕ → Type 0) (b : Bool) (k : ℕ) (r : List ℕ) → b ≡ true → Each P (keepIf b k r) → P k
 each-head P true k r e h = h .0
 each-head P false k r e h = absurd (false≢true e)
@@ -349,3 +369,56 @@ first-over n i w h =
 
 pub count-on : (i : ℕ) (w : ℕ → Bool) → count (i + 1) 0 w ≡ count i 0 w + bit (w i)
 count-on i w = rw (add-one i) (sum-next i (λ x. bit (w x)))
+
+pub members-on : (i : ℕ) (w : ℕ → Bool) → members (i + 1) 0 w ≡ members i 0 w ++ keepIf (w i) i []
+unfolding members
+members-on i w =
+    let z : 0 + i ≡ i = omega arith in
+    rw z at (members-append i 1 0 w)
+
+-- ---- What stands in the list of a stretch
+
+-- each member, and what stands past the last, is below the stretch's end
+pub members-most : (n k x : ℕ) (w : ℕ → Bool) → 0 < k + n → getD (members n k w) x 0 < k + n
+unfolding members
+members-most zero k x w h = h
+members-most (suc n) k zero w h = by-bool (w k) (λ t. rw t (omega arith)) (λ t. rw t (omega (arith, members-most n (suc k) 0 w (omega arith))))
+members-most (suc n) k (suc x) w h =
+    by-bool (w k) (λ t. rw t (omega (arith, members-most n (suc k) x w (omega arith)))) (λ t. rw t (omega (arith, members-most n (suc k) (suc x) w (omega arith))))
+
+-- none is in the set where all are outside it
+pub none-has : (n k : ℕ) (w : ℕ → Bool) → not (has n k w) ≡ eqb (count n k (λ x. not (w x))) n
+unfolding has sum
+none-has zero k w = refl
+none-has (suc n) k w =
+    let c = count n (suc k) (λ x. not (w x)) in
+    by-bool (w k)
+    (λ t. rw t (sym (eqb-other (0 + c) (suc n) (omega (arith, count-le n (suc k) (λ x. not (w x)))))))
+    (λ t. rw t (none-has n (suc k) w
+    ∙ by-eq c n (λ b. b ≡ eqb (1 + c) (suc n)) (λ e. sym (eqb-same (1 + c) (suc n) (omega arith))) (λ f. sym (eqb-other (1 + c) (suc n) (omega arith)))))
+
+-- the first n of a list, by what stands at each place
+pub take-is : (n k : ℕ) (xs : List ℕ) (f : ℕ → ℕ) → n ≤ length xs → ((j : ℕ) → j < n → getD xs j 0 ≡ f (k + j)) → take n xs ≡ tabulate n k f
+unfolding tabulate
+take-is zero k xs f l h = refl
+take-is (suc n) k [] f l h = absurd (omega arith)
+take-is (suc n) k (x ∷ xs) f l h =
+    let z : k + 0 ≡ k = omega arith in
+    let e : x ≡ f k = rw z at (h 0 (omega arith)) in
+    rw e (ap {B = List ℕ} (λ r. f k ∷ r) (take-is n (suc k) xs f (omega arith)
+    (λ j g. h (suc j) (omega arith) ∙ ap f (let s : k + suc j ≡ suc k + j = omega arith in s))))
+
+pub tabulate-at : (n k i : ℕ) (f : ℕ → ℕ) → i < n → getD (tabulate n k f) i 0 ≡ f (k + i)
+unfolding tabulate
+tabulate-at zero k i f h = absurd (omega arith)
+tabulate-at (suc n) k zero f h = ap f (let s : k ≡ k + 0 = omega arith in s)
+tabulate-at (suc n) k (suc i) f h = tabulate-at n (suc k) i f (omega arith) ∙ ap f (let s : suc k + i ≡ k + suc i = omega arith in s)
+
+-- ---- A list that is filled from the left
+
+-- one place more has what is asked of it
+pub filled-on : (P : ℕ → ℕ → Type 0) (xs : List ℕ) (i v : ℕ) → i < length xs → ((x : ℕ) → x < i → P x (getD xs x 0)) → P i v
+    → (x : ℕ) → x < i + 1 → P x (getD (set xs i v) x 0)
+filled-on P xs i v l h p x g =
+    by-eq x i (λ _. P x (getD (set xs i v) x 0)) (λ e. rw (e, getD-set-same xs i v 0 l) p)
+    (λ f. rw (getD-set-other xs i x v 0 f) (h x (omega arith)))

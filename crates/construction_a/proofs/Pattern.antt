@@ -2,15 +2,17 @@
 -- look like, and the blocks that the reader takes never look F. Assumes nothing.
 use mathlib.Core.Path.{_≡_, refl, sym, ap, ap₂, _∙_, subst}
 use mathlib.Core.Logic.{_≢_}
-use mathlib.Core.Bool.{Bool, true, false, not, cond, _&&_, true≢false}
+use mathlib.Core.Bool.{Bool, true, false, not, cond, _||_, _&&_, or-true, or-false, true≢false}
 use mathlib.Core.List.{List, [], _∷_}
 use mathlib.Core.Option.{Option, none, some}
 use Prim.Native.Nat.{ℕ, zero, suc, _+_, _-_, _*_, _≤_, _<_}
+use native.Mathlib.Nat.{mul-le-mul-right}
 use native.Mathlib.Omega.{arith}
-use lib.Dec.{ltb, eqb}
+use lib.Dec.{leb, ltb, eqb}
+use lib.ListN.{length}
 use Rattle.combinatorics.specs.Stretch.{sum, count, has, first, keepIf, members, tabulate}
-use Rattle.combinatorics.proofs.Cases.{by-le, by-eq, by-bool, eqb-same, eqb-other, leb-holds}
-use Rattle.combinatorics.proofs.Stretch.{same, Each, at-or-past, some-false, has-none, has-some, members-none}
+use Rattle.combinatorics.proofs.Cases.{by-le, by-eq, by-bool, eqb-same, eqb-other, leb-holds, leb-fails}
+use Rattle.combinatorics.proofs.Stretch.{same, Each, each-map, at-or-past, some-false, has-none, has-some, has-ext, members-none, members-ext, length-tabulate}
 use Rattle.construction_a.specs.Writing.{next, row, Chosen, whole, oneEach, chosen, beside, isChosen}
 use Rattle.construction_a.specs.Reading.{later, bareParts, within, indexInPart, consBoth, collect, indexBy, indexFound}
 use Rattle.construction_a.proofs.Rule.{next-inner, next-last, next-lt, next-ne, one-at, one-only, by-chosen, blocksIn}
@@ -84,7 +86,7 @@ read-whole p m a B looks h l s o =
     rw (later-is p a w h l t f)
 
 -- one in each part
-collect-tabulate : (n k : ℕ) (g : ℕ → Option ℕ) (f : ℕ → ℕ) → ((x : ℕ) → k ≤ x → x < k + n → g x ≡ some (f x)) → collect n k g ≡ some (tabulate n k f)
+pub collect-tabulate : (n k : ℕ) (g : ℕ → Option ℕ) (f : ℕ → ℕ) → ((x : ℕ) → k ≤ x → x < k + n → g x ≡ some (f x)) → collect n k g ≡ some (tabulate n k f)
 unfolding collect tabulate
 collect-tabulate zero k g f o = refl
 collect-tabulate (suc n) k g f o = rw (o k (omega arith) (omega arith), collect-tabulate n (suc k) g f (λ x a b. o x (omega arith) (omega arith)))
@@ -207,3 +209,72 @@ later-gives n i (x ∷ y ∷ []) =
     (λ d. by-eq (suc y) n (λ t. cond t (some 0) none ≡ some i → Gives n (x ∷ y ∷ []) i)
     (λ z e. subst (Gives n (x ∷ y ∷ [])) (some-is 0 i e) (rw d (ends y z))) (λ _ e. not-some i e)) (λ _ e. not-some i e))
 later-gives n i (x ∷ y ∷ z ∷ r) = λ e. not-some i e
+
+-- ---- The pattern is read off the word's own blocks
+
+collect-ext : (n k : ℕ) (g h : ℕ → Option ℕ) → ((x : ℕ) → k ≤ x → x < k + n → g x ≡ h x) → collect n k g ≡ collect n k h
+unfolding collect
+collect-ext zero k g h e = refl
+collect-ext (suc n) k g h e = rw (e k (omega arith) (omega arith), collect-ext n (suc k) g h (λ x a b. e x (omega arith) (omega arith)))
+
+-- sets that agree on them show the same
+module _ (p m : ℕ) (a b : ℕ → Bool) (same-blocks : (k : ℕ) → k < p * m → a k ≡ b k) where
+  same-row : (i j : ℕ) → i < p → j < m → row m a i j ≡ row m b i j
+  same-row i j g h = same-blocks (i * m + j) (omega (arith, mul-le-mul-right m g))
+
+  same-bare : bareParts p m a ≡ bareParts p m b
+  unfolding bareParts
+  same-bare =
+      members-ext p 0 (λ i. not (has m 0 (row m a i))) (λ i. not (has m 0 (row m b i)))
+      (λ i _ g. ap not (has-ext m 0 (row m a i) (row m b i) (λ j _ h. same-row i j (omega arith) (omega arith))))
+
+  same-part : (i : ℕ) → i < p → indexInPart m a i ≡ indexInPart m b i
+  unfolding indexInPart
+  same-part i g =
+      ap (λ (xs : List ℕ). within m i (later m xs))
+      (members-ext m 0 (λ j. not (row m a i j)) (λ j. not (row m b i j)) (λ j _ h. ap not (same-row i j g (omega arith))))
+
+  same-by : (bare : List ℕ) (o : Option ℕ) → indexBy p m a bare o ≡ indexBy p m b bare o
+  same-by bare (some i) = refl
+  same-by [] none = ap (λ (y : Option (List ℕ)). cond (ltb 2 m) y none) (collect-ext p 0 (indexInPart m a) (indexInPart m b) (λ i _ g. same-part i (omega arith)))
+  same-by (x ∷ xs) none = refl
+
+  pub found-same : indexFound p m a ≡ indexFound p m b
+  unfolding indexFound
+  found-same = rw same-bare (same-by (bareParts p m b) (later p (bareParts p m b)))
+
+-- so the blocks that the reader takes are blocks of the word
+pub found-within : (p m : ℕ) (looks : ℕ → Bool) (ks : List ℕ) → indexFound p m looks ≡ some ks → Each (λ k. k < p * m) ks
+found-within p m looks ks e =
+    each-map (λ k. not (some-look k) ≡ true) (λ k. k < p * m)
+    (λ k. by-le (p * m) k (λ t. not (looks k || t) ≡ true → k < p * m) (λ _ h. absurd (true≢false (sym h ∙ ap not (or-true (looks k))))) (λ l _. l))
+    ks (taken-bare p m some-look ks (sym (found-same p m looks some-look agree) ∙ e))
+  where
+    -- what lies past the word looks F
+    some-look : ℕ → Bool
+    some-look k = looks k || leb (p * m) k
+
+    agree : (k : ℕ) → k < p * m → looks k ≡ (looks k || leb (p * m) k)
+    agree k l = rw (leb-fails (p * m) k l) (sym (or-false (looks k)))
+
+-- and there are m of them
+collect-length : (n k : ℕ) (g : ℕ → Option ℕ) (ks : List ℕ) → collect n k g ≡ some ks → length ks ≡ n
+unfolding collect
+collect-length zero k g ks = λ e. rw (← some-is [] ks e)
+collect-length (suc n) k g ks = go (g k) (collect n (suc k) g) (collect-length n (suc k) g)
+  where
+    go : (o : Option ℕ) (r : Option (List ℕ)) → ((ks : List ℕ) → r ≡ some ks → length ks ≡ n) → consBoth o r ≡ some ks → length ks ≡ suc n
+    go none r h e = not-some ks e
+    go (some x) none h e = not-some ks e
+    go (some x) (some xs) h e = rw (← some-is (x ∷ xs) ks e) (ap suc (h xs refl))
+
+pub found-count : (p m : ℕ) (looks : ℕ → Bool) (ks : List ℕ) → (2 < m → p ≡ m) → indexFound p m looks ≡ some ks → length ks ≡ m
+unfolding indexFound
+found-count p m looks ks alike = go (bareParts p m looks) (later p (bareParts p m looks))
+  where
+    go : (bare : List ℕ) (o : Option ℕ) → indexBy p m looks bare o ≡ some ks → length ks ≡ m
+    go bare (some i) = λ e. rw (← some-is (tabulate m (i * m) same) ks e) (length-tabulate m (i * m) same)
+    go [] none =
+        by-le 3 m (λ t. cond t (collect p 0 (indexInPart m looks)) none ≡ some ks → length ks ≡ m)
+        (λ l e. collect-length p 0 (indexInPart m looks) ks e ∙ alike l) (λ _ e. not-some ks e)
+    go (x ∷ xs) none = λ e. not-some ks e

@@ -1,0 +1,115 @@
+-- Laws of the value of index blocks, digit by digit and block by block, under a cap. Assumes nothing.
+use mathlib.Core.Path.{_≡_, sym, ap, _∙_}
+use mathlib.Core.Logic.{_≢_}
+use mathlib.Core.Bool.{false}
+use mathlib.Core.List.{List, [], _∷_, append-nil}
+use Prim.Native.Nat.{ℕ, suc, _+_, _-_, _*_, _≤_, _<_, min}
+use native.Mathlib.Numerals.{add-one}
+use native.Mathlib.Omega.{arith}
+use lib.ListN.{length, getD, take, drop, replicate}
+use lib.Seq.{drop-cons}
+use Rattle.combinatorics.proofs.Cases.{eqb-false}
+use Rattle.combinatorics.proofs.Loops.{left-next}
+use Rattle.cells.specs.Digits.{plain, span, value, places}
+use Rattle.cells.proofs.Digits.{horner, horner-is, horner-capped, horner-blocks}
+use Rattle.construction_a.specs.Figures.{Params, headOf, indexTail}
+use Rattle.construction_a.specs.Reading.{looksFixed, heads, written}
+
+-- ---- Digit by digit
+
+-- the lead digit of a block and its first i plain digits stand behind a value
+pub record Taken (q r cap high : ℕ) (block : List ℕ) (i v : ℕ) : Type 0 where
+  pub most : v ≤ cap
+  pub same : min (horner q (replicate (r - i) plain) (drop (i + 1) block) v) cap ≡ min (horner q (places 1 r) block high) cap
+
+module _ (q r cap high : ℕ) (h : 2 ≤ q) where
+  pub taken-lead : (block : List ℕ) → r < length block → Taken q r cap high block 0 (min (high * (q - 1) + (getD block 0 0 - 1)) cap)
+  unfolding horner places
+  taken-lead [] l = absurd (omega arith)
+  taken-lead (x ∷ xs) l =
+      let e : r - 0 ≡ r = omega arith in
+      record {
+        most = omega arith;
+        same = rw e (horner-capped q (replicate r plain) xs (high * (q - 1) + (x - 1)) cap h ∙ (rw (append-nil (replicate r plain))));
+      }
+
+  module _ (block : List ℕ) (i v : ℕ) where
+    one-digit : i < r → r < length block
+        → horner q (replicate (r - i) plain) (drop (i + 1) block) v ≡ horner q (replicate (r - (i + 1)) plain) (drop (i + 1 + 1) block) (v * q + getD block (i + 1) 0)
+    unfolding horner
+    one-digit l g =
+        let e : r - i ≡ suc (r - (i + 1)) = omega arith in
+        let k : i + 1 < length block = omega arith in
+        let z : getD block (i + 1) 0 - 0 ≡ getD block (i + 1) 0 = omega arith in
+        rw (e, drop-cons block (i + 1) 0 k, ← add-one (i + 1))
+        (ap (λ (y : ℕ). horner q (replicate (r - (i + 1)) plain) (drop (i + 1 + 1) block) (v * q + y)) z)
+
+    pub taken-plain : i < r → r < length block → Taken q r cap high block i v → Taken q r cap high block (i + 1) (min (v * q + getD block (i + 1) 0) cap)
+    taken-plain l g s =
+        record {
+          most = omega arith;
+          same = horner-capped q (replicate (r - (i + 1)) plain) (drop (i + 1 + 1) block) (v * q + getD block (i + 1) 0) cap h
+              ∙ ap (λ (y : ℕ). min y cap) (sym (one-digit l g)) ∙ s .same;
+        }
+
+    pub taken-all : r ≤ i → Taken q r cap high block i v → v ≡ min (high * span q (places 1 r) + value q (places 1 r) block) cap
+    unfolding horner
+    taken-all l s =
+        let e : r - i ≡ 0 = omega arith in
+        let all : min v cap ≡ min (horner q (places 1 r) block high) cap = rw e at (s .same) in
+        omega (arith, s .most, all, horner-is q (places 1 r) block high)
+
+-- ---- Block by block
+
+-- the digits of the first j of a list of blocks are taken in
+pub record Summed (f : Params) (w ks : List ℕ) (cap j v : ℕ) : Type 0 where
+  pub most : v ≤ cap
+  pub same : min (horner (f .q) (places (f .m - j) (indexTail f)) (heads f w (drop j (take (f .m) ks))) v) cap ≡ min (written f w (take (f .m) ks)) cap
+
+module _ (f : Params) (w ks : List ℕ) (cap : ℕ) (h : 2 ≤ f .q) where
+  pub summed-none : Summed f w ks cap 0 0
+  unfolding written
+  summed-none =
+      let e : f .m - 0 ≡ f .m = omega arith in
+      let hs = heads f w (take (f .m) ks) in
+      record {
+        most = omega arith;
+        same = rw e (ap (λ (y : ℕ). min y cap) (horner-is (f .q) (places (f .m) (indexTail f)) hs 0 ∙ omega arith));
+      }
+
+  module _ (j v : ℕ) where
+    one-block : (part : List ℕ) → j < f .m → f .m ≤ length ks → ((i : ℕ) → i < suc (indexTail f) → getD part i 0 ≡ getD w (headOf f (getD ks j 0) + i) 0)
+        → horner (f .q) (places (f .m - j) (indexTail f)) (heads f w (drop j (take (f .m) ks))) v
+        ≡ horner (f .q) (places (f .m - (j + 1)) (indexTail f)) (heads f w (drop (j + 1) (take (f .m) ks))) (horner (f .q) (places 1 (indexTail f)) part v)
+    unfolding heads
+    one-block part l g p =
+        let e : f .m - j ≡ suc (f .m - (j + 1)) = omega arith in
+        rw (e, left-next (f .m) j ks l g)
+        (horner-blocks (f .q) (indexTail f) (headOf f) (λ x. getD w x 0) (f .m - (j + 1)) (getD ks j 0) (drop (j + 1) (take (f .m) ks)) part v p)
+
+    pub summed-on : (part : List ℕ) → j < f .m → f .m ≤ length ks → ((i : ℕ) → i < suc (indexTail f) → getD part i 0 ≡ getD w (headOf f (getD ks j 0) + i) 0)
+        → Summed f w ks cap j v → Summed f w ks cap (j + 1) (min (v * span (f .q) (places 1 (indexTail f)) + value (f .q) (places 1 (indexTail f)) part) cap)
+    summed-on part l g p s =
+        let ps = places 1 (indexTail f) in
+        let rest = places (f .m - (j + 1)) (indexTail f) in
+        let hs = heads f w (drop (j + 1) (take (f .m) ks)) in
+        record {
+          most = omega arith;
+          same = rw (← horner-is (f .q) ps part v)
+              (horner-capped (f .q) rest hs (horner (f .q) ps part v) cap h ∙ ap (λ (y : ℕ). min y cap) (sym (one-block part l g p)) ∙ s .same);
+        }
+
+    pub summed-all : f .m ≤ j → Summed f w ks cap j v → v ≡ min (written f w (take (f .m) ks)) cap
+    unfolding horner places
+    summed-all l s =
+        let e : f .m - j ≡ 0 = omega arith in
+        let all : min v cap ≡ min (written f w (take (f .m) ks)) cap = rw e at (s .same) in
+        omega (arith, s .most, all)
+
+-- ---- Blocks that don't look F
+
+pub open-lead : (f : Params) (w : List ℕ) (k at : ℕ) → at ≡ headOf f k → looksFixed f w k ≡ false → 1 ≤ getD w at 0
+unfolding looksFixed
+open-lead f w k at e h =
+    let z : getD w (headOf f k) 0 ≢ 0 = eqb-false (getD w (headOf f k) 0) 0 h in
+    rw e (omega arith)

@@ -1,0 +1,4 @@
+pub mod Given
+pub mod Looks
+pub mod Patterns
+pub mod Written
