@@ -1,0 +1,5 @@
+pub mod Blocks
+pub mod Digits
+pub mod Given
+pub mod Walk
+pub mod Fill

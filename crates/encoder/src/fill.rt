@@ -1,0 +1,96 @@
+// Filling a word: every symbol is stored once, straight from the digits and the message, stretch by stretch.
+ghost use mathlib.Core.Path.{_≡_};
+ghost use mathlib.Core.Bool.{cond};
+ghost use Prim.Native.Nat.{_+_, _≤_};
+ghost use lib.Dec.{eqb};
+ghost use lib.ListN.{length, take, replicate};
+ghost use Rattle.cells.specs.Cells.{weave, content, Enough};
+ghost use Rattle.construction_a.specs.Figures.{maxWord};
+ghost use Rattle.construction_a.specs.Writing.{plan};
+ghost use Rattle.placements.specs.Bridge.{startsIn};
+ghost use Rattle.encoder.specs.Given.{figuresOf};
+ghost use Rattle.encoder.specs.Fill.{Fillable, DigitsFor};
+ghost use Rattle.encoder.specs.Walk.{KindsOf, cellNamed};
+use crate::blocks;
+use crate::walk;
+use params::Layout;
+use placements::Placement;
+
+// The cells of the word from left to right.
+pub fn fill_cells(
+    layout: Layout,
+    at: Placement,
+    kinds: &[u8; blocks::MAX_BLOCKS],
+    digits: &[u8],
+    message: &[u8],
+    word: &mut [u8],
+)
+    requires { ⌜ Fillable layout at (now message) (now word) × KindsOf (figuresOf layout) (startsIn at) (now kinds) × DigitsFor (figuresOf layout) (now digits) ⌝ }
+    ensures { λ _. ⌜ now (word .exit) ≡ weave (plan (figuresOf layout) (startsIn at)) (now (digits .entry)) (now (message .entry)) ⌝ }
+{
+    let mut here = walk::walk_from_start(layout, at);
+    let mut spelled: usize = 0;
+    let mut sent: usize = 0;
+    while here.at < layout.n {
+        let stretch = walk::next_stretch(layout, at, kinds, here);
+        let from = here.at;
+        let next = stretch.next;
+        let to = next.at;
+        fill_stretch(
+            &mut word[from..to],
+            stretch.kind,
+            &digits[spelled..],
+            &message[sent..],
+        );
+        spelled = taken(spelled, stretch.kind, walk::DIGIT_CELL, to - from);
+        sent = taken(sent, stretch.kind, walk::MESSAGE_CELL, to - from);
+        here = next;
+    }
+}
+
+// One stretch of cells of a kind: the next digits, the next of the message, or 0.
+fn fill_stretch(stretch: &mut [u8], kind: u8, digits: &[u8], message: &[u8])
+    requires { ⌜ Enough (cellNamed kind) (length (now stretch)) (now digits) (now message) ⌝ }
+    ensures { λ _. ⌜ now (stretch .exit) ≡ content (cellNamed kind) (length (now (stretch .entry))) (now (digits .entry)) (now (message .entry)) ⌝ }
+{
+    if kind <= walk::FIXED_CELL {
+        clear(stretch);
+    } else if kind == walk::DIGIT_CELL {
+        copy_next(stretch, digits);
+    } else {
+        copy_next(stretch, message);
+    }
+}
+
+// As many symbols as the stretch has.
+fn copy_next(stretch: &mut [u8], symbols: &[u8])
+    requires { ⌜ length (now stretch) ≤ length (now symbols) ⌝ }
+    ensures { λ _. ⌜ now (stretch .exit) ≡ take (length (now (stretch .entry))) (now (symbols .entry)) ⌝ }
+{
+    let mut i: usize = 0;
+    while i < stretch.len() {
+        stretch[i] = symbols[i];
+        i += 1;
+    }
+}
+
+fn clear(stretch: &mut [u8])
+    ensures { λ _. ⌜ now (stretch .exit) ≡ replicate (length (now (stretch .entry))) 0 ⌝ }
+{
+    let mut i: usize = 0;
+    while i < stretch.len() {
+        stretch[i] = 0;
+        i += 1;
+    }
+}
+
+// How many digits, or symbols of the message, are stored after a stretch of a kind.
+fn taken(so_far: usize, kind: u8, wanted: u8, len: usize) -> usize
+    requires { ⌜ «so_far» + len ≤ maxWord ⌝ }
+    ensures { λ r. ⌜ r ≡ «so_far» + cond (eqb kind wanted) len 0 ⌝ }
+{
+    if kind == wanted {
+        return so_far + len;
+    }
+    so_far
+}
