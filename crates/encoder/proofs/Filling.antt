@@ -1,15 +1,15 @@
 -- Laws of filling a word stretch by stretch. Assumes nothing.
-use mathlib.Core.Path.{_≡_, refl, sym, ap, ap₂, _∙_, subst}
+use mathlib.Core.Path.{_≡_, refl, sym, ap, _∙_, subst}
 use mathlib.Core.Logic.{_≢_}
-use mathlib.Core.Bool.{Bool, true, false, cond}
-use mathlib.Core.List.{List, [], _∷_, _++_, append-assoc}
+use mathlib.Core.Bool.{cond}
+use mathlib.Core.List.{List, _++_, append-assoc}
 use Prim.Native.Nat.{ℕ, zero, suc, _+_, _-_, _*_, _≤_, _<_}
 use native.Mathlib.Omega.{arith}
 use lib.Dec.{eqb}
 use lib.ListN.{length, take, drop, replicate, length-append, length-drop, length-replicate}
 use lib.Seq.{take-all, take-at, length-take-le}
 use borrow.Rule.Slice.PartMut.{putMid, post-is}
-use Rattle.combinatorics.proofs.Cases.{by-eq, eqb-same, eqb-other}
+use Rattle.combinatorics.proofs.Cases.{eqb-other}
 use Rattle.combinatorics.specs.Stretch.{tabulate}
 use Rattle.combinatorics.proofs.Stretch.{count-le}
 use Rattle.cells.specs.Cells.{Cell, burst, fixed, digit, message, is, weave, content, Enough}
@@ -19,7 +19,7 @@ use Rattle.construction_a.specs.Figures.{Params, indexTail, messageLen}
 use Rattle.construction_a.specs.Writing.{kindAt}
 use Rattle.construction_a.proofs.Figures.{Served}
 use Rattle.construction_a.proofs.Plan.{digit-count, message-cells}
-use Rattle.encoder.specs.Walk.{cellNamed}
+use Rattle.stretches.specs.Walk.{cellNamed}
 
 -- ---- A kind of cell from its number
 

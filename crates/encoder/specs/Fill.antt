@@ -6,7 +6,8 @@ use lib.ListN.{length}
 use Rattle.construction_a.specs.Figures.{Params, indexTail, messageLen}
 use Rattle.params.specs.declared.Layout.{Layout}
 use Rattle.placements.specs.declared.Placement.{Placement}
-use Rattle.encoder.specs.Given.{figuresOf, Placing}
+use Rattle.params.specs.Given.{figuresOf}
+use Rattle.placements.specs.Bridge.{Placing}
 
 -- a placement, a message and room for the word
 pub record Fillable (l : Layout) (at : Placement) (ms out : List ℕ) : Type 0 where

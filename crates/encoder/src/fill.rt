@@ -8,11 +8,9 @@ ghost use Rattle.cells.specs.Cells.{weave, content, Enough};
 ghost use Rattle.construction_a.specs.Figures.{maxWord};
 ghost use Rattle.construction_a.specs.Writing.{plan};
 ghost use Rattle.placements.specs.Bridge.{startsIn};
-ghost use Rattle.encoder.specs.Given.{figuresOf};
+ghost use Rattle.params.specs.Given.{figuresOf};
 ghost use Rattle.encoder.specs.Fill.{Fillable, DigitsFor};
-ghost use Rattle.encoder.specs.Walk.{KindsOf, cellNamed};
-use crate::blocks;
-use crate::walk;
+ghost use Rattle.stretches.specs.Walk.{KindsOf, cellNamed};
 use params::Layout;
 use placements::Placement;
 
@@ -20,7 +18,7 @@ use placements::Placement;
 pub fn fill_cells(
     layout: Layout,
     at: Placement,
-    kinds: &[u8; blocks::MAX_BLOCKS],
+    kinds: &[u8; Layout::MAX_BLOCKS],
     digits: &[u8],
     message: &[u8],
     word: &mut [u8],
@@ -28,11 +26,11 @@ pub fn fill_cells(
     requires { ⌜ Fillable layout at (now message) (now word) × KindsOf (figuresOf layout) (startsIn at) (now kinds) × DigitsFor (figuresOf layout) (now digits) ⌝ }
     ensures { λ _. ⌜ now (word .exit) ≡ weave (plan (figuresOf layout) (startsIn at)) (now (digits .entry)) (now (message .entry)) ⌝ }
 {
-    let mut here = walk::walk_from_start(layout, at);
+    let mut here = stretches::walk_from_start(layout, at);
     let mut spelled: usize = 0;
     let mut sent: usize = 0;
     while here.at < layout.n {
-        let stretch = walk::next_stretch(layout, at, kinds, here);
+        let stretch = stretches::next_stretch(layout, at, kinds, here);
         let from = here.at;
         let next = stretch.next;
         let to = next.at;
@@ -42,8 +40,8 @@ pub fn fill_cells(
             &digits[spelled..],
             &message[sent..],
         );
-        spelled = taken(spelled, stretch.kind, walk::DIGIT_CELL, to - from);
-        sent = taken(sent, stretch.kind, walk::MESSAGE_CELL, to - from);
+        spelled = taken(spelled, stretch.kind, stretches::DIGIT_CELL, to - from);
+        sent = taken(sent, stretch.kind, stretches::MESSAGE_CELL, to - from);
         here = next;
     }
 }
@@ -53,9 +51,9 @@ fn fill_stretch(stretch: &mut [u8], kind: u8, digits: &[u8], message: &[u8])
     requires { ⌜ Enough (cellNamed kind) (length (now stretch)) (now digits) (now message) ⌝ }
     ensures { λ _. ⌜ now (stretch .exit) ≡ content (cellNamed kind) (length (now (stretch .entry))) (now (digits .entry)) (now (message .entry)) ⌝ }
 {
-    if kind <= walk::FIXED_CELL {
+    if kind <= stretches::FIXED_CELL {
         clear(stretch);
-    } else if kind == walk::DIGIT_CELL {
+    } else if kind == stretches::DIGIT_CELL {
         copy_next(stretch, digits);
     } else {
         copy_next(stretch, message);

@@ -1,3 +1,4 @@
 pub mod Capped
 pub mod Laying
 pub mod Answered
+pub mod Fitting

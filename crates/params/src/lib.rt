@@ -156,6 +156,9 @@ impl Params {
 }
 
 impl Layout {
+    // The most blocks that a word can have.
+    pub const MAX_BLOCKS: usize = 36;
+
     // The block that has position x.
     pub fn block_of(self, x: usize) -> usize
         requires { ⌜ HasPosition self x ⌝ }

@@ -1,3 +1,4 @@
 pub mod Filling
 pub mod Scanning
 pub mod Calls
+pub mod Placing

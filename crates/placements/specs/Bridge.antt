@@ -5,8 +5,10 @@ use mathlib.Core.List.{List, []}
 use Prim.Native.Nat.{ℕ, _*_, _≤_}
 use lib.Dec.{ltb}
 use Rattle.combinatorics.specs.Bursts.{apart, placements, startsOf, coverRank}
-use Rattle.construction_a.specs.Figures.{maxWord, maxBursts}
+use Rattle.construction_a.specs.Figures.{maxWord, maxBursts, isPlacement}
 use Rattle.construction_a.specs.Outcomes.{Held, inUse, held, worn, Covered}
+use Rattle.params.specs.Given.{figuresOf, Fitting}
+use Rattle.params.specs.declared.Layout.{Layout}
 use Rattle.placements.specs.declared.Placement.{Placement}
 use Rattle.placements.specs.declared.CoverAnswer.{CoverAnswer}
 
@@ -42,3 +44,9 @@ leastCover n m b map = cond (coverable n m b map) (held (startsOf n m b (coverRa
 -- the answer of covering, and the placement beside it
 abbrev pub coveredAs : CoverAnswer → Covered
 coveredAs c = record { answer = c .answer; placement = heldAs (c .placement) }
+
+-- a placement of the bursts of a layout whose figures fit
+pub record Placing (l : Layout) (at : Placement) : Type 0 where
+  pub layout : Fitting l
+  pub count : at .count ≡ l .m
+  pub placed : isPlacement (figuresOf l) (startsIn at) ≡ true

@@ -1,22 +1,20 @@
 -- `fill_cells` meets its contract: the cells before the walk are filled. Assumes nothing.
-use mathlib.Core.Path.{_≡_, refl, sym, ap, _∙_, subst}
-use mathlib.Core.List.{List}
-use Prim.Native.Nat.{ℕ, _+_, _-_, _≤_}
+use mathlib.Core.Path.{_≡_, sym, _∙_, subst}
+use Prim.Native.Nat.{ℕ, _-_, _≤_}
 use native.Mathlib.Omega.{arith}
 use borrow.Author.Needs.{needs}
-use borrow.Rule.Slice.PartMut.{same-len-mid}
 use lib.ListN.{length}
 use Rattle.combinatorics.specs.Stretch.{tabulate}
 use Rattle.cells.specs.Cells.{Cell, digit, message as messageCell}
 use Rattle.cells.proofs.Walk.{tally}
-use Rattle.combinatorics.proofs.Bursts.{Placed}
 use Rattle.construction_a.specs.Figures.{Params, maxWord}
 use Rattle.construction_a.specs.Writing.{kindAt, plan}
 use Rattle.construction_a.proofs.Figures.{Served}
 use Rattle.placements.specs.Bridge.{startsIn}
-use Rattle.encoder.specs.Given.{figuresOf}
-use Rattle.encoder.specs.Walk.{Come}
-use Rattle.encoder.proofs.Bursting.{figures-serve, starts-placed, starts-count}
+use Rattle.params.specs.Given.{figuresOf}
+use Rattle.stretches.specs.Walk.{Come}
+use Rattle.params.proofs.Fitting.{served}
+use Rattle.placements.proofs.Placing.{starts-placed, starts-count}
 use Rattle.encoder.proofs.Filling.{Filled, filled-start, filled-done, spelled-most, part-enough, part-asks, part-turn, tally-most, digits-all, messages-all}
 use Rattle.encoder.proofs.fill.fill_cells.Statement.{statement}
 use Rattle.encoder.proofs.fill.fill_cells.Tie as tie
@@ -39,7 +37,7 @@ abbrev kd : Start → ℕ → Cell
 kd s = kindAt (f s) (startsIn (s .args .at))
 
 ok : (s : Start) → Served (f s)
-ok s = figures-serve (s .args .layout) (s .pre .0 .placing .layout)
+ok s = served (s .args .layout) (s .pre .0 .placing .layout)
 
 all-digits : (s : Start) → tally digit (tabulate (s .args .layout .n) 0 (kd s)) ≤ length (s .args .digits .now)
 all-digits s =

@@ -1,0 +1,43 @@
+-- What an array of block kinds stands for. Assumes nothing.
+use mathlib.Core.Path.{_≡_}
+use mathlib.Core.Bool.{Bool, cond}
+use mathlib.Core.List.{List}
+use Prim.Native.Nat.{ℕ, _≤_}
+use lib.Dec.{eqb}
+use lib.ListN.{getD}
+use Rattle.combinatorics.specs.Stretch.{count, first}
+use Rattle.construction_a.specs.Figures.{Params}
+use Rattle.construction_a.specs.Writing.{row, isBurst}
+
+abbrev pub fixedKind : ℕ
+fixedKind = 0
+
+abbrev pub burstKind : ℕ
+burstKind = 1
+
+abbrev pub indexKind : ℕ
+indexKind = 2
+
+-- the blocks marked as burst blocks, as a set
+unfoldable pub bursts : List ℕ → ℕ → Bool
+bursts kinds k = eqb (getD kinds k 0) burstKind
+
+-- how many blocks of part i are in a set, and the first part with so many
+unfoldable pub partCount : ℕ → (ℕ → Bool) → ℕ → ℕ
+partCount m B i = count m 0 (row m B i)
+
+unfoldable pub firstPart : ℕ → ℕ → (ℕ → Bool) → ℕ → ℕ
+firstPart p m B wanted = first p 0 (λ i. eqb (partCount m B i) wanted)
+
+-- a block's kind by what it is
+abbrev pub kindOf : Bool → Bool → ℕ
+kindOf isIndex isBurst = cond isIndex indexKind (cond isBurst burstKind fixedKind)
+
+-- an array with the blocks of a set marked as index blocks
+unfoldable pub marked : (ℕ → Bool) → List ℕ → ℕ → ℕ
+marked I kinds k = cond (I k) indexKind (getD kinds k 0)
+
+-- the burst blocks of a placement marked, and no others
+pub record BurstsOf (f : Params) (ss kinds : List ℕ) : Type 0 where
+  pub set : bursts kinds ≡ isBurst f ss
+  pub two : (k : ℕ) → getD kinds k 0 ≤ burstKind

@@ -1,0 +1,186 @@
+// Which blocks of a word are fixed, burst and index blocks (document 01's F, B and I), in an array by value. Assumes nothing.
+ghost use mathlib.Core.Path.{_≡_};
+ghost use mathlib.Core.Bool.{not};
+ghost use Prim.Native.Nat.{ℕ, _+_, _*_, _≤_, _<_};
+ghost use lib.ListN.{getD, set};
+ghost use Rattle.combinatorics.specs.Stretch.{count, first};
+ghost use Rattle.construction_a.specs.Writing;
+ghost use Rattle.construction_a.specs.Figures.{blocks};
+ghost use Rattle.construction_a.specs.Writing.{next, becomes, Chosen, chosen, isIndexIn, isIndex, isBurst};
+ghost use Rattle.placements.specs.Bridge.{startsIn, Placing};
+ghost use Rattle.params.specs.Given.{maxBlocks, figuresOf};
+ghost use Rattle.blocks.specs.Blocks.{burstKind, bursts, partCount, firstPart, marked, kindOf, BurstsOf};
+use params::Layout;
+use placements::Placement;
+
+// A block's kind as a number.
+pub const FIXED: u8 = 0;
+
+pub const BURST: u8 = 1;
+
+pub const INDEX: u8 = 2;
+
+// The kind of each block of a placement's word.
+pub fn kinds_of(layout: Layout, at: Placement) -> [u8; Layout::MAX_BLOCKS]
+    requires { ⌜ Placing layout at ⌝ }
+    ensures { λ r. ⌜ ((k : ℕ) → k < blocks (figuresOf layout) → getD r k 0 ≡ kindOf (isIndex (figuresOf layout) (startsIn at) k) (isBurst (figuresOf layout) (startsIn at) k)) ⌝ }
+{
+    with_index(burst_kinds(layout, at), layout.parts, layout.m)
+}
+
+// The burst blocks alone: bursts are taken from left to right.
+fn burst_kinds(layout: Layout, at: Placement) -> [u8; Layout::MAX_BLOCKS]
+    requires { ⌜ Placing layout at ⌝ }
+    ensures { λ r. ⌜ BurstsOf (figuresOf layout) (startsIn at) r ⌝ }
+{
+    let blocks = layout.parts * layout.m;
+    let mut kinds = [FIXED; Layout::MAX_BLOCKS];
+    let mut j: usize = 0;
+    while j < layout.m {
+        let s = at.starts[j];
+        let start = s as usize;
+        let last = layout.block_of(start + layout.b - 1);
+        let next = with_burst(kinds, blocks, last);
+        kinds = next;
+        j += 1;
+    }
+    kinds
+}
+
+// The kinds with the index blocks marked, by the three cases of the rule.
+fn with_index(kinds: [u8; Layout::MAX_BLOCKS], parts: usize, m: usize) -> [u8; Layout::MAX_BLOCKS]
+    requires { ⌜ (0 < m) × (parts * m ≤ maxBlocks) × (parts ≤ maxBlocks) × (m ≤ maxBlocks) ⌝ }
+    ensures { λ r. ⌜ ((k : ℕ) → k < parts * m → getD r k 0 ≡ marked (isIndexIn m (bursts kinds) (chosen parts m (bursts kinds))) kinds k) ⌝ }
+{
+    let full = part_with(kinds, parts, m, m);
+    if full < parts {
+        return with_part(kinds, m, following(parts, full));
+    }
+    let bare = part_with(kinds, parts, m, 0);
+    if bare < parts {
+        return with_part(kinds, m, bare);
+    }
+    one_each(kinds, parts, m)
+}
+
+// Every block of a part marked as index block.
+fn with_part(kinds: [u8; Layout::MAX_BLOCKS], m: usize, part: usize) -> [u8; Layout::MAX_BLOCKS]
+    requires { ⌜ (0 < m) × (part * m + m ≤ maxBlocks) ⌝ }
+    ensures { λ r. ⌜ ((k : ℕ) → getD r k 0 ≡ marked (isIndexIn m (bursts kinds) (Chosen.whole part)) kinds k) ⌝ }
+{
+    let from = part * m;
+    let mut next = kinds;
+    let mut j: usize = 0;
+    while j < m {
+        next[from + j] = INDEX;
+        j += 1;
+    }
+    next
+}
+
+// Of each part the block beside its burst block marked as index block.
+fn one_each(kinds: [u8; Layout::MAX_BLOCKS], parts: usize, m: usize) -> [u8; Layout::MAX_BLOCKS]
+    requires { ⌜ (parts * m ≤ maxBlocks) × ((i : ℕ) → i < parts → 0 < partCount m (bursts kinds) i) ⌝ }
+    ensures { λ r. ⌜ ((k : ℕ) → k < parts * m → getD r k 0 ≡ marked (isIndexIn m (bursts kinds) Chosen.oneEach) kinds k) ⌝ }
+{
+    let mut next = kinds;
+    let mut i: usize = 0;
+    while i < parts {
+        let at = i * m + beside(kinds, m, i);
+        next[at] = INDEX;
+        i += 1;
+    }
+    next
+}
+
+// The kinds with one burst block more: block `last`, in which a burst ends, or the leftmost spare where it is one already.
+fn with_burst(
+    kinds: [u8; Layout::MAX_BLOCKS],
+    blocks: usize,
+    last: usize,
+) -> [u8; Layout::MAX_BLOCKS]
+    requires { ⌜ (last < blocks) × (blocks ≤ maxBlocks) × (count blocks 0 (bursts kinds) < blocks) ⌝ }
+    ensures { λ r. ⌜ r ≡ set kinds (becomes blocks (bursts kinds) last) burstKind ⌝ }
+{
+    let mut at = last;
+    if kinds[last] == BURST {
+        at = first_spare(kinds, blocks);
+    }
+    let mut next = kinds;
+    next[at] = BURST;
+    next
+}
+
+// The leftmost block that is no burst block, or `blocks`.
+fn first_spare(kinds: [u8; Layout::MAX_BLOCKS], blocks: usize) -> usize
+    requires { ⌜ blocks ≤ maxBlocks ⌝ }
+    ensures { λ r. ⌜ r ≡ first blocks 0 (λ k. not (bursts kinds k)) ⌝ }
+{
+    let mut k: usize = 0;
+    while k < blocks {
+        if kinds[k] != BURST {
+            return k;
+        }
+        k += 1;
+    }
+    k
+}
+
+// How many blocks of part `part` are burst blocks.
+fn bursts_in(kinds: [u8; Layout::MAX_BLOCKS], m: usize, part: usize) -> usize
+    requires { ⌜ part * m + m ≤ maxBlocks ⌝ }
+    ensures { λ r. ⌜ r ≡ partCount m (bursts kinds) part ⌝ }
+{
+    let from = part * m;
+    let mut found: usize = 0;
+    let mut j: usize = 0;
+    while j < m {
+        if kinds[from + j] == BURST {
+            found += 1;
+        }
+        j += 1;
+    }
+    found
+}
+
+// The first part that has so many burst blocks, or `parts`.
+fn part_with(kinds: [u8; Layout::MAX_BLOCKS], parts: usize, m: usize, wanted: usize) -> usize
+    requires { ⌜ parts * m ≤ maxBlocks ⌝ }
+    ensures { λ r. ⌜ r ≡ firstPart parts m (bursts kinds) wanted ⌝ }
+{
+    let mut i: usize = 0;
+    while i < parts {
+        if bursts_in(kinds, m, i) == wanted {
+            return i;
+        }
+        i += 1;
+    }
+    i
+}
+
+// The block of a part that comes after its first burst block, 0 after the last; counted within the part.
+fn beside(kinds: [u8; Layout::MAX_BLOCKS], m: usize, part: usize) -> usize
+    requires { ⌜ part * m + m ≤ maxBlocks ⌝ }
+    ensures { λ r. ⌜ r ≡ Rattle.construction_a.specs.Writing.beside m (bursts kinds) part ⌝ }
+{
+    let from = part * m;
+    let mut j: usize = 0;
+    while j < m {
+        if kinds[from + j] == BURST {
+            return following(m, j);
+        }
+        j += 1;
+    }
+    following(m, j)
+}
+
+// The number after i, of n: 0 after the last.
+fn following(n: usize, i: usize) -> usize
+    requires { ⌜ (i ≤ n) × (n ≤ maxBlocks) ⌝ }
+    ensures { λ r. ⌜ r ≡ next n i ⌝ }
+{
+    if i + 1 == n {
+        return 0;
+    }
+    i + 1
+}

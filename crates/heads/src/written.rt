@@ -1,0 +1,57 @@
+// The value spelled at the heads of the index blocks, by sums that stop at the count of placements, so that none passes 64 bits. Assumes nothing.
+ghost use mathlib.Core.Path.{_≡_};
+ghost use Prim.Native.Nat.{_+_, _*_, _<_, min};
+ghost use lib.ListN.{take};
+ghost use Rattle.cells.specs.Digits.{span, value, places};
+ghost use Rattle.construction_a.specs.Reading.{written};
+ghost use Rattle.params.specs.Given.{figuresOf};
+ghost use Rattle.heads.specs.Written.{Shown, LeadsIn};
+use params::Layout;
+use placements::Placement;
+
+// The value, or the count of placements where that is less: then it is refusal 8. The most significant digit comes first.
+pub fn written_value(layout: Layout, word: &[u8], blocks: [u8; Placement::MAX]) -> u64
+    requires { ⌜ Shown layout (now word) blocks ⌝ }
+    ensures { λ r. ⌜ r ≡ min (written (figuresOf layout) (now (word .entry)) (take (layout .m) blocks)) (layout .«placement_count») ⌝ }
+{
+    let cap = layout.placement_count;
+    let mut value: u64 = 0;
+    let mut j: usize = 0;
+    while j < layout.m {
+        let block = blocks[j] as usize;
+        let head = layout.block_head(block);
+        value = with_block(value, layout.q, layout.index_tail, &word[head..], cap);
+        j += 1;
+    }
+    value
+}
+
+// A value with the digits of one block behind it: the lead digit, which is stored plus 1, and `tail` plain ones.
+fn with_block(high: u64, q: u64, tail: usize, block: &[u8], cap: u64) -> u64
+    requires { ⌜ LeadsIn q tail (now block) ⌝ }
+    ensures { λ r. ⌜ r ≡ min (high * span q (places 1 tail) + value q (places 1 tail) (now (block .entry))) cap ⌝ }
+{
+    let lead = block[0] as u64;
+    let mut value = with_digit(high, q - 1, lead - 1, cap);
+    let mut i: usize = 0;
+    while i < tail {
+        i += 1;
+        let digit = block[i] as u64;
+        value = with_digit(value, q, digit, cap);
+    }
+    value
+}
+
+// A value with one digit behind it, or the cap where that is less. A division tells them apart before anything is multiplied.
+fn with_digit(high: u64, radix: u64, digit: u64, cap: u64) -> u64
+    requires { ⌜ 0 < radix ⌝ }
+    ensures { λ r. ⌜ r ≡ min (high * radix + digit) cap ⌝ }
+{
+    if cap <= digit {
+        return cap;
+    }
+    if (cap - digit) / radix < high {
+        return cap;
+    }
+    high * radix + digit
+}

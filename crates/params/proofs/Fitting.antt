@@ -1,0 +1,54 @@
+-- What a layout of figures that fit gives: its bounds, and room for every block. Assumes nothing.
+use mathlib.Core.Path.{_≡_, _∙_}
+use mathlib.Core.Bool.{cond}
+use Prim.Native.Nat.{ℕ, suc, _+_, _*_, _/_, _≤_, _<_}
+use native.Mathlib.Nat.{mul-comm, mul-pos, le-mul-of-pos-right, le-div-iff-mul-le}
+use native.Mathlib.Omega.{arith}
+use Rattle.cells.specs.Cut.{blockHead}
+use Rattle.cells.proofs.Cut.{block-next, block-most}
+use Rattle.construction_a.specs.Figures.{parts, blocks, blockMin}
+use Rattle.construction_a.proofs.Figures.{Served, serve}
+use Rattle.params.specs.declared.Layout.{Layout}
+use Rattle.params.specs.Given.{maxBlocks, figuresOf, Fitting}
+use Rattle.params.proofs.Answered.{Bounds, bounds}
+
+module _ (l : Layout) (g : Fitting l) where
+  pub served : Served (figuresOf l)
+  served = serve (figuresOf l) (g .range) (g .fit)
+
+  pub bound : Bounds l
+  bound = bounds (figuresOf l) l served (g .laid)
+
+  pub blocks-is : l .parts * l .m ≡ blocks (figuresOf l)
+  blocks-is = rw (g .laid .parts-is)
+
+  pub block-in : {k : ℕ} → k < blocks (figuresOf l) → k < l .parts * l .m
+  block-in h = rw blocks-is h
+
+  pub blocks-fit : l .parts * l .m ≤ maxBlocks
+  blocks-fit = bound .blocks-most
+
+  pub blocks-most : blocks (figuresOf l) ≤ maxBlocks
+  blocks-most = omega (arith, blocks-is, blocks-fit)
+
+  -- a word has at least as many blocks as bursts
+  pub many : l .m ≤ blocks (figuresOf l)
+  many =
+      let f = figuresOf l in
+      omega (arith, le-mul-of-pos-right {m = parts f} (f .m) (omega (arith, served .three)), mul-comm (f .m) (parts f))
+
+  -- every block has a position
+  pub blocks-wide : l .parts * l .m ≤ l .n
+  blocks-wide =
+      let f = figuresOf l in
+      let z : 0 < parts f * f .m = omega (arith, mul-pos {m = parts f} {n = f .m} (omega (arith, served .three)) (served .some)) in
+      let h : 1 * (parts f * f .m) ≤ f .n = le-div-iff-mul-le {x = 1} {y = f .n} z .0 (omega (arith, served .room)) in
+      rw (g .laid .parts-is) (omega arith)
+
+  -- each block has room for the symbols of an index block's head
+  pub head-room : (k : ℕ) → k < l .parts * l .m → blockHead (l .n) (l .parts) (l .m) k + suc (l .«index_tail») ≤ l .n
+  unfolding blockMin
+  head-room k h =
+      let b = bound in
+      let min : l .«block_min» ≡ l .n / (l .parts * l .m) = g .laid .min-is ∙ (rw (g .laid .parts-is)) in
+      omega (arith, block-next (l .n) (l .parts) (l .m) k (omega arith), block-most (l .n) (l .parts) (l .m) (suc k) (omega arith) (omega arith) h)

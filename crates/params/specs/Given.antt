@@ -1,0 +1,22 @@
+-- What inner functions of the layers above may count on: a layout of figures that fit. Assumes nothing.
+use mathlib.Core.Path.{_≡_}
+use mathlib.Core.Bool.{true}
+use Prim.Native.Nat.{ℕ}
+use Rattle.construction_a.specs.Figures.{Params, inRange, fits}
+use Rattle.params.specs.Answer.{LaidOut}
+use Rattle.params.specs.Bridge.{params}
+use Rattle.params.specs.declared.Layout.{Layout}
+
+-- the most blocks that a word can have: p × m where m is the largest
+abbrev pub maxBlocks : ℕ
+maxBlocks = 36
+
+-- the figures of a layout
+abbrev pub figuresOf : Layout → Params
+figuresOf l = params (l .n) (l .q) (l .m) (l .b)
+
+-- they fit, and the layout is theirs
+pub record Fitting (l : Layout) : Type 0 where
+  pub range : inRange (figuresOf l) ≡ true
+  pub fit : fits (figuresOf l) ≡ true
+  pub laid : LaidOut (figuresOf l) l

@@ -1,0 +1,25 @@
+-- What a placement of a layout's bursts gives: its starts, one by one. Assumes nothing.
+use mathlib.Core.Path.{_≡_}
+use Prim.Native.Nat.{ℕ, _+_, _≤_, _<_}
+use native.Mathlib.Omega.{arith}
+use lib.ListN.{length, getD}
+use lib.Seq.{getD-take}
+use Rattle.combinatorics.proofs.Bursts.{Placed, placed-at}
+use Rattle.construction_a.proofs.Figures.{placed-starts}
+use Rattle.params.specs.Given.{figuresOf}
+use Rattle.params.specs.declared.Layout.{Layout}
+use Rattle.placements.specs.Bridge.{startsIn, Placing}
+use Rattle.placements.specs.declared.Placement.{Placement}
+
+module _ (l : Layout) (at : Placement) (g : Placing l at) where
+  pub starts-placed : Placed (l .b) (l .n) 0 (startsIn at)
+  starts-placed = placed-starts (figuresOf l) (startsIn at) (g .placed) .0
+
+  pub starts-count : length (startsIn at) ≡ l .m
+  starts-count = placed-starts (figuresOf l) (startsIn at) (g .placed) .1
+
+  pub start-is : (j : ℕ) → j < l .m → getD (startsIn at) j 0 ≡ getD (at .starts) j 0
+  start-is j h = getD-take (at .count) (at .starts) j 0 (omega (arith, g .count))
+
+  pub start-in : (j : ℕ) → j < l .m → getD (at .starts) j 0 + l .b ≤ l .n
+  start-in j h = rw (← start-is j h) (placed-at (l .b) (l .n) 0 j (startsIn at) starts-placed (omega (arith, starts-count)))

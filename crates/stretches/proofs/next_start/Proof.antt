@@ -1,0 +1,26 @@
+-- `next_start` meets its contract. Assumes nothing.
+use mathlib.Core.Path.{sym}
+use native.Mathlib.Omega.{arith}
+use borrow.Author.Needs.{needs}
+use Rattle.stretches.proofs.Walking.{start-none, start-some, few}
+use Rattle.stretches.proofs.next_start.Statement.{statement}
+use Rattle.stretches.proofs.next_start.Tie as tie
+
+returns : tie.Need-returns
+returns c = let s = c .before .before in sym (start-none (s .args .layout) (s .args .t2) (s .pre) (s .args .burst) (c .if1 .taken))
+
+mul-start : tie.Need-mul-start
+mul-start c = search needs
+
+element-copy-out-start : tie.Need-element-copy-out-start
+element-copy-out-start c = let s = c .before .before in omega (arith, few (s .args .layout) (s .args .t2) (s .pre))
+
+cast-result : tie.Need-cast-result
+cast-result c = search needs
+
+returns-2 : tie.Need-returns-2
+returns-2 c = let s = c .before .before .before in sym (start-some (s .args .layout) (s .args .t2) (s .pre) (s .args .burst) (omega arith))
+
+pub next-start-spec : {M : Type 1} → statement M
+next-start-spec =
+    tie.close (tie.spec returns mul-start element-copy-out-start cast-result returns-2)

@@ -1,0 +1,156 @@
+// A word's cells from left to right, in stretches of one kind: what the writer fills and the reader takes apart. Assumes nothing.
+ghost use mathlib.Core.Path.{_≡_};
+ghost use Prim.Native.Nat.{suc, _<_, min};
+ghost use Rattle.construction_a.specs.Figures.{blocks, headOf};
+ghost use Rattle.placements.specs.Bridge.{startsIn, Placing};
+ghost use Rattle.params.specs.Given.{figuresOf, Fitting};
+ghost use Rattle.stretches.specs.Walk.{KindsOf, Walking, Come, Stretches, nextStart, passedBy, Moving};
+use blocks::FIXED;
+use blocks::INDEX;
+use params::Layout;
+use placements::Placement;
+
+// A cell's kind as a number.
+pub const BURST_CELL: u8 = 0;
+
+pub const FIXED_CELL: u8 = 1;
+
+pub const DIGIT_CELL: u8 = 2;
+
+pub const MESSAGE_CELL: u8 = 3;
+
+// Where a walk stands: a position, its block with that block's first position and the next one's, and how many bursts end at or before it.
+pub struct Walk {
+    pub at: usize,
+    pub block: usize,
+    pub head: usize,
+    pub edge: usize,
+    pub burst: usize,
+}
+
+// A stretch of cells of one kind, and the walk where it ends.
+pub struct Stretch {
+    pub kind: u8,
+    pub next: Walk,
+}
+
+// The stretch from where the walk stands.
+pub fn next_stretch(
+    layout: Layout,
+    at: Placement,
+    kinds: &[u8; Layout::MAX_BLOCKS],
+    walk: Walk,
+) -> Stretch
+    requires { ⌜ Placing layout at × KindsOf (figuresOf layout) (startsIn at) (now kinds) × Walking (figuresOf layout) (startsIn at) walk ⌝ }
+    ensures { λ r. ⌜ Stretches (figuresOf layout) (startsIn at) walk r ⌝ }
+{
+    let stop = next_start(layout, at, walk.burst);
+    if stop <= walk.at {
+        return Stretch {
+            kind: BURST_CELL,
+            next: moved(layout, at, walk, least(stop + layout.b, walk.edge)),
+        };
+    }
+    let block = walk.block;
+    if walk.at == walk.head {
+        if kinds[block] == FIXED {
+            return Stretch {
+                kind: FIXED_CELL,
+                next: moved(layout, at, walk, walk.at + 1),
+            };
+        }
+        if kinds[block] == INDEX {
+            return Stretch {
+                kind: DIGIT_CELL,
+                next: moved(layout, at, walk, walk.at + layout.index_tail + 1),
+            };
+        }
+    }
+    Stretch {
+        kind: MESSAGE_CELL,
+        next: moved(layout, at, walk, least(stop, walk.edge)),
+    }
+}
+
+// The walk at the word's first cell.
+pub fn walk_from_start(layout: Layout, at: Placement) -> Walk
+    requires { ⌜ Placing layout at ⌝ }
+    ensures { λ r. ⌜ Come (figuresOf layout) (startsIn at) 0 r ⌝ }
+{
+    Walk {
+        at: 0,
+        block: 0,
+        head: 0,
+        edge: layout.block_head(1),
+        burst: 0,
+    }
+}
+
+// Where the next burst starts, or the word's end.
+fn next_start(layout: Layout, at: Placement, burst: usize) -> usize
+    requires { ⌜ Placing layout at ⌝ }
+    ensures { λ r. ⌜ r ≡ nextStart (figuresOf layout) (startsIn at) burst ⌝ }
+{
+    if layout.m <= burst {
+        return layout.n;
+    }
+    let start = at.starts[burst];
+    start as usize
+}
+
+// The walk at a later position, at most the next block's first and the end of the burst that comes next.
+fn moved(layout: Layout, at: Placement, walk: Walk, to: usize) -> Walk
+    requires { ⌜ Placing layout at × Moving (figuresOf layout) (startsIn at) walk to ⌝ }
+    ensures { λ r. ⌜ Come (figuresOf layout) (startsIn at) to r ⌝ }
+{
+    let burst = passed(layout, at, walk.burst, to);
+    if to < walk.edge {
+        return Walk {
+            at: to,
+            block: walk.block,
+            head: walk.head,
+            edge: walk.edge,
+            burst,
+        };
+    }
+    let block = walk.block + 1;
+    Walk {
+        at: to,
+        block,
+        head: to,
+        edge: edge_of(layout, block),
+        burst,
+    }
+}
+
+// How many bursts end at or before a position, where all before this number do and none behind it does.
+fn passed(layout: Layout, at: Placement, burst: usize, to: usize) -> usize
+    requires { ⌜ Placing layout at ⌝ }
+    ensures { λ r. ⌜ r ≡ passedBy (figuresOf layout) (startsIn at) burst to ⌝ }
+{
+    if layout.m <= burst {
+        return burst;
+    }
+    let start = at.starts[burst];
+    if start as usize + layout.b <= to {
+        return burst + 1;
+    }
+    burst
+}
+
+// The first position behind a block, or the word's end where there is no such block.
+fn edge_of(layout: Layout, block: usize) -> usize
+    requires { ⌜ Fitting layout ⌝ }
+    ensures { λ r. ⌜ (block < blocks (figuresOf layout) → r ≡ headOf (figuresOf layout) (suc block)) ⌝ }
+{
+    if block < layout.parts * layout.m {
+        return layout.block_head(block + 1);
+    }
+    layout.n
+}
+
+fn least(a: usize, b: usize) -> usize
+    ensures { λ r. ⌜ r ≡ min a b ⌝ }
+{
+    if a <= b { a } else { b }
+}
