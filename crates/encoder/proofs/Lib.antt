@@ -1,2 +1,4 @@
 pub mod Spelling
 pub mod Filling
+pub mod Room
+pub mod Outcomes

@@ -1,4 +1,4 @@
-// The digits of a rank, as they stand at the heads of the index blocks.
+// The digits of a rank, as they stand at the heads of the index blocks. Assumes nothing.
 ghost use mathlib.Core.Path.{_≡_};
 ghost use Prim.Native.Nat.{suc, _*_, _≤_, _<_};
 ghost use lib.ListN.{take};

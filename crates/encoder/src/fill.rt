@@ -1,4 +1,4 @@
-// Filling a word: every symbol is stored once, straight from the digits and the message, stretch by stretch.
+// Filling a word: every symbol is stored once, straight from the digits and the message, stretch by stretch. Assumes nothing.
 ghost use mathlib.Core.Path.{_≡_};
 ghost use mathlib.Core.Bool.{cond};
 ghost use Prim.Native.Nat.{_+_, _≤_};
@@ -6,16 +6,29 @@ ghost use lib.Dec.{eqb};
 ghost use lib.ListN.{length, take, replicate};
 ghost use Rattle.cells.specs.Cells.{weave, content, Enough};
 ghost use Rattle.construction_a.specs.Figures.{maxWord};
-ghost use Rattle.construction_a.specs.Writing.{plan};
+ghost use Rattle.construction_a.specs.Writing.{plan, word as wordOf};
 ghost use Rattle.placements.specs.Bridge.{startsIn};
 ghost use Rattle.params.specs.Given.{figuresOf};
 ghost use Rattle.encoder.specs.Fill.{Fillable, DigitsFor};
 ghost use Rattle.stretches.specs.Walk.{KindsOf, cellNamed};
+use crate::digits;
 use params::Layout;
 use placements::Placement;
 
+// The word of a placement and a message.
+pub fn fill(layout: Layout, at: Placement, message: &[u8], word: &mut [u8])
+    requires { ⌜ Fillable layout at (now message) (now word) ⌝ }
+    ensures { λ _. ⌜ now (word .exit) ≡ wordOf (figuresOf layout) (startsIn at) (now (message .entry)) ⌝ }
+{
+    let kinds = blocks::kinds_of(layout, at);
+    let rank = at.rank(layout.b as u32);
+    let digits = digits::spelled(layout.q, layout.m, layout.index_tail, rank);
+    let count = layout.m * (layout.index_tail + 1);
+    fill_cells(layout, at, &kinds, &digits[..count], message, word);
+}
+
 // The cells of the word from left to right.
-pub fn fill_cells(
+fn fill_cells(
     layout: Layout,
     at: Placement,
     kinds: &[u8; Layout::MAX_BLOCKS],

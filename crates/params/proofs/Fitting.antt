@@ -1,16 +1,32 @@
 -- What a layout of figures that fit gives: its bounds, and room for every block. Assumes nothing.
-use mathlib.Core.Path.{_≡_, _∙_}
-use mathlib.Core.Bool.{cond}
+use mathlib.Core.Path.{_≡_, sym, ap, _∙_, subst}
 use Prim.Native.Nat.{ℕ, suc, _+_, _*_, _/_, _≤_, _<_}
 use native.Mathlib.Nat.{mul-comm, mul-pos, le-mul-of-pos-right, le-div-iff-mul-le}
 use native.Mathlib.Omega.{arith}
 use Rattle.cells.specs.Cut.{blockHead}
 use Rattle.cells.proofs.Cut.{block-next, block-most}
-use Rattle.construction_a.specs.Figures.{parts, blocks, blockMin}
+use Rattle.construction_a.specs.Figures.{Params, inRange, fits, parts, blocks, blockMin}
+use Rattle.construction_a.specs.Outcomes.{figuresOut}
 use Rattle.construction_a.proofs.Figures.{Served, serve}
+use Rattle.construction_a.proofs.Outcomes.{figured-fits}
 use Rattle.params.specs.declared.Layout.{Layout}
+use Rattle.params.specs.declared.Figures.{Figures}
+use Rattle.params.specs.declared.Figures.the-variants.{Fit}
+use Rattle.params.specs.Answer.{figuredAs, LaidOut, LaidIn}
+use Rattle.params.specs.Bridge.{params}
 use Rattle.params.specs.Given.{maxBlocks, figuresOf, Fitting}
 use Rattle.params.proofs.Answered.{Bounds, bounds}
+
+same-figures : {f : Params} {n q m b : ℕ} → n ≡ f .n → q ≡ f .q → m ≡ f .m → b ≡ f .b → params n q m b ≡ f
+same-figures e₁ e₂ e₃ e₄ = rw (e₁, e₂, e₃, e₄)
+
+-- of an answer that was taken apart: the layout's figures are the caller's, and they fit
+pub layout-fits : (f : Params) (r : Figures) (l : Layout) → r ≡ Fit l → figuredAs r ≡ figuresOut f → LaidIn f r → (figuresOf l ≡ f) × Fitting l
+layout-fits f r l e answer layout =
+    let is : LaidOut f l = subst (LaidIn f) e layout in
+    let same : figuresOf l ≡ f = same-figures (is .n-is) (is .q-is) (is .m-is) (is .b-is) in
+    let fit = figured-fits f (l .«placement_count») (l .«index_tail») (l .«message_len») (sym answer ∙ ap figuredAs e) in
+    (same, record { range = ap inRange same ∙ fit .0; fit = ap fits same ∙ fit .1; laid = subst (λ (g : Params). LaidOut g l) (sym same) is })
 
 module _ (l : Layout) (g : Fitting l) where
   pub served : Served (figuresOf l)
@@ -18,6 +34,10 @@ module _ (l : Layout) (g : Fitting l) where
 
   pub bound : Bounds l
   bound = bounds (figuresOf l) l served (g .laid)
+
+  -- a burst is no longer than the word
+  pub long : l .b ≤ l .n
+  long = omega (arith, le-mul-of-pos-right (l .b) (served .some), mul-comm (l .m) (l .b), served .total)
 
   pub blocks-is : l .parts * l .m ≡ blocks (figuresOf l)
   blocks-is = rw (g .laid .parts-is)

@@ -1,19 +1,19 @@
 -- What a caller needs: what its figures give, which starts an answer has in use, and that covering answers as the definitions do. Assumes nothing.
-use mathlib.Core.Path.{_≡_, refl, ap, _∙_}
+use mathlib.Core.Path.{_≡_, ap, _∙_}
 use mathlib.Core.Logic.{_≢_}
-use mathlib.Core.Bool.{Bool, true, false, cond}
-use mathlib.Core.List.{List, []}
+use mathlib.Core.Bool.{true, false}
+use mathlib.Core.List.{List}
 use Prim.Native.Nat.{ℕ, _-_, _≤_}
 use lib.Dec.{ltb, eqb}
 use lib.ListN.{length, replicate}
 use lib.Seq.{take-append-seam}
 use Rattle.refusals.specs.Refusals.{must, served, wrongLength, badSymbol, uncovered}
-use Rattle.combinatorics.specs.Bursts.{apart, startsOf, coverRank}
+use Rattle.combinatorics.specs.Bursts.{apart, coverRank}
 use Rattle.combinatorics.specs.Lists.{allBelow}
 use Rattle.combinatorics.proofs.Cases.{eqb-same, eqb-other}
 use Rattle.combinatorics.proofs.Loops.{apart-longer}
 use Rattle.construction_a.specs.Figures.{Params, maxWord, maxBursts, inRange, fits, placementCount}
-use Rattle.construction_a.specs.Outcomes.{Held, inUse, held, worn, unserved, figuresOut, unplaced, coverOut}
+use Rattle.construction_a.specs.Outcomes.{inUse, held, worn, unserved, figuresOut, unplaced, coverOut}
 use Rattle.construction_a.specs.Writing.{placementOf}
 use Rattle.construction_a.proofs.Figures.{Served}
 use Rattle.construction_a.proofs.Outcomes.{refused-alike}

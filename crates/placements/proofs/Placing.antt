@@ -1,15 +1,27 @@
 -- What a placement of a layout's bursts gives: its starts, one by one. Assumes nothing.
-use mathlib.Core.Path.{_≡_}
+use mathlib.Core.Path.{_≡_, _∙_}
+use mathlib.Core.Bool.{true}
 use Prim.Native.Nat.{ℕ, _+_, _≤_, _<_}
 use native.Mathlib.Omega.{arith}
 use lib.ListN.{length, getD}
-use lib.Seq.{getD-take}
+use lib.Seq.{getD-take, length-take-le}
+use Rattle.combinatorics.specs.Bursts.{apart}
 use Rattle.combinatorics.proofs.Bursts.{Placed, placed-at}
+use Rattle.combinatorics.proofs.Cases.{eqb-same}
+use Rattle.construction_a.specs.Figures.{maxBursts, isPlacement}
 use Rattle.construction_a.proofs.Figures.{placed-starts}
-use Rattle.params.specs.Given.{figuresOf}
+use Rattle.params.specs.Given.{figuresOf, Fitting}
+use Rattle.params.proofs.Fitting.{served}
 use Rattle.params.specs.declared.Layout.{Layout}
 use Rattle.placements.specs.Bridge.{startsIn, Placing}
 use Rattle.placements.specs.declared.Placement.{Placement}
+
+-- a placement that passed the tests for refusals 3 and 5
+pub placing-of : (l : Layout) (at : Placement) → length (at .starts) ≡ maxBursts → Fitting l → at .count ≡ l .m → apart (l .b) (l .n) 0 (startsIn at) ≡ true → Placing l at
+unfolding isPlacement
+placing-of l at six g e valid =
+    let count : length (startsIn at) ≡ l .m = length-take-le (at .count) (at .starts) (omega (arith, served l g .range .m-most, six)) ∙ e in
+    record { layout = g; count = e; placed = rw (eqb-same (length (startsIn at)) (l .m) count) valid }
 
 module _ (l : Layout) (at : Placement) (g : Placing l at) where
   pub starts-placed : Placed (l .b) (l .n) 0 (startsIn at)

@@ -1,5 +1,5 @@
 -- `cover` meets its contract. Assumes nothing.
-use mathlib.Core.Path.{_≡_, sym, ap, _∙_}
+use mathlib.Core.Path.{sym, ap, _∙_}
 use borrow.Author.Needs.{needs}
 use Rattle.construction_a.proofs.Outcomes.{figured-fits}
 use Rattle.params.specs.Bridge.{given}

@@ -1,14 +1,12 @@
 -- `cover_fitting` meets its contract, refusal by refusal. Assumes nothing.
-use mathlib.Core.Path.{_≡_, sym, ap, ap₂, _∙_}
-use mathlib.Core.Bool.{Bool, true, false, cond}
-use native.Mathlib.Omega.{arith}
+use mathlib.Core.Path.{sym, ap, _∙_}
+use mathlib.Core.Bool.{true, false}
 use borrow.Author.Needs.{needs}
 use borrow.Author.Tests.{not-true, not-false}
-use Rattle.refusals.specs.Refusals.{served, uncovered as uncoveredNumber}
-use Rattle.construction_a.specs.Outcomes.{Held, Covered, held}
+use Rattle.refusals.specs.Refusals.{served}
+use Rattle.construction_a.specs.Outcomes.{Held, Covered}
 use Rattle.construction_a.proofs.Figures.{serve}
 use Rattle.params.specs.Bridge.{given}
-use Rattle.placements.specs.Bridge.{coverable, leastCover}
 use Rattle.placements.proofs.Calls.{room-of, cover-length, cover-symbol, cover-none, cover-some}
 use Rattle.placements.proofs.cover_fitting.Statement.{statement}
 use Rattle.placements.proofs.cover_fitting.Tie as tie

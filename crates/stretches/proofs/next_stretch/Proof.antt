@@ -4,7 +4,7 @@ use mathlib.Core.Logic.{⊎-elim}
 use mathlib.Core.Bool.{true, false}
 use mathlib.Core.List.{List}
 use Prim.Native.Nat.{ℕ, _+_, _*_, _≤_, _<_, min}
-use native.Mathlib.Nat.{mul-comm, le-mul-of-pos-right, div-le-self}
+use native.Mathlib.Nat.{div-le-self}
 use native.Mathlib.Omega.{arith}
 use borrow.Author.Needs.{needs}
 use lib.ListN.{length, getD}
@@ -17,7 +17,7 @@ use Rattle.stretches.specs.declared.Walk.{Walk}
 use Rattle.params.specs.Given.{figuresOf, maxBlocks}
 use Rattle.blocks.specs.Blocks.{kindOf}
 use Rattle.stretches.specs.Walk.{nextStart}
-use Rattle.params.proofs.Fitting.{served, blocks-most}
+use Rattle.params.proofs.Fitting.{served, blocks-most, long}
 use Rattle.placements.proofs.Placing.{starts-placed, starts-count}
 use Rattle.stretches.proofs.Walking.{fixed-kind, index-kind, burst-kind, stretched, start-most, burst-moves, burst-same, fixed-moves, fixed-same, digit-moves, digit-same, message-moves, message-same}
 use Rattle.stretches.proofs.next_stretch.Statement.{statement}
@@ -53,10 +53,6 @@ kind-at s = s .pre .1 (w s .block) (s .pre .2 .block-in)
 in-array : (s : tie.Start) → w s .block < maxBlocks
 in-array s = omega (arith, s .pre .2 .block-in, blocks-most (s .args .layout) (s .pre .0 .layout))
 
--- no number is larger than a word
-long : (s : tie.Start) → s .args .layout .b ≤ s .args .layout .n
-long s = omega (arith, le-mul-of-pos-right (f s .b) (ok s .some), mul-comm (f s .m) (f s .b), ok s .total)
-
 tail-small : (s : tie.Start) → s .args .layout .«index_tail» < s .args .layout .n
 tail-small s =
     let p = parts (f s) * f s .m in
@@ -77,7 +73,7 @@ next-start-requires c κs = search needs
 add-least : tie.Need-add-least
 add-least c =
     let s = c .before .before .before .before in
-    omega (arith, c .before .before .before .next-start .ensures, start-most (f s) (ok s) (ss s) (placed s) (count s) (w s) (s .pre .2), ok s .range .n-most, long s)
+    omega (arith, c .before .before .before .next-start .ensures, start-most (f s) (ok s) (ss s) (placed s) (count s) (w s) (s .pre .2), ok s .range .n-most, long (s .args .layout) (s .pre .0 .layout))
 
 least-requires : tie.Need-least-requires
 least-requires c κs = search needs

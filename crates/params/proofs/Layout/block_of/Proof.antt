@@ -1,12 +1,11 @@
 -- `block_of` meets its contract: the block of the part that has the position. Assumes nothing.
-use mathlib.Core.Path.{_≡_, sym, ap, _∙_}
-use Prim.Native.Nat.{suc, _+_, _-_, _*_, _/_, _≤_, _<_}
+use mathlib.Core.Path.{sym}
+use Prim.Native.Nat.{_-_, _/_, _≤_}
 use native.Mathlib.Nat.{mul-comm, mul-le-mul-right, le-mul-of-pos-right, le-div-iff-mul-le}
 use native.Mathlib.Omega.{arith}
 use borrow.Author.Needs.{needs}
 use lib.Arith.{digits-lt}
-use Rattle.cells.specs.Cut.{pieceStart, pieceLen}
-use Rattle.cells.proofs.Cut.{InPiece, piece-next, len-least, block-in}
+use Rattle.cells.proofs.Cut.{piece-next, len-least, block-in}
 use Rattle.params.proofs.Layout.block_of.Statement.{statement}
 use Rattle.params.proofs.Layout.block_of.Tie as tie
 
