@@ -3,3 +3,4 @@ pub mod Stretch
 pub mod Choose
 pub mod Rank
 pub mod Bursts
+pub mod Examples

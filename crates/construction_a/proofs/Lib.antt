@@ -7,5 +7,4 @@ pub mod Plan
 pub mod Complete
 pub mod Sound
 pub mod DemandTwo
-pub mod Strips
 mod Misreadings

@@ -6,6 +6,7 @@ use mathlib.Core.List.{List, [], _∷_, _++_, flatMap}
 use mathlib.Core.Option.{Option, none, some}
 use Prim.Native.Nat.{ℕ, _*_}
 use lib.ListN.{replicate, set}
+use Rattle.combinatorics.specs.Examples.{Example, example, comesTrue}
 use Rattle.combinatorics.specs.Lists.{all, sameList}
 use Rattle.combinatorics.specs.Stretch.{sum, has, first, members, tabulate, top}
 use Rattle.combinatorics.specs.Choose.{choose}
@@ -15,14 +16,13 @@ use Rattle.cells.specs.Cut.{pieceLen, pieceStart, blockAt, blockHead, blockWith
 use Rattle.cells.specs.Cells.{weave, pick}
 use Rattle.cells.specs.Codec.{Reading, accepted, refused}
 use Rattle.cells.specs.Digits.{span, spell, value, places}
-use Rattle.construction_a.specs.Figures.{blocks, parts, blockMin, indexTail, headOf}
+use Rattle.construction_a.specs.Figures.{params, blocks, parts, blockMin, indexTail, headOf}
 use Rattle.construction_a.specs.Writing.{becomes, withBurst, withBursts, isBurst, next, fullPart, barePart, chosen, beside, isChosen, isIndexIn, isIndex, indexBlocks, isFixed, cellOf, kindAt, plan, word}
 use Rattle.construction_a.specs.Reading.{looksFixed, later, bareParts, indexInPart, collect, indexFound, heads, written, agrees, readRank, read}
-use Rattle.construction_a.specs.Strips.{Row, row, figures, holds}
 
 -- the B-blocks, ascending
 abbrev burstBlocks : ℕ → List ℕ → List ℕ
-burstBlocks b ss = members 9 0 (isBurst (figures 90 3 3 b) ss)
+burstBlocks b ss = members 9 0 (isBurst (params 90 3 3 b) ss)
 
 -- a refused word by its number, an accepted one by 0 and the starts
 abbrev answer : Reading → List ℕ
@@ -37,36 +37,36 @@ given (some i) = i ∷ []
 abbrev withIndex : List ℕ → List ℕ
 withIndex ds = 0 ∷ replicate 11 1 ++ replicate 3 0 ++ replicate 5 1 ++ ds ++ replicate 4 1
 
-unfoldable rows : List Row
+unfoldable rows : List Example
 rows =
     -- "The block in which a run ends": 19 to 21 ends in block 2
-    row (burstBlocks 3 (19 ∷ 40 ∷ 60 ∷ [])) (2 ∷ 4 ∷ 6 ∷ [])
+    example (burstBlocks 3 (19 ∷ 40 ∷ 60 ∷ [])) (2 ∷ 4 ∷ 6 ∷ [])
     -- "even across a part's edge": 28 to 30 ends in part 1, block 3 of the word
-    ∷ row (burstBlocks 3 (28 ∷ 50 ∷ 80 ∷ [])) (3 ∷ 5 ∷ 8 ∷ [])
+    ∷ example (burstBlocks 3 (28 ∷ 50 ∷ 80 ∷ [])) (3 ∷ 5 ∷ 8 ∷ [])
     -- "the leftmost block of the word that is not yet B": blocks 0 and 1 where three runs end in block 4
-    ∷ row (burstBlocks 3 (40 ∷ 43 ∷ 46 ∷ [])) (0 ∷ 1 ∷ 4 ∷ [])
+    ∷ example (burstBlocks 3 (40 ∷ 43 ∷ 46 ∷ [])) (0 ∷ 1 ∷ 4 ∷ [])
     -- and such a block's head holds the message, not 0
-    ∷ row (heads (figures 90 3 3 3) (word (figures 90 3 3 3) (40 ∷ 43 ∷ 46 ∷ []) (replicate 66 2)) (0 ∷ [])) (2 ∷ 2 ∷ 2 ∷ 2 ∷ [])
+    ∷ example (heads (params 90 3 3 3) (word (params 90 3 3 3) (40 ∷ 43 ∷ 46 ∷ []) (replicate 66 2)) (0 ∷ [])) (2 ∷ 2 ∷ 2 ∷ 2 ∷ [])
     -- "shorter ones first": parts of 30, 30, 31 positions
-    ∷ row (tabulate 4 0 (λ i. headOf (figures 91 3 3 3) (i * 3))) (0 ∷ 30 ∷ 60 ∷ 91 ∷ [])
+    ∷ example (tabulate 4 0 (λ i. headOf (params 91 3 3 3) (i * 3))) (0 ∷ 30 ∷ 60 ∷ 91 ∷ [])
     -- "neighbours i and i+1 give i+1; parts 0 and p−1 give part 0", and no other pair gives one
-    ∷ row (given (later 5 (1 ∷ 2 ∷ []))) (2 ∷ [])
-    ∷ row (given (later 5 (0 ∷ 4 ∷ []))) (0 ∷ [])
-    ∷ row (given (later 5 (0 ∷ 2 ∷ []))) []
-    ∷ row (given (later 5 (1 ∷ 4 ∷ []))) []
+    ∷ example (given (later 5 (1 ∷ 2 ∷ []))) (2 ∷ [])
+    ∷ example (given (later 5 (0 ∷ 4 ∷ []))) (0 ∷ [])
+    ∷ example (given (later 5 (0 ∷ 2 ∷ []))) []
+    ∷ example (given (later 5 (1 ∷ 4 ∷ []))) []
     -- "First strip, read: all 0 or all 1 is 7"
-    ∷ row (answer (read (figures 30 2 1 3) (replicate 30 0))) (7 ∷ [])
-    ∷ row (answer (read (figures 30 2 1 3) (replicate 30 1))) (7 ∷ [])
+    ∷ example (answer (read (params 30 2 1 3) (replicate 30 0))) (7 ∷ [])
+    ∷ example (answer (read (params 30 2 1 3) (replicate 30 1))) (7 ∷ [])
     -- "101100 changed to 111111 is 8, to 100000 is 9"
-    ∷ row (answer (read (figures 30 2 1 3) (withIndex (1 ∷ 0 ∷ 1 ∷ 1 ∷ 0 ∷ 0 ∷ [])))) (0 ∷ 12 ∷ [])
-    ∷ row (answer (read (figures 30 2 1 3) (withIndex (1 ∷ 1 ∷ 1 ∷ 1 ∷ 1 ∷ 1 ∷ [])))) (8 ∷ [])
-    ∷ row (answer (read (figures 30 2 1 3) (withIndex (1 ∷ 0 ∷ 0 ∷ 0 ∷ 0 ∷ 0 ∷ [])))) (9 ∷ [])
+    ∷ example (answer (read (params 30 2 1 3) (withIndex (1 ∷ 0 ∷ 1 ∷ 1 ∷ 0 ∷ 0 ∷ [])))) (0 ∷ 12 ∷ [])
+    ∷ example (answer (read (params 30 2 1 3) (withIndex (1 ∷ 1 ∷ 1 ∷ 1 ∷ 1 ∷ 1 ∷ [])))) (8 ∷ [])
+    ∷ example (answer (read (params 30 2 1 3) (withIndex (1 ∷ 0 ∷ 0 ∷ 0 ∷ 0 ∷ 0 ∷ [])))) (9 ∷ [])
     -- "the written value is T or more": T itself, 28
-    ∷ row (answer (read (figures 30 2 1 3) (withIndex (1 ∷ 1 ∷ 1 ∷ 1 ∷ 0 ∷ 0 ∷ [])))) (8 ∷ [])
+    ∷ example (answer (read (params 30 2 1 3) (withIndex (1 ∷ 1 ∷ 1 ∷ 1 ∷ 0 ∷ 0 ∷ [])))) (8 ∷ [])
     -- "each F-block it gives must start with 0": block 4 of n 60, q 4, m 2, b 4 does not
-    ∷ row (answer (read (figures 60 4 2 4) (set (word (figures 60 4 2 4) (8 ∷ 12 ∷ []) (replicate 44 0)) 40 1))) (9 ∷ [])
+    ∷ example (answer (read (params 60 4 2 4) (set (word (params 60 4 2 4) (8 ∷ 12 ∷ []) (replicate 44 0)) 40 1))) (9 ∷ [])
     ∷ []
 
-rows-hold : all holds rows ≡ true
-unfolding all sameList sum has first members tabulate top choose rankFrom unrankDown unrank inBurst placements reduceFrom expandFrom rankOf startsOf pieceLen pieceStart blockAt blockHead blockWith weave pick span spell value places parts blockMin indexTail becomes withBurst withBursts isBurst next fullPart barePart chosen beside isChosen isIndexIn isIndex indexBlocks isFixed cellOf kindAt plan word looksFixed later bareParts indexInPart collect indexFound heads written agrees readRank read rows holds flatMap
+rows-hold : all comesTrue rows ≡ true
+unfolding all sameList sum has first members tabulate top choose rankFrom unrankDown unrank inBurst placements reduceFrom expandFrom rankOf startsOf pieceLen pieceStart blockAt blockHead blockWith weave pick span spell value places parts blockMin indexTail becomes withBurst withBursts isBurst next fullPart barePart chosen beside isChosen isIndexIn isIndex indexBlocks isFixed cellOf kindAt plan word looksFixed later bareParts indexInPart collect indexFound heads written agrees readRank read rows comesTrue flatMap
 rows-hold = refl

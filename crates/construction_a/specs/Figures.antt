@@ -15,6 +15,9 @@ pub record Params : Type 0 where
   pub m : ℕ
   pub b : ℕ
 
+abbrev pub params : ℕ → ℕ → ℕ → ℕ → Params
+params n q m b = record { n = n; q = q; m = m; b = b }
+
 -- "The largest figures .. are named once"
 abbrev pub maxWord : ℕ
 maxWord = 1024

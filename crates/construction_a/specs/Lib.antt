@@ -4,4 +4,3 @@ pub mod Ranking
 pub mod Reading
 pub mod Outcomes
 pub mod DemandTwo
-pub mod Strips

@@ -6,6 +6,7 @@ use mathlib.Core.List.{List, [], _∷_, _++_, flatMap}
 use Prim.Native.Nat.{ℕ}
 use lib.ListN.{replicate}
 use Rattle.refusals.specs.Refusals.{served}
+use Rattle.combinatorics.specs.Examples.{Example, example, comesTrue}
 use Rattle.combinatorics.specs.Lists.{all, any, sameList}
 use Rattle.combinatorics.specs.Stretch.{sum, has, first, members, tabulate, top}
 use Rattle.combinatorics.specs.Choose.{choose}
@@ -15,12 +16,11 @@ use Rattle.cells.specs.Bytes.{byteWidth, payloadLen}
 use Rattle.cells.specs.Cut.{pieceLen, pieceStart, blockAt, blockHead, blockWith}
 use Rattle.cells.specs.Cells.{weave, pick}
 use Rattle.cells.specs.Digits.{span, spell, value, places}
-use Rattle.construction_a.specs.Figures.{Params, inRange, parts, blockMin, indexTail, fits, messageLen}
+use Rattle.construction_a.specs.Figures.{Params, params, inRange, parts, blockMin, indexTail, fits, messageLen}
 use Rattle.construction_a.specs.Writing.{becomes, withBurst, withBursts, isBurst, next, fullPart, barePart, chosen, beside, isChosen, isIndexIn, isIndex, indexBlocks, isFixed, cellOf, kindAt, plan, word}
 use Rattle.construction_a.specs.Reading.{looksFixed, later, bareParts, indexInPart, collect, indexFound, heads, written, agrees, readRank, read}
 use Rattle.construction_a.specs.Outcomes.{Held, held, Encoded}
 use Rattle.construction_a.specs.DemandTwo.{constructionA}
-use Rattle.construction_a.specs.Strips.{Row, row, figures as strip, holds}
 use Rattle.jobs.specs.declared.Entry.{Entry}
 use Rattle.jobs.specs.declared.Entry.the-variants.{Free, Open, Cancelled}
 use Rattle.jobs.specs.Jobs.{opening, cancelling, finishing, Call, on}
@@ -33,7 +33,7 @@ use Rattle.jobcodec.specs.DemandThree.{Presented}
 -- ---- "Input, hex": n 15, q 256, m 1, b 2, start 6
 
 abbrev pub figures : Params
-figures = strip 15 256 1 2
+figures = params 15 256 1 2
 
 -- 0000000741424344454647
 abbrev payload : List ℕ
@@ -71,27 +71,27 @@ writes es = writtenOut (jobWriteOut figures es (held (6 ∷ [])) payload (replic
 abbrev reads : List Entry → List ℕ
 reads es = readOut (jobReadOut figures es (wordWith 255) buffer)
 
-unfoldable pub transfer : List Row
+unfoldable pub transfer : List Example
 transfer =
     -- "W 0 000000000741000042430744454647", "R 0 00000007 41424344454647"
-    row (writes (after opened)) (0 ∷ wordWith 0)
-    ∷ row (reads (after opened)) (0 ∷ payload)
+    example (writes (after opened)) (0 ∷ wordWith 0)
+    ∷ example (reads (after opened)) (0 ∷ payload)
     -- "C 0", "R 12"; and nothing is written
-    ∷ row (reads (after cancelled)) (12 ∷ buffer)
-    ∷ row (writes (after cancelled)) (12 ∷ replicate 15 9)
+    ∷ example (reads (after cancelled)) (12 ∷ buffer)
+    ∷ example (writes (after cancelled)) (12 ∷ replicate 15 9)
     -- "14: not open": finished, or unknown
-    ∷ row (reads (after finished)) (14 ∷ buffer)
-    ∷ row (reads emptyTable) (14 ∷ buffer)
-    ∷ row (writes emptyTable) (14 ∷ replicate 15 9)
+    ∷ example (reads (after finished)) (14 ∷ buffer)
+    ∷ example (reads emptyTable) (14 ∷ buffer)
+    ∷ example (writes emptyTable) (14 ∷ replicate 15 9)
     -- "a book with one number twice"
-    ∷ row (reads (Open 7 ∷ Cancelled 7 ∷ replicate 62 Free)) (1 ∷ buffer)
-    ∷ row (writes (Open 7 ∷ Cancelled 7 ∷ replicate 62 Free)) (1 ∷ replicate 15 9)
+    ∷ example (reads (Open 7 ∷ Cancelled 7 ∷ replicate 62 Free)) (1 ∷ buffer)
+    ∷ example (writes (Open 7 ∷ Cancelled 7 ∷ replicate 62 Free)) (1 ∷ replicate 15 9)
     ∷ []
 
 -- ---- q 17, m 1, b 1: a byte takes two symbols; n 14 has five bytes and a leftover symbol, n 12 four bytes
 
 abbrev small : ℕ → Params
-small n = strip n 17 1 1
+small n = params n 17 1 1
 
 -- the word of job number 7, then these symbols of text and leftover
 abbrev smallWord : List ℕ → List ℕ
@@ -100,17 +100,17 @@ smallWord ms = word (small 14) (0 ∷ []) (replicate 7 0 ++ 7 ∷ ms)
 abbrev readsSmall : List Entry → List ℕ → List ℕ
 readsSmall es w = readOut (jobReadOut (small 14) es w (replicate 5 9))
 
-unfoldable pub spelling : List Row
+unfoldable pub spelling : List Example
 spelling =
     -- "high byte first"
-    row (jobNumber (1 ∷ 2 ∷ 3 ∷ 4 ∷ 5 ∷ []) ∷ []) (16909060 ∷ [])
+    example (jobNumber (1 ∷ 2 ∷ 3 ∷ 4 ∷ 5 ∷ []) ∷ []) (16909060 ∷ [])
     -- "most significant first", "Leftover message symbols are 0": 65 is 3 × 17 + 14
-    ∷ row (messageOf 17 11 (0 ∷ 0 ∷ 0 ∷ 7 ∷ 65 ∷ [])) (replicate 7 0 ++ 7 ∷ 3 ∷ 14 ∷ 0 ∷ [])
+    ∷ example (messageOf 17 11 (0 ∷ 0 ∷ 0 ∷ 7 ∷ 65 ∷ [])) (replicate 7 0 ++ 7 ∷ 3 ∷ 14 ∷ 0 ∷ [])
     -- "a byte's symbols spelling 256 or more": 255, then 256
-    ∷ row (readsSmall (after opened) (smallWord (15 ∷ 0 ∷ 0 ∷ []))) (0 ∷ 0 ∷ 0 ∷ 0 ∷ 7 ∷ 255 ∷ [])
-    ∷ row (readsSmall (after opened) (smallWord (15 ∷ 1 ∷ 0 ∷ []))) (10 ∷ replicate 5 9)
+    ∷ example (readsSmall (after opened) (smallWord (15 ∷ 0 ∷ 0 ∷ []))) (0 ∷ 0 ∷ 0 ∷ 0 ∷ 7 ∷ 255 ∷ [])
+    ∷ example (readsSmall (after opened) (smallWord (15 ∷ 1 ∷ 0 ∷ []))) (10 ∷ replicate 5 9)
     -- "or a leftover symbol not 0"
-    ∷ row (readsSmall (after opened) (smallWord (15 ∷ 0 ∷ 1 ∷ []))) (10 ∷ replicate 5 9)
+    ∷ example (readsSmall (after opened) (smallWord (15 ∷ 0 ∷ 1 ∷ []))) (10 ∷ replicate 5 9)
     ∷ []
 
 -- ---- Each refusal where the next in its order holds too
@@ -119,43 +119,43 @@ spelling =
 abbrev writesAt : Held → List ℕ → List ℕ → List ℕ
 writesAt at y out = writtenOut (jobWriteOut figures emptyTable at y out)
 
-unfoldable pub writeOrder : List Row
+unfoldable pub writeOrder : List Example
 writeOrder =
-    row (writtenOut (jobWriteOut (strip 15 257 1 6) emptyTable (held []) [] [])) (1 ∷ [])
-    ∷ row (writtenOut (jobWriteOut (strip 15 256 1 6) emptyTable (held []) [] [])) (2 ∷ [])
-    ∷ row (writtenOut (jobWriteOut (small 12) emptyTable (held []) [] [])) (10 ∷ [])
+    example (writtenOut (jobWriteOut (params 15 257 1 6) emptyTable (held []) [] [])) (1 ∷ [])
+    ∷ example (writtenOut (jobWriteOut (params 15 256 1 6) emptyTable (held []) [] [])) (2 ∷ [])
+    ∷ example (writtenOut (jobWriteOut (small 12) emptyTable (held []) [] [])) (10 ∷ [])
     -- the placement's count, the word, the payload
-    ∷ row (writesAt (held []) payload (replicate 15 9)) (3 ∷ replicate 15 9)
-    ∷ row (writesAt (held (14 ∷ [])) payload (replicate 14 9)) (3 ∷ replicate 14 9)
-    ∷ row (writesAt (held (14 ∷ [])) (0 ∷ payload) (replicate 15 9)) (3 ∷ replicate 15 9)
-    ∷ row (writesAt (held (14 ∷ [])) payload (replicate 15 9)) (5 ∷ replicate 15 9)
+    ∷ example (writesAt (held []) payload (replicate 15 9)) (3 ∷ replicate 15 9)
+    ∷ example (writesAt (held (14 ∷ [])) payload (replicate 14 9)) (3 ∷ replicate 14 9)
+    ∷ example (writesAt (held (14 ∷ [])) (0 ∷ payload) (replicate 15 9)) (3 ∷ replicate 15 9)
+    ∷ example (writesAt (held (14 ∷ [])) payload (replicate 15 9)) (5 ∷ replicate 15 9)
     ∷ []
 
 -- "job read 1 2, 10 for K, 3 4 7 8 9, 10, 12 14"
-unfoldable pub readOrder : List Row
+unfoldable pub readOrder : List Example
 readOrder =
-    row (readOut (jobReadOut (strip 15 257 1 6) emptyTable [] [])) (1 ∷ [])
-    ∷ row (readOut (jobReadOut (strip 15 256 1 6) emptyTable [] [])) (2 ∷ [])
-    ∷ row (readOut (jobReadOut (small 12) emptyTable [] [])) (10 ∷ [])
+    example (readOut (jobReadOut (params 15 257 1 6) emptyTable [] [])) (1 ∷ [])
+    ∷ example (readOut (jobReadOut (params 15 256 1 6) emptyTable [] [])) (2 ∷ [])
+    ∷ example (readOut (jobReadOut (small 12) emptyTable [] [])) (10 ∷ [])
     -- the word, the payload
-    ∷ row (readsSmall emptyTable (replicate 13 17)) (3 ∷ replicate 5 9)
-    ∷ row (readOut (jobReadOut (small 14) emptyTable (replicate 14 17) (replicate 4 9))) (3 ∷ replicate 4 9)
-    ∷ row (readsSmall emptyTable (replicate 14 17)) (4 ∷ replicate 5 9)
-    ∷ row (readsSmall emptyTable (replicate 14 0)) (7 ∷ replicate 5 9)
-    ∷ row (readsSmall emptyTable (smallWord (15 ∷ 1 ∷ 0 ∷ []))) (10 ∷ replicate 5 9)
+    ∷ example (readsSmall emptyTable (replicate 13 17)) (3 ∷ replicate 5 9)
+    ∷ example (readOut (jobReadOut (small 14) emptyTable (replicate 14 17) (replicate 4 9))) (3 ∷ replicate 4 9)
+    ∷ example (readsSmall emptyTable (replicate 14 17)) (4 ∷ replicate 5 9)
+    ∷ example (readsSmall emptyTable (replicate 14 0)) (7 ∷ replicate 5 9)
+    ∷ example (readsSmall emptyTable (smallWord (15 ∷ 1 ∷ 0 ∷ []))) (10 ∷ replicate 5 9)
     ∷ []
 
 -- what is computed: every row's two sides are the same; the transfer example's word is presented as demand 3 asks, and its job is handed out
 pub record Computed : Type 0 where
-  pub transfer-holds : all holds transfer ≡ true
-  pub spelling-holds : all holds spelling ≡ true
-  pub write-order-holds : all holds writeOrder ≡ true
-  pub read-order-holds : all holds readOrder ≡ true
+  pub transfer-holds : all comesTrue transfer ≡ true
+  pub spelling-holds : all comesTrue spelling ≡ true
+  pub write-order-holds : all comesTrue writeOrder ≡ true
+  pub read-order-holds : all comesTrue readOrder ≡ true
   pub presented : Presented (inRange figures && fits figures) (constructionA figures) (wordWith 255) buffer
   pub handed : jobReadOut figures (after opened) (wordWith 255) buffer .answer ≡ served
 
 pub computed : Computed
-unfolding all any sameList sum has first members tabulate top choose rankFrom unrankDown unrank apart inBurst placements reduceFrom expandFrom rankOf startsOf byteWidth payloadLen pieceLen pieceStart blockAt blockHead blockWith weave pick span spell value places inRange parts blockMin indexTail fits messageLen becomes withBurst withBursts isBurst next fullPart barePart chosen beside isChosen isIndexIn isIndex indexBlocks isFixed cellOf kindAt plan word looksFixed later bareParts indexInPart collect indexFound heads written agrees readRank read holds firstEntry replaceFirst put twice decide tableFrom carriesJob jobNumber messageOf payloadIn spellsPayload jobWriteOut jobReading jobReadOut transfer spelling writeOrder readOrder flatMap
+unfolding all any sameList sum has first members tabulate top choose rankFrom unrankDown unrank apart inBurst placements reduceFrom expandFrom rankOf startsOf byteWidth payloadLen pieceLen pieceStart blockAt blockHead blockWith weave pick span spell value places inRange parts blockMin indexTail fits messageLen becomes withBurst withBursts isBurst next fullPart barePart chosen beside isChosen isIndexIn isIndex indexBlocks isFixed cellOf kindAt plan word looksFixed later bareParts indexInPart collect indexFound heads written agrees readRank read comesTrue firstEntry replaceFirst put twice decide tableFrom carriesJob jobNumber messageOf payloadIn spellsPayload jobWriteOut jobReading jobReadOut transfer spelling writeOrder readOrder flatMap
 computed =
     record {
       transfer-holds = refl;

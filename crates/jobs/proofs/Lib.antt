@@ -5,4 +5,3 @@ pub mod Turns
 pub mod Simulates
 pub mod HeldNumbers
 pub mod ReplayLaws
-pub mod Rows

@@ -4,4 +4,3 @@ pub mod Ledger
 pub mod Simulation
 pub mod Slots
 pub mod Replay
-pub mod Rows

@@ -5,7 +5,7 @@ use native.Mathlib.Nat.{mul-comm, mul-pos, le-mul-of-pos-right, le-div-iff-mul-l
 use native.Mathlib.Omega.{arith}
 use Rattle.cells.specs.Cut.{blockHead}
 use Rattle.cells.proofs.Cut.{block-next, block-most}
-use Rattle.construction_a.specs.Figures.{Params, inRange, fits, parts, blocks, blockMin}
+use Rattle.construction_a.specs.Figures.{Params, params, inRange, fits, parts, blocks, blockMin}
 use Rattle.construction_a.specs.Outcomes.{figuresOut}
 use Rattle.construction_a.proofs.Figures.{Served, serve}
 use Rattle.construction_a.proofs.Outcomes.{figured-fits}
@@ -13,7 +13,6 @@ use Rattle.params.specs.declared.Layout.{Layout}
 use Rattle.params.specs.declared.Figures.{Figures}
 use Rattle.params.specs.declared.Figures.the-variants.{Fit}
 use Rattle.params.specs.Answer.{figuredAs, LaidOut, LaidIn}
-use Rattle.params.specs.Bridge.{params}
 use Rattle.params.specs.Given.{maxBlocks, figuresOf, Fitting}
 use Rattle.params.proofs.Answered.{Bounds, bounds}
 

@@ -2,9 +2,8 @@
 use mathlib.Core.Path.{_≡_}
 use mathlib.Core.Bool.{true}
 use Prim.Native.Nat.{ℕ}
-use Rattle.construction_a.specs.Figures.{Params, inRange, fits}
+use Rattle.construction_a.specs.Figures.{Params, params, inRange, fits}
 use Rattle.params.specs.Answer.{LaidOut}
-use Rattle.params.specs.Bridge.{params}
 use Rattle.params.specs.declared.Layout.{Layout}
 
 -- the most blocks that a word can have: p × m where m is the largest

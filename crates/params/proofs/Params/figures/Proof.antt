@@ -5,10 +5,9 @@ use native.Mathlib.Nat.{mul-le-mul-right}
 use native.Mathlib.Omega.{arith}
 use borrow.Author.Needs.{needs}
 use borrow.Author.Tests.{not-true, not-false}
-use Rattle.construction_a.specs.Figures.{Params, inRange}
+use Rattle.construction_a.specs.Figures.{Params, params, inRange}
 use Rattle.construction_a.proofs.Figures.{ranged, unfitting}
 use Rattle.construction_a.proofs.Outcomes.{figures-invalid, figures-unfit}
-use Rattle.params.specs.Bridge.{params}
 use Rattle.params.proofs.Params.figures.Statement.{statement}
 use Rattle.params.proofs.Params.figures.Tie as tie
 
