@@ -12,9 +12,9 @@ use lib.Seq.{getD-set-same, getD-set-other}
 use Rattle.combinatorics.specs.Stretch.{first}
 use Rattle.combinatorics.proofs.Cases.{by-le, by-eq, eqb-same, eqb-other, eqb-false, leb-holds, leb-fails}
 use Rattle.combinatorics.proofs.Stretch.{first-in, first-false}
-use Rattle.construction_a.specs.Writing.{row, next, fullPart, barePart, Chosen, whole, oneEach, chosen, beside, isChosen, isIndexIn}
+use Rattle.construction_a.specs.Writing.{row, next, partCount, partWith, Chosen, whole, oneEach, chosen, beside, isChosen, isIndexIn}
 use Rattle.construction_a.proofs.Rule.{next-lt, at-row}
-use Rattle.blocks.specs.Blocks.{marked, partCount, firstPart}
+use Rattle.blocks.specs.Blocks.{marked}
 
 -- none yet
 pub mark-none : (I : ℕ → Bool) (kinds : List ℕ) (k : ℕ) → I k ≡ false → getD kinds k 0 ≡ marked I kinds k
@@ -91,21 +91,21 @@ module _ (m : ℕ) (B : ℕ → Bool) where
 -- ---- The three cases of the rule
 
 module _ (p m : ℕ) (B : ℕ → Bool) where
-  pub chosen-full : firstPart p m B m < p → chosen p m B ≡ whole (next p (firstPart p m B m))
-  unfolding chosen fullPart firstPart partCount
-  chosen-full h = rw (leb-holds (suc (firstPart p m B m)) p h)
+  pub chosen-full : partWith p m B m < p → chosen p m B ≡ whole (next p (partWith p m B m))
+  unfolding chosen partWith partCount
+  chosen-full h = rw (leb-holds (suc (partWith p m B m)) p h)
 
-  pub chosen-bare : p ≤ firstPart p m B m → firstPart p m B 0 < p → chosen p m B ≡ whole (firstPart p m B 0)
-  unfolding chosen fullPart barePart firstPart partCount
-  chosen-bare l h = rw (leb-fails (suc (firstPart p m B m)) p (omega arith), leb-holds (suc (firstPart p m B 0)) p h)
+  pub chosen-bare : p ≤ partWith p m B m → partWith p m B 0 < p → chosen p m B ≡ whole (partWith p m B 0)
+  unfolding chosen partWith partCount
+  chosen-bare l h = rw (leb-fails (suc (partWith p m B m)) p (omega arith), leb-holds (suc (partWith p m B 0)) p h)
 
-  pub chosen-each : p ≤ firstPart p m B m → p ≤ firstPart p m B 0 → chosen p m B ≡ oneEach
-  unfolding chosen fullPart barePart firstPart partCount
-  chosen-each l h = rw (leb-fails (suc (firstPart p m B m)) p (omega arith), leb-fails (suc (firstPart p m B 0)) p (omega arith))
+  pub chosen-each : p ≤ partWith p m B m → p ≤ partWith p m B 0 → chosen p m B ≡ oneEach
+  unfolding chosen partWith partCount
+  chosen-each l h = rw (leb-fails (suc (partWith p m B m)) p (omega arith), leb-fails (suc (partWith p m B 0)) p (omega arith))
 
   -- where no part is without burst blocks each has some
-  pub each-some : p ≤ firstPart p m B 0 → (i : ℕ) → i < p → 0 < partCount m B i
-  unfolding firstPart
+  pub each-some : p ≤ partWith p m B 0 → (i : ℕ) → i < p → 0 < partCount m B i
+  unfolding partWith
   each-some h i l =
       let e : partCount m B i ≢ 0 = eqb-false (partCount m B i) 0 (first-false p 0 i (λ x. eqb (partCount m B x) 0) (omega arith) (omega arith)) in
       omega arith

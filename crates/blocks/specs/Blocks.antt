@@ -2,12 +2,11 @@
 use mathlib.Core.Path.{_≡_}
 use mathlib.Core.Bool.{Bool, cond}
 use mathlib.Core.List.{List}
-use Prim.Native.Nat.{ℕ, _≤_}
+use Prim.Native.Nat.{ℕ, _≤_, _<_}
 use lib.Dec.{eqb}
 use lib.ListN.{getD}
-use Rattle.combinatorics.specs.Stretch.{count, first}
-use Rattle.construction_a.specs.Figures.{Params}
-use Rattle.construction_a.specs.Writing.{row, isBurst}
+use Rattle.construction_a.specs.Figures.{Params, blocks}
+use Rattle.construction_a.specs.Writing.{isBurst, isIndex}
 
 abbrev pub fixedKind : ℕ
 fixedKind = 0
@@ -22,13 +21,6 @@ indexKind = 2
 unfoldable pub bursts : List ℕ → ℕ → Bool
 bursts kinds k = eqb (getD kinds k 0) burstKind
 
--- how many blocks of part i are in a set, and the first part with so many
-unfoldable pub partCount : ℕ → (ℕ → Bool) → ℕ → ℕ
-partCount m B i = count m 0 (row m B i)
-
-unfoldable pub firstPart : ℕ → ℕ → (ℕ → Bool) → ℕ → ℕ
-firstPart p m B wanted = first p 0 (λ i. eqb (partCount m B i) wanted)
-
 -- a block's kind by what it is
 abbrev pub kindOf : Bool → Bool → ℕ
 kindOf isIndex isBurst = cond isIndex indexKind (cond isBurst burstKind fixedKind)
@@ -41,3 +33,7 @@ marked I kinds k = cond (I k) indexKind (getD kinds k 0)
 pub record BurstsOf (f : Params) (ss kinds : List ℕ) : Type 0 where
   pub set : bursts kinds ≡ isBurst f ss
   pub two : (k : ℕ) → getD kinds k 0 ≤ burstKind
+
+-- an array that has the kind of each block
+abbrev pub KindsOf : Params → List ℕ → List ℕ → Type 0
+KindsOf f ss kinds = (k : ℕ) → k < blocks f → getD kinds k 0 ≡ kindOf (isIndex f ss k) (isBurst f ss k)

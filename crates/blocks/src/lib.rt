@@ -5,11 +5,10 @@ ghost use Prim.Native.Nat.{ℕ, _+_, _*_, _≤_, _<_};
 ghost use lib.ListN.{getD, set};
 ghost use Rattle.combinatorics.specs.Stretch.{count, first};
 ghost use Rattle.construction_a.specs.Writing;
-ghost use Rattle.construction_a.specs.Figures.{blocks};
-ghost use Rattle.construction_a.specs.Writing.{next, becomes, Chosen, chosen, isIndexIn, isIndex, isBurst};
+ghost use Rattle.construction_a.specs.Writing.{next, becomes, partCount, partWith, Chosen, chosen, isIndexIn};
 ghost use Rattle.placements.specs.Bridge.{startsIn, Placing};
 ghost use Rattle.params.specs.Given.{maxBlocks, figuresOf};
-ghost use Rattle.blocks.specs.Blocks.{burstKind, bursts, partCount, firstPart, marked, kindOf, BurstsOf};
+ghost use Rattle.blocks.specs.Blocks.{burstKind, bursts, marked, BurstsOf, KindsOf};
 use params::Layout;
 use placements::Placement;
 
@@ -23,7 +22,7 @@ pub const INDEX: u8 = 2;
 // The kind of each block of a placement's word.
 pub fn kinds_of(layout: Layout, at: Placement) -> [u8; Layout::MAX_BLOCKS]
     requires { ⌜ Placing layout at ⌝ }
-    ensures { λ r. ⌜ ((k : ℕ) → k < blocks (figuresOf layout) → getD r k 0 ≡ kindOf (isIndex (figuresOf layout) (startsIn at) k) (isBurst (figuresOf layout) (startsIn at) k)) ⌝ }
+    ensures { λ r. ⌜ KindsOf (figuresOf layout) (startsIn at) r ⌝ }
 {
     with_index(burst_kinds(layout, at), layout.parts, layout.m)
 }
@@ -146,7 +145,7 @@ fn bursts_in(kinds: [u8; Layout::MAX_BLOCKS], m: usize, part: usize) -> usize
 // The first part that has so many burst blocks, or `parts`.
 fn part_with(kinds: [u8; Layout::MAX_BLOCKS], parts: usize, m: usize, wanted: usize) -> usize
     requires { ⌜ parts * m ≤ maxBlocks ⌝ }
-    ensures { λ r. ⌜ r ≡ firstPart parts m (bursts kinds) wanted ⌝ }
+    ensures { λ r. ⌜ r ≡ partWith parts m (bursts kinds) wanted ⌝ }
 {
     let mut i: usize = 0;
     while i < parts {

@@ -17,7 +17,7 @@ use Rattle.cells.specs.Digits.{spell, places}
 use Rattle.cells.proofs.Cells.{pick-at, pick-agrees, length-pick, no-burst, digits-woven, message-woven, woven-clean, clean-at}
 use Rattle.cells.proofs.Digits.{Spelled, spell-spelled, value-spell, length-places, length-spell, leads}
 use Rattle.construction_a.specs.Figures.{Params, parts, headOf, placementCount, indexTail}
-use Rattle.construction_a.specs.Writing.{isBurst, chosen, isIndex, indexBlocks, isFixed, kindAt, plan, rank, placementOf, word}
+use Rattle.construction_a.specs.Writing.{isBurst, chosen, isIndex, indexBlocks, isFixed, kindAt, plan, rank, word}
 use Rattle.construction_a.specs.Reading.{looksFixed, heads, written, agrees, readRank, read}
 use Rattle.construction_a.proofs.Figures.{Served, span-enough}
 use Rattle.construction_a.proofs.Rule.{at-row, i-list}

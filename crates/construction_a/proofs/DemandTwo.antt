@@ -1,10 +1,9 @@
 -- Demand 2 holds. Assumes nothing.
-use mathlib.Core.Path.{_≡_, refl, sym, ap, _∙_, subst}
-use mathlib.Core.Logic.{_↔_}
-use mathlib.Core.Bool.{Bool, true, false, not, _&&_}
+use mathlib.Core.Path.{_≡_, refl, sym, _∙_, subst}
+use mathlib.Core.Bool.{Bool, true, false, not}
 use mathlib.Core.List.{List}
 use mathlib.Core.Option.{Option, none, some}
-use Prim.Native.Nat.{ℕ, suc, _+_, _-_, _*_, _≤_, _<_}
+use Prim.Native.Nat.{ℕ, suc, _-_, _<_}
 use native.Mathlib.Omega.{arith}
 use lib.ListN.{length}
 use Rattle.refusals.specs.Refusals.{must, noPattern, valueTooLarge, disagrees}
@@ -12,7 +11,7 @@ use Rattle.combinatorics.proofs.Cases.{by-le, leb-holds, leb-fails}
 use Rattle.combinatorics.proofs.Lists.{below-at}
 use Rattle.combinatorics.proofs.Stretch.{length-tabulate}
 use Rattle.cells.specs.Cells.{message, pick}
-use Rattle.cells.specs.Codec.{accepted, refused, Word, LeadsTo, WritesWords, Exact}
+use Rattle.cells.specs.Codec.{accepted, refused, Word, WritesWords, Exact}
 use Rattle.cells.specs.Digits.{spell, places}
 use Rattle.cells.proofs.Cells.{length-woven, woven-below}
 use Rattle.cells.proofs.Codec.{one-pair, others-refused}
@@ -24,7 +23,7 @@ use Rattle.construction_a.specs.DemandTwo.{constructionA, Listed, no-pat
 use Rattle.construction_a.proofs.Figures.{Served, serve, span-enough, placed-starts, starts-placed}
 use Rattle.construction_a.proofs.Plan.{messages-count}
 use Rattle.construction_a.proofs.Complete.{rank-below, complete}
-use Rattle.construction_a.proofs.Sound.{Accepted, sound}
+use Rattle.construction_a.proofs.Sound.{sound}
 
 -- ---- Exactly
 

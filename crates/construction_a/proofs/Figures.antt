@@ -1,8 +1,8 @@
 -- What figures in range that fit give: the facts that the other laws go by, and that r is the least number of all that serves. Assumes nothing.
-use mathlib.Core.Path.{_≡_, refl, sym, ap, _∙_}
+use mathlib.Core.Path.{_≡_, sym, ap, _∙_}
 use mathlib.Core.Bool.{Bool, true, false, cond, _&&_, true≢false, false≢true}
 use mathlib.Core.List.{List}
-use Prim.Native.Nat.{ℕ, zero, suc, _+_, _-_, _*_, _/_, _^_, _≤_, _<_}
+use Prim.Native.Nat.{ℕ, zero, suc, _+_, _-_, _*_, _/_, _≤_, _<_}
 use native.Mathlib.Nat.{mul-comm, mul-assoc, mul-le-mul-left, div-mul-le-self}
 use native.Mathlib.Omega.{arith}
 use lib.Dec.{leb, ltb, eqb}
@@ -15,7 +15,7 @@ use Rattle.combinatorics.proofs.Lists.{both}
 use Rattle.combinatorics.proofs.Stretch.{first-true, first-false}
 use Rattle.cells.specs.Digits.{span, places}
 use Rattle.cells.proofs.Digits.{span-places}
-use Rattle.construction_a.specs.Figures.{Params, maxWord, maxAlphabet, maxBursts, inRange, isPlacement, parts, blockMin, placementCount, indexValues, indexTail, fits}
+use Rattle.construction_a.specs.Figures.{Params, maxWord, maxAlphabet, maxBursts, inRange, isPlacement, parts, blockMin, placementCount, indexValues, leastTail, indexTail, fits}
 
 -- "n is 3 to 1024, q 2 to 256, m 1 to 6, b at least 1", as facts
 pub record Ranged (f : Params) : Type 0 where
@@ -139,18 +139,18 @@ message-room f ok =
 -- ---- "r is the least whole number for which m such I-blocks together spell at least T values"
 
 -- where figures fit the I-blocks spell every rank
-pub index-enough : (f : Params) → Served f → placementCount f ≤ indexValues f (indexTail f)
-unfolding indexTail blockMin
+pub index-enough : (f : Params) → Served f → placementCount f ≤ indexValues (f .q) (f .m) (indexTail f)
+unfolding leastTail indexTail blockMin
 index-enough f ok =
-    le-of (placementCount f) (indexValues f (indexTail f)) (first-true (blockMin f) 0 (λ r. leb (placementCount f) (indexValues f r)) (omega (arith, ok .room)))
+    le-of (placementCount f) (indexValues (f .q) (f .m) (indexTail f)) (first-true (blockMin f) 0 (λ r. leb (placementCount f) (indexValues (f .q) (f .m) r)) (omega (arith, ok .room)))
 
 -- and no smaller number of further symbols would do, of all numbers
-pub index-least : (f : Params) (r : ℕ) → placementCount f ≤ indexValues f r → indexTail f ≤ r
-unfolding indexTail
+pub index-least : (f : Params) (r : ℕ) → placementCount f ≤ indexValues (f .q) (f .m) r → indexTail f ≤ r
+unfolding leastTail indexTail
 index-least f r h =
     by-le (indexTail f) r (λ _. indexTail f ≤ r) (λ l. l)
-    (λ l. absurd (true≢false (sym (leb-holds (placementCount f) (indexValues f r) h)
-    ∙ first-false (blockMin f) 0 r (λ r. leb (placementCount f) (indexValues f r)) (omega arith) l)))
+    (λ l. absurd (true≢false (sym (leb-holds (placementCount f) (indexValues (f .q) (f .m) r) h)
+    ∙ first-false (blockMin f) 0 r (λ r. leb (placementCount f) (indexValues (f .q) (f .m) r)) (omega arith) l)))
 
 -- the same by the places of the digits
 pub span-enough : (f : Params) → Served f → placementCount f ≤ span (f .q) (places (f .m) (indexTail f))

@@ -16,9 +16,9 @@ use Rattle.cells.specs.Cut.{pieceLen, pieceStart, blockAt, blockHead, blockWith
 use Rattle.cells.specs.Cells.{weave, pick}
 use Rattle.cells.specs.Codec.{Reading, accepted, refused}
 use Rattle.cells.specs.Digits.{span, spell, value, places}
-use Rattle.construction_a.specs.Figures.{params, blocks, parts, blockMin, indexTail, headOf}
-use Rattle.construction_a.specs.Writing.{becomes, withBurst, withBursts, isBurst, next, fullPart, barePart, chosen, beside, isChosen, isIndexIn, isIndex, indexBlocks, isFixed, cellOf, kindAt, plan, word}
-use Rattle.construction_a.specs.Reading.{looksFixed, later, bareParts, indexInPart, collect, indexFound, heads, written, agrees, readRank, read}
+use Rattle.construction_a.specs.Figures.{params, blocks, parts, blockMin, leastTail, indexTail, headOf}
+use Rattle.construction_a.specs.Writing.{becomes, withBurst, withBursts, isBurst, next, partCount, partWith, chosen, beside, isChosen, isIndexIn, isIndex, indexBlocks, isFixed, cellOf, kindAt, plan, word}
+use Rattle.construction_a.specs.Reading.{looksFixed, later, bareParts, openBlocks, indexInPart, collect, indexFound, heads, written, agrees, readRank, read}
 
 -- the B-blocks, ascending
 abbrev burstBlocks : ℕ → List ℕ → List ℕ
@@ -68,5 +68,5 @@ rows =
     ∷ []
 
 rows-hold : all comesTrue rows ≡ true
-unfolding all sameList sum has first members tabulate top choose rankFrom unrankDown unrank inBurst placements reduceFrom expandFrom rankOf startsOf pieceLen pieceStart blockAt blockHead blockWith weave pick span spell value places parts blockMin indexTail becomes withBurst withBursts isBurst next fullPart barePart chosen beside isChosen isIndexIn isIndex indexBlocks isFixed cellOf kindAt plan word looksFixed later bareParts indexInPart collect indexFound heads written agrees readRank read rows comesTrue flatMap
+unfolding all sameList sum has first members tabulate top choose rankFrom unrankDown unrank inBurst placements reduceFrom expandFrom rankOf startsOf pieceLen pieceStart blockAt blockHead blockWith weave pick span spell value places parts blockMin leastTail indexTail becomes withBurst withBursts isBurst next partCount partWith chosen beside isChosen isIndexIn isIndex indexBlocks isFixed cellOf kindAt plan word looksFixed later bareParts openBlocks indexInPart collect indexFound heads written agrees readRank read rows comesTrue flatMap
 rows-hold = refl

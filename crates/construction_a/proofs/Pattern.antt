@@ -14,7 +14,7 @@ use Rattle.combinatorics.specs.Stretch.{sum, count, has, first, keepIf, members
 use Rattle.combinatorics.proofs.Cases.{by-le, by-eq, by-bool, eqb-same, eqb-other, leb-holds, leb-fails}
 use Rattle.combinatorics.proofs.Stretch.{same, Each, each-map, at-or-past, some-false, has-none, has-some, has-ext, members-none, members-ext, length-tabulate}
 use Rattle.construction_a.specs.Writing.{next, row, Chosen, whole, oneEach, chosen, beside, isChosen}
-use Rattle.construction_a.specs.Reading.{later, bareParts, within, indexInPart, consBoth, collect, indexBy, indexFound}
+use Rattle.construction_a.specs.Reading.{later, bareParts, within, openBlocks, indexInPart, consBoth, collect, indexBy, indexFound}
 use Rattle.construction_a.proofs.Rule.{next-inner, next-last, next-lt, next-ne, one-at, one-only, by-chosen, blocksIn}
 
 -- ---- what `later` gives
@@ -93,7 +93,7 @@ collect-tabulate (suc n) k g f o = rw (o k (omega arith) (omega arith), collect-
 
 read-oneEach : (p m : ℕ) (B looks : ℕ → Bool) → 3 ≤ m → Seen p m B looks oneEach
     → ((x : ℕ) → x < p → count m 0 (row m B x) ≡ 1) → indexFound p m looks ≡ some (blocksIn p m B oneEach)
-unfolding indexFound bareParts indexInPart blocksIn isChosen beside later
+unfolding indexFound bareParts openBlocks indexInPart blocksIn isChosen beside later
 read-oneEach p m B looks h s o =
     let bare : (x : ℕ) → 0 ≤ x → x < 0 + p → not (has m 0 (row m looks x)) ≡ false =
     λ x _ g. let l : x < p = omega arith in
@@ -166,7 +166,7 @@ has-all m i looks e x a b =
     (λ t. absurd (true≢false (sym e ∙ ap not (has-some m 0 (x - i * m) (λ j. looks (i * m + j)) (omega arith) (omega arith) (rw d t))))) (λ t. rw t)
 
 pub taken-bare : (p m : ℕ) (looks : ℕ → Bool) (ks : List ℕ) → indexFound p m looks ≡ some ks → Each (λ k. not (looks k) ≡ true) ks
-unfolding indexFound bareParts indexInPart
+unfolding indexFound bareParts openBlocks indexInPart
 taken-bare p m looks ks = go bare (later p bare) (λ i. later-in p i bare wp (members-all p 0 wp))
   where
     w : ℕ → Bool
@@ -229,7 +229,7 @@ module _ (p m : ℕ) (a b : ℕ → Bool) (same-blocks : (k : ℕ) → k < p * m
       (λ i _ g. ap not (has-ext m 0 (row m a i) (row m b i) (λ j _ h. same-row i j (omega arith) (omega arith))))
 
   same-part : (i : ℕ) → i < p → indexInPart m a i ≡ indexInPart m b i
-  unfolding indexInPart
+  unfolding openBlocks indexInPart
   same-part i g =
       ap (λ (xs : List ℕ). within m i (later m xs))
       (members-ext m 0 (λ j. not (row m a i j)) (λ j. not (row m b i j)) (λ j _ h. ap not (same-row i j g (omega arith))))

@@ -8,8 +8,9 @@ use Rattle.combinatorics.proofs.Bursts.{rank-lt, starts-of-rank, rank-of-starts
 use Rattle.combinatorics.proofs.Cover.{cover-least, cover-is, covered-iff, covers-of, of-covers}
 use Rattle.construction_a.specs.Figures.{Params, isPlacement, placementCount}
 use Rattle.construction_a.specs.Writing.{rank, placementOf}
-use Rattle.construction_a.specs.Ranking.{RankBijection, CoveredBy, CoversLeast}
+use Rattle.construction_a.specs.Ranking.{RankBijection, BurstBlocks, CoveredBy, CoversLeast}
 use Rattle.construction_a.proofs.Figures.{Served, placed-starts, starts-placed}
+use Rattle.construction_a.proofs.Plan.{burst-blocks}
 
 pub rank-bijection : (f : Params) → Served f → RankBijection f
 rank-bijection f ok =
@@ -19,6 +20,9 @@ rank-bijection f ok =
       placed = λ v l. let r = rank-of-starts (f .n) (f .m) (f .b) (ok .long) (ok .total) v l in starts-placed f (placementOf f v) (r .placed) (r .count);
       same = λ v l. rank-of-starts (f .n) (f .m) (f .b) (ok .long) (ok .total) v l .rank;
     }
+
+pub burst-count : (f : Params) → Served f → BurstBlocks f
+burst-count f ok ss e = let p = placed-starts f ss e in burst-blocks f ok ss (p .0) (p .1)
 
 pub covers-least : (f : Params) → Served f → (worn : ℕ → Bool) → CoversLeast f worn
 covers-least f ok worn =

@@ -1,10 +1,10 @@
 -- Laws of the FBI rule on p parts of m blocks: exactly m B-blocks and m I-blocks, none in common. Assumes nothing.
-use mathlib.Core.Path.{_≡_, refl, sym, ap, ap₂, _∙_}
+use mathlib.Core.Path.{_≡_, refl, sym, ap, _∙_}
 use mathlib.Core.Logic.{_≢_}
 use mathlib.Core.Bool.{Bool, true, false, not, cond, _||_, or-true}
-use mathlib.Core.List.{List, [], _∷_, _++_}
-use Prim.Native.Nat.{ℕ, zero, suc, _+_, _-_, _*_, _/_, _%_, _≤_, _<_}
-use native.Mathlib.Nat.{mul-le-mul-right, div-eq-of-lt-le, div-mul-le-self, lt-div-mul-add, mod-lt}
+use mathlib.Core.List.{List, [], _∷_}
+use Prim.Native.Nat.{ℕ, zero, suc, _+_, _-_, _*_, _/_, _≤_, _<_}
+use native.Mathlib.Nat.{mul-le-mul-right, div-eq-of-lt-le, div-mul-le-self, lt-div-mul-add}
 use native.Mathlib.Omega.{arith}
 use lib.Arith.{digits-div, digits-mod}
 use lib.Dec.{ltb, eqb}
@@ -12,7 +12,7 @@ use lib.ListN.{length}
 use Rattle.combinatorics.specs.Stretch.{sum, bit, count, first, members, tabulate}
 use Rattle.combinatorics.proofs.Cases.{by-le, by-eq, by-bool, eqb-same, eqb-other, eqb-true, eqb-false}
 use Rattle.combinatorics.proofs.Stretch.{same, Each, at-or-past, sum-one, sum-both, sum-ones, sum-each, sum-rows, bit-false, count-le, first-true, first-false, first-in, members-run, members-append, length-tabulate}
-use Rattle.construction_a.specs.Writing.{becomes, withBurst, withBursts, next, row, fullPart, barePart, Chosen, whole, oneEach, chosen, beside, isChosen, isIndexIn}
+use Rattle.construction_a.specs.Writing.{becomes, withBurst, withBursts, next, row, partCount, partWith, Chosen, whole, oneEach, chosen, beside, isChosen, isIndexIn}
 
 -- ---- I-blocks
 
@@ -52,7 +52,7 @@ rows p m B =
 module _ (p m : ℕ) (B : ℕ → Bool) (hp : 3 ≤ p) (hm : 0 < m) (hmp : m ≤ p) (all : count (p * m) 0 B ≡ m) (P : Chosen → Type 0) where
   pub by-chosen : ((a : ℕ) → a < p → count m 0 (row m B a) ≡ 0 → ((x : ℕ) → x < p → x ≢ a → next p x ≢ a → count m 0 (row m B x) < m) → P (whole a))
       → (p ≡ m → ((x : ℕ) → x < p → count m 0 (row m B x) ≡ 1) → P oneEach) → P (chosen p m B)
-  unfolding chosen fullPart barePart
+  unfolding chosen partCount partWith
   by-chosen in-whole in-oneEach =
       by-le (suc i) p (λ t. P (cond t (whole (next p i)) (cond (ltb f p) (whole f) oneEach)))
       (λ l.

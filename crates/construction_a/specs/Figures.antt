@@ -62,12 +62,17 @@ abbrev pub placementCount : Params → ℕ
 placementCount f = placements (f .n) (f .m) (f .b)
 
 -- "An I-block's first 1 + r symbols can spell q − 1 values in the first place and q in each of the r others": what m of them spell
-abbrev pub indexValues : Params → ℕ → ℕ
-indexValues f r = ((f .q - 1) * f .q ^ r) ^ f .m
+abbrev pub indexValues : ℕ → ℕ → ℕ → ℕ
+indexValues q m r = ((q - 1) * q ^ r) ^ m
 
--- "r is the least whole number for which m such I-blocks together spell at least T values." Sought below L: where it is not, figures don't fit.
+-- "r is the least whole number for which m such I-blocks together spell at least T values": sought below a limit, which is the answer where
+-- none does
+unfoldable pub leastTail : ℕ → ℕ → ℕ → ℕ → ℕ
+leastTail q m count limit = first limit 0 (λ r. leb count (indexValues q m r))
+
+-- the limit is L: where r is not below it, figures don't fit
 unfoldable pub indexTail : Params → ℕ
-indexTail f = first (blockMin f) 0 (λ r. leb (placementCount f) (indexValues f r))
+indexTail f = leastTail (f .q) (f .m) (placementCount f) (blockMin f)
 
 -- "Figures fit when m × b is at most n, r is below L, and b is at most L − r."
 unfoldable pub fits : Params → Bool

@@ -35,9 +35,13 @@ abbrev pub within : ℕ → ℕ → Option ℕ → Option ℕ
 within m i none = none
 within m i (some j) = some (i * m + j)
 
+-- the blocks of part i that don't look F, counted within the part
+unfoldable pub openBlocks : ℕ → (ℕ → Bool) → ℕ → List ℕ
+openBlocks m looks i = members m 0 (λ j. not (row m looks i j))
+
 -- "in each part the blocks that don't look F are one (it is I), or two, where neighbours give the later and blocks 0 and m − 1 give block 0"
 unfoldable pub indexInPart : ℕ → (ℕ → Bool) → ℕ → Option ℕ
-indexInPart m looks i = within m i (later m (members m 0 (λ j. not (row m looks i j))))
+indexInPart m looks i = within m i (later m (openBlocks m looks i))
 
 -- one of each, or none where one lacks
 abbrev pub consBoth : Option ℕ → Option (List ℕ) → Option (List ℕ)
@@ -60,10 +64,11 @@ indexFound p m looks = indexBy p m looks (bareParts p m looks) (later p (barePar
 
 -- ---- From the I-blocks to the answer
 
--- what the first 1 + r symbols of the I-blocks spell
+-- the first 1 + r symbols of the I-blocks, from left to right
 unfoldable pub heads : Params → List ℕ → List ℕ → List ℕ
 heads f w ks = flatMap (λ k. tabulate (suc (indexTail f)) (headOf f k) (λ x. getD w x 0)) ks
 
+-- and what they spell
 unfoldable pub written : Params → List ℕ → List ℕ → ℕ
 written f w ks = value (f .q) (places (f .m) (indexTail f)) (heads f w ks)
 

@@ -41,13 +41,12 @@ next n i = cond (eqb (suc i) n) 0 (suc i)
 abbrev pub row : ℕ → (ℕ → Bool) → ℕ → ℕ → Bool
 row m w i j = w (i * m + j)
 
--- the first part whose blocks are all B, and the first that has none, or p. There are m B-blocks and m blocks in a part, so that all B lie in one
--- part exactly where all of its blocks are B.
-unfoldable pub fullPart : ℕ → ℕ → (ℕ → Bool) → ℕ
-fullPart p m B = first p 0 (λ i. eqb (count m 0 (row m B i)) m)
+-- how many blocks of part i are in a set, and the first part that has so many, or p
+unfoldable pub partCount : ℕ → (ℕ → Bool) → ℕ → ℕ
+partCount m B i = count m 0 (row m B i)
 
-unfoldable pub barePart : ℕ → ℕ → (ℕ → Bool) → ℕ
-barePart p m B = first p 0 (λ i. eqb (count m 0 (row m B i)) 0)
+unfoldable pub partWith : ℕ → ℕ → (ℕ → Bool) → ℕ → ℕ
+partWith p m B wanted = first p 0 (λ i. eqb (partCount m B i) wanted)
 
 -- the I-blocks are every block of one part, or one block of each part
 pub data Chosen : Type 0 where
@@ -55,10 +54,11 @@ pub data Chosen : Type 0 where
   oneEach : Chosen
 
 -- "all B in one part i: every block of part i+1, part 0 after the last; some part has no B, and B lie in more than one part: every block
--- of the first such part; each part has one B .."
+-- of the first such part; each part has one B .." There are m B-blocks (`BurstBlocks` of specs/Ranking) and m blocks in a part: all B lie in
+-- one part exactly where it has m of them, and where no part has none each has one.
 unfoldable pub chosen : ℕ → ℕ → (ℕ → Bool) → Chosen
 chosen p m B =
-    cond (ltb (fullPart p m B) p) (whole (next p (fullPart p m B))) (cond (ltb (barePart p m B) p) (whole (barePart p m B)) oneEach)
+    cond (ltb (partWith p m B m) p) (whole (next p (partWith p m B m))) (cond (ltb (partWith p m B 0) p) (whole (partWith p m B 0)) oneEach)
 
 -- ".., at block j: block j+1 of that part, block 0 after the last"
 unfoldable pub beside : ℕ → (ℕ → Bool) → ℕ → ℕ

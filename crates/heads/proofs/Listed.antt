@@ -14,12 +14,12 @@ use Rattle.combinatorics.proofs.Cases.{by-le, eqb-same, eqb-other, leb-holds, l
 use Rattle.combinatorics.proofs.Stretch.{count-le, members-on, members-most, none-has, length-members}
 use Rattle.construction_a.specs.Figures.{maxBursts}
 use Rattle.construction_a.specs.Writing.{row}
-use Rattle.construction_a.specs.Reading.{later, bareParts, indexInPart, consBoth, collect, indexBy, indexFound}
+use Rattle.construction_a.specs.Reading.{later, bareParts, openBlocks, indexInPart, consBoth, collect, indexBy, indexFound}
 use Rattle.heads.specs.declared.pattern.Candidates.{Candidates}
 use Rattle.heads.specs.declared.pattern.IndexBlocks.{IndexBlocks}
 use Rattle.params.specs.Given.{maxBlocks}
 use Rattle.heads.specs.Looks.{fixedLook, looksIn}
-use Rattle.heads.specs.Patterns.{Parted, heldOf, numbered, openBlocks, indexIn}
+use Rattle.heads.specs.Patterns.{Parted, heldOf, numbered, indexIn}
 
 -- a part's blocks are among the blocks of the word
 pub part-fits : (p m i : ℕ) → Parted p m → i < p → i * m + m ≤ maxBlocks
@@ -156,11 +156,11 @@ bare-is m i looks = none-has m 0 (row m looks i) ∙ ap (λ (y : ℕ). eqb y m) 
 -- the index block of a part, by its number within the part
 module _ (m i j : ℕ) (looks : ℕ → Bool) (found : numbered m j ≡ later m (openBlocks m looks i)) where
   pub in-part : j < m → indexInPart m looks i ≡ some (i * m + j)
-  unfolding indexInPart openBlocks
+  unfolding openBlocks indexInPart
   in-part l = rw (← found, numbered-in m j l)
 
   pub in-part-none : m ≤ j → indexInPart m looks i ≡ none
-  unfolding indexInPart openBlocks
+  unfolding openBlocks indexInPart
   in-part-none l = rw (← found, numbered-out m j l)
 
 both-none : (o : Option ℕ) → consBoth o none ≡ none

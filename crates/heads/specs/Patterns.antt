@@ -1,18 +1,16 @@
 -- What the search for a listed pattern goes by. Assumes nothing.
 use mathlib.Core.Path.{_≡_}
-use mathlib.Core.Bool.{Bool, not, cond}
+use mathlib.Core.Bool.{cond}
 use mathlib.Core.List.{List}
 use mathlib.Core.Option.{Option, none, some}
 use Prim.Native.Nat.{ℕ, _≤_, _<_}
 use lib.Dec.{ltb}
 use lib.ListN.{length, getD, take}
-use Rattle.combinatorics.specs.Stretch.{members}
 use Rattle.construction_a.specs.Figures.{maxBursts}
-use Rattle.construction_a.specs.Writing.{row}
 use Rattle.heads.specs.declared.pattern.Candidates.{Candidates}
 use Rattle.heads.specs.declared.pattern.IndexBlocks.{IndexBlocks}
 
--- "p is 3 for m of 1 or 2, else m"
+-- what the search needs of p and m
 pub record Parted (p m : ℕ) : Type 0 where
   pub some-parts : 0 < p
   pub some-blocks : 0 < m
@@ -27,10 +25,6 @@ heldOf xs = record { count = length xs; first = getD xs 0 0; second = getD xs 1 
 -- a number below n, or none
 unfoldable pub numbered : ℕ → ℕ → Option ℕ
 numbered n i = cond (ltb i n) (some i) none
-
--- the blocks of part i that don't look F
-unfoldable pub openBlocks : ℕ → (ℕ → Bool) → ℕ → List ℕ
-openBlocks m looks i = members m 0 (λ j. not (row m looks i j))
 
 -- the m index blocks of an answer
 unfoldable pub indexIn : ℕ → IndexBlocks → Option (List ℕ)

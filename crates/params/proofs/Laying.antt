@@ -6,12 +6,10 @@ use native.Mathlib.Nat.{mul-pos, mul-le-mul, le-mul-of-pos-right, div-le-self}
 use native.Mathlib.Omega.{arith}
 use Rattle.refusals.specs.Refusals.{unfit}
 use Rattle.combinatorics.specs.Bursts.{contracted}
-use Rattle.cells.proofs.Digits.{span-places}
-use Rattle.construction_a.specs.Figures.{Params, maxWord, maxBursts, inRange, fits, parts, blockMin, placementCount, indexTail, messageLen}
+use Rattle.construction_a.specs.Figures.{Params, maxWord, maxBursts, inRange, fits, parts, blockMin, placementCount, leastTail, indexTail, messageLen}
 use Rattle.construction_a.specs.Outcomes.{figured, unserved, figuresOut}
 use Rattle.construction_a.proofs.Figures.{Ranged, ranged, Served, serve, three-parts, parts-few, fitting, unfitting, message-room}
 use Rattle.construction_a.proofs.Outcomes.{figures-unfit, figures-served}
-use Rattle.params.specs.Tail.{leastTail}
 
 -- ---- Figures in range whose bursts a word can hold, and p
 
@@ -46,8 +44,8 @@ pub record Searched (f : Params) (p r : ℕ) : Type 0 where
 
 module _ {f : Params} {p r : ℕ} (h : Searched f p r) where
   pub tail-is : r ≡ indexTail f
-  unfolding leastTail indexTail
-  tail-is = h .found ∙ (rw (min-is (h .parted)) (simp span-places))
+  unfolding indexTail
+  tail-is = h .found ∙ (rw (min-is (h .parted)))
 
   misfit : ¬ Served f → figuresOut f ≡ unserved unfit
   misfit not-served = figures-unfit f (h .parted .range) (unfitting f (h .parted .range) not-served)

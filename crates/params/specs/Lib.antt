@@ -1,5 +1,4 @@
 pub mod Bridge
 pub mod Answer
-pub mod Tail
 pub mod Blocks
 pub mod Given

@@ -9,13 +9,8 @@ use lib.ListN.{length, getD}
 use Rattle.cells.specs.Cells.{Cell, burst, fixed, digit, message}
 use Rattle.construction_a.specs.Figures.{Params, blocks, headOf, indexTail}
 use Rattle.construction_a.specs.Writing.{isBurst, isIndex, kindAt}
-use Rattle.blocks.specs.Blocks.{kindOf}
 use Rattle.stretches.specs.declared.Walk.{Walk}
 use Rattle.stretches.specs.declared.Stretch.{Stretch}
-
--- an array that has the kind of each block
-abbrev pub KindsOf : Params → List ℕ → List ℕ → Type 0
-KindsOf f ss kinds = (k : ℕ) → k < blocks f → getD kinds k 0 ≡ kindOf (isIndex f ss k) (isBurst f ss k)
 
 -- a kind of cell by its number
 abbrev pub cellNamed : ℕ → Cell

@@ -2,9 +2,10 @@
 ghost use mathlib.Core.Path.{_≡_};
 ghost use Prim.Native.Nat.{suc, _<_, min};
 ghost use Rattle.construction_a.specs.Figures.{blocks, headOf};
+ghost use Rattle.blocks.specs.Blocks.{KindsOf};
 ghost use Rattle.placements.specs.Bridge.{startsIn, Placing};
 ghost use Rattle.params.specs.Given.{figuresOf, Fitting};
-ghost use Rattle.stretches.specs.Walk.{KindsOf, Walking, Come, Stretches, nextStart, passedBy, Moving};
+ghost use Rattle.stretches.specs.Walk.{Walking, Come, Stretches, nextStart, passedBy, Moving};
 use blocks::FIXED;
 use blocks::INDEX;
 use params::Layout;

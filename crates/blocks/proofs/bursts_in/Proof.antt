@@ -5,8 +5,8 @@ use Prim.Native.Nat.{ℕ, _*_, _≤_, _-_}
 use native.Mathlib.Omega.{arith}
 use borrow.Author.Needs.{needs}
 use Rattle.combinatorics.specs.Stretch.{sum, count}
-use Rattle.construction_a.specs.Writing.{row}
-use Rattle.blocks.specs.Blocks.{bursts, partCount}
+use Rattle.construction_a.specs.Writing.{row, partCount}
+use Rattle.blocks.specs.Blocks.{bursts}
 use Rattle.blocks.proofs.BlockSets.{one-more, none-more}
 use Rattle.blocks.proofs.bursts_in.Statement.{statement}
 use Rattle.blocks.proofs.bursts_in.Tie as tie

@@ -9,7 +9,8 @@ use lib.Dec.{eqb}
 use Rattle.combinatorics.specs.Stretch.{first}
 use Rattle.combinatorics.proofs.Cases.{eqb-same, eqb-other}
 use Rattle.combinatorics.proofs.Stretch.{first-start, first-here, first-on, first-over}
-use Rattle.blocks.specs.Blocks.{bursts, partCount, firstPart}
+use Rattle.construction_a.specs.Writing.{partCount, partWith}
+use Rattle.blocks.specs.Blocks.{bursts}
 use Rattle.blocks.proofs.part_with.Statement.{statement}
 use Rattle.blocks.proofs.part_with.Tie as tie
 
@@ -30,7 +31,7 @@ bursts-in-requires c κs =
     omega (arith, mul-le-mul-right (a .m) l)
 
 returns : tie.Need-returns Inv-loop μ-loop
-unfolding firstPart
+unfolding partWith
 returns c =
     let s = c .before .before .before in
     let a = s .before .args in
@@ -51,7 +52,7 @@ loop-again c =
     (omega arith, sym (first-on (a .parts) (s .loop .i) w (omega arith) (eqb-other (partCount (a .m) (bursts (a .kinds)) (s .loop .i)) (a .wanted) (λ e. c .if1 .left (c .before .bursts-in .ensures ∙ e)))) ∙ s .loop .inv .1)
 
 returns-2 : tie.Need-returns-2 Inv-loop μ-loop
-unfolding firstPart
+unfolding partWith
 returns-2 c =
     let s = c .before in
     let a = s .before .args in

@@ -5,9 +5,9 @@ use native.Mathlib.Nat.{mul-le-mul-right}
 use native.Mathlib.Omega.{arith}
 use borrow.Author.Needs.{needs}
 use lib.ListN.{getD}
-use Rattle.construction_a.specs.Writing.{Chosen, whole, chosen, isIndexIn, next}
+use Rattle.construction_a.specs.Writing.{Chosen, whole, chosen, isIndexIn, next, partWith}
 use Rattle.construction_a.proofs.Rule.{next-lt}
-use Rattle.blocks.specs.Blocks.{bursts, marked, firstPart}
+use Rattle.blocks.specs.Blocks.{bursts, marked}
 use Rattle.blocks.proofs.Marks.{chosen-full, chosen-bare, chosen-each, each-some}
 use Rattle.blocks.proofs.with_index.Statement.{statement}
 use Rattle.blocks.proofs.with_index.Tie as tie
@@ -30,7 +30,7 @@ returns c =
     let b = c .before .before .before in
     let a = b .before .args in
     let B = bursts (a .kinds) in
-    let l : firstPart (a .parts) (a .m) B (a .m) < a .parts = omega (arith, b .part-with .ensures) in
+    let l : partWith (a .parts) (a .m) B (a .m) < a .parts = omega (arith, b .part-with .ensures) in
     let e : whole (c .before .following .result) ≡ chosen (a .parts) (a .m) B =
     ap whole (c .before .following .ensures ∙ ap (next (a .parts)) (b .part-with .ensures)) ∙ sym (chosen-full (a .parts) (a .m) B l) in
     λ k _. subst (λ (s : Chosen). getD (c .with-part .result) k 0 ≡ marked (isIndexIn (a .m) B s) (a .kinds) k) e (c .with-part .ensures k)

@@ -9,9 +9,9 @@ use lib.ListN.{length}
 use Rattle.combinatorics.specs.Stretch.{has, members}
 use Rattle.combinatorics.proofs.Cases.{eqb-same, eqb-other}
 use Rattle.construction_a.specs.Writing.{row}
-use Rattle.construction_a.specs.Reading.{bareParts}
+use Rattle.construction_a.specs.Reading.{openBlocks, bareParts}
 use Rattle.heads.specs.Looks.{looksIn}
-use Rattle.heads.specs.Patterns.{heldOf, openBlocks}
+use Rattle.heads.specs.Patterns.{heldOf}
 use Rattle.heads.proofs.Listed.{part-fits, held-few, held-in, held-out, count-is, bare-is}
 use Rattle.heads.proofs.pattern.bare_parts.Statement.{statement}
 use Rattle.heads.proofs.pattern.bare_parts.Tie as tie

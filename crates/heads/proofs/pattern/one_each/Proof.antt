@@ -10,10 +10,9 @@ use Rattle.combinatorics.specs.Stretch.{tabulate}
 use Rattle.combinatorics.proofs.Stretch.{take-is, filled-on}
 use Rattle.construction_a.specs.Figures.{maxBursts}
 use Rattle.construction_a.specs.Writing.{row}
-use Rattle.construction_a.specs.Reading.{indexInPart}
+use Rattle.construction_a.specs.Reading.{openBlocks, indexInPart}
 use Rattle.construction_a.proofs.Pattern.{collect-tabulate}
 use Rattle.heads.specs.Looks.{looksIn}
-use Rattle.heads.specs.Patterns.{openBlocks}
 use Rattle.heads.proofs.Listed.{part-fits, held-below, in-part, in-part-none, collect-none, index-none, index-some}
 use Rattle.heads.proofs.pattern.one_each.Statement.{statement}
 use Rattle.heads.proofs.pattern.one_each.Tie as tie

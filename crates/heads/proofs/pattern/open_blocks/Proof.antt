@@ -7,8 +7,9 @@ use native.Mathlib.Omega.{arith}
 use borrow.Author.Needs.{needs}
 use Rattle.combinatorics.specs.Stretch.{members}
 use Rattle.construction_a.specs.Writing.{row}
+use Rattle.construction_a.specs.Reading.{openBlocks}
 use Rattle.heads.specs.Looks.{looksIn}
-use Rattle.heads.specs.Patterns.{heldOf, openBlocks}
+use Rattle.heads.specs.Patterns.{heldOf}
 use Rattle.heads.proofs.Listed.{held-few, held-in, held-out, look-fixed, look-open}
 use Rattle.heads.proofs.pattern.open_blocks.Statement.{statement}
 use Rattle.heads.proofs.pattern.open_blocks.Tie as tie

@@ -4,10 +4,9 @@ use Prim.Native.Nat.{ℕ, _+_, _-_, _*_, _/_}
 use native.Mathlib.Omega.{arith}
 use borrow.Author.Needs.{needs}
 use Rattle.combinatorics.specs.Bursts.{placements}
-use Rattle.construction_a.specs.Figures.{Params, placementCount}
+use Rattle.construction_a.specs.Figures.{leastTail, Params, placementCount}
 use Rattle.construction_a.specs.Outcomes.{figured}
 use Rattle.params.specs.Bridge.{given}
-use Rattle.params.specs.Tail.{leastTail}
 use Rattle.params.proofs.Laying.{Parted, in-range, blocks-some, blocks-few, contracted-fits, min-is, Searched, tail-is, tail-unfit, burst-unfit, Fitted, taken-fits, sum-fits, len-is, figured-as}
 use Rattle.params.proofs.Params.laid_out.Statement.{statement}
 use Rattle.params.proofs.Params.laid_out.Tie as tie

@@ -1,5 +1,5 @@
 -- `least_tail` meets its contract: the values are those of r further symbols, stopped at the count, and no number below r was enough. Assumes nothing.
-use mathlib.Core.Path.{_≡_, sym, _∙_}
+use mathlib.Core.Path.{_≡_, sym, ap, _∙_, fun-ext}
 use mathlib.Core.Bool.{Bool, false}
 use Prim.Native.Nat.{ℕ, _-_, _^_, _≤_, _<_, min}
 use native.Mathlib.Numerals.{add-one}
@@ -7,11 +7,12 @@ use native.Mathlib.Omega.{arith}
 use borrow.Author.Count.{below-more}
 use borrow.Author.Needs.{needs}
 use lib.Dec.{leb}
+use Rattle.combinatorics.specs.Stretch.{first}
 use Rattle.combinatorics.proofs.Cases.{leb-holds, leb-fails}
 use Rattle.combinatorics.proofs.Stretch.{first-is, first-none}
 use Rattle.cells.specs.Digits.{span, places}
-use Rattle.cells.proofs.Digits.{span-first, span-longer}
-use Rattle.params.specs.Tail.{leastTail}
+use Rattle.cells.proofs.Digits.{span-first, span-longer, span-places}
+use Rattle.construction_a.specs.Figures.{leastTail}
 use Rattle.params.proofs.Capped.{cap-both, cap-reached, cap-missed}
 use Rattle.params.proofs.tail.least_tail.Statement.{statement}
 use Rattle.params.proofs.tail.least_tail.Tie as tie
@@ -19,6 +20,11 @@ use Rattle.params.proofs.tail.least_tail.Tie as tie
 -- whether r further symbols are enough
 abbrev enough : ℕ → ℕ → ℕ → ℕ → Bool
 enough q blocks count r = leb count (span q (places blocks r))
+
+-- what the definition seeks, by the places of the digits
+least-spans : (q blocks count limit : ℕ) → leastTail q blocks count limit ≡ first limit 0 (enough q blocks count)
+unfolding leastTail
+least-spans q blocks count limit = ap (first limit 0) (fun-ext (λ r. ap (leb count) (sym (span-places q blocks r))))
 
 abbrev Inv-loop : tie.InvT-loop
 Inv-loop q blocks count limit step values₀ r₀ values r =
@@ -42,13 +48,12 @@ loop-holds c =
     (omega arith, c .before .capped-power .ensures, rw (span-first (a .q) (a .blocks)) (c .capped-power2 .ensures), λ x l. absurd (omega arith))
 
 returns : tie.Need-returns Inv-loop μ-loop
-unfolding leastTail
 returns c =
     let a = c .before .before .before .before .before .args in
     let s = c .before .before .loop in
     let v = span (a .q) (places (a .blocks) (s .r)) in
     let h : a .count ≤ v = cap-reached v (a .count) (rw (s .inv .2) at (c .if1 .taken)) in
-    sym (first-is (a .limit) 0 (s .r) (enough (a .q) (a .blocks) (a .count)) (omega arith) (omega arith) (λ x _ l. s .inv .3 x l) (leb-holds (a .count) v h))
+    sym (least-spans (a .q) (a .blocks) (a .count) (a .limit) ∙ first-is (a .limit) 0 (s .r) (enough (a .q) (a .blocks) (a .count)) (omega arith) (omega arith) (λ x _ l. s .inv .3 x l) (leb-holds (a .count) v h))
 
 capped-product-requires : tie.Need-capped-product-requires Inv-loop μ-loop
 capped-product-requires c κs = search needs
@@ -72,11 +77,10 @@ loop-again c =
     )
 
 returns-2 : tie.Need-returns-2 Inv-loop μ-loop
-unfolding leastTail
 returns-2 c =
     let a = c .before .before .before .before .args in
     let s = c .before .loop in
-    sym (first-none (a .limit) 0 (enough (a .q) (a .blocks) (a .count)) (λ x _ l. s .inv .3 x (omega arith)) ∙ omega arith)
+    sym (least-spans (a .q) (a .blocks) (a .count) (a .limit) ∙ first-none (a .limit) 0 (enough (a .q) (a .blocks) (a .count)) (λ x _ l. s .inv .3 x (omega arith)) ∙ omega arith)
 
 pub least-tail-spec : {M : Type 1} → statement M
 least-tail-spec =
