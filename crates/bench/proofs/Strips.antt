@@ -1,5 +1,5 @@
 -- The starred strips hold: one computation over the whole table. Assumes nothing.
-use mathlib.Core.Path.{_≡_, refl}
+use mathlib.Core.Path.{refl}
 use mathlib.Core.List.{flatMap}
 use Rattle.combinatorics.specs.Examples.{comesTrue}
 use Rattle.combinatorics.specs.Lists.{all, any, sameList}

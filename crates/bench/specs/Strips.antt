@@ -1,6 +1,6 @@
 -- Document 01's bench strips that are "starred: to be proved", as one table. The proof is `starred-hold` of proofs/Strips.antt. Assumes nothing.
 use mathlib.Core.Path.{_≡_}
-use mathlib.Core.Bool.{Bool, true}
+use mathlib.Core.Bool.{true}
 use mathlib.Core.List.{List, [], _∷_, _++_}
 use Prim.Native.Nat.{ℕ}
 use lib.Dec.{eqb}

@@ -5,13 +5,12 @@ use mathlib.Core.Bool.{Bool, true, false, true≢false, false≢true}
 use mathlib.Core.List.{List, [], _∷_, map, tail}
 use Prim.Native.Nat.{ℕ, zero, suc, _+_, _≤_, _<_}
 use native.Mathlib.Omega.{arith}
-use lib.Dec.{eqb}
 use lib.ListN.{length, getD, drop, length-map}
 use Rattle.combinatorics.specs.Lists.{all, allBelow}
 use Rattle.combinatorics.specs.Stretch.{sum, bit, count, keepIf, members, tabulate}
 use Rattle.combinatorics.proofs.Cases.{by-bool, leb-holds}
 use Rattle.combinatorics.proofs.Stretch.{at-or-past, length-members}
-use Rattle.cells.specs.Cells.{Cell, burst, fixed, digit, message, code, is, weave, pick}
+use Rattle.cells.specs.Cells.{Cell, burst, fixed, digit, message, is, weave, pick}
 
 -- two words agree but for the bursts
 abbrev pub Agree : List Cell → List ℕ → List ℕ → Type 0

@@ -1,8 +1,7 @@
 -- Laws of any exact code. Assumes nothing.
 use mathlib.Core.Path.{_≡_, sym, _∙_}
 use mathlib.Core.List.{List}
-use Prim.Native.Nat.{ℕ, suc}
-use native.Mathlib.Omega.{arith}
+use Prim.Native.Nat.{ℕ}
 use Rattle.cells.specs.Codec.{Reading, accepted, refused, Codec, Word, LeadsTo, Exact}
 
 -- no two pairs lead to one word

@@ -1,8 +1,7 @@
 -- Laws of cutting: pieces follow one another, no two lengths differ by more than one, and shorter ones come first; blocks of parts likewise; and
 -- which blocks' first positions a burst can touch. Assumes nothing.
-use mathlib.Core.Path.{_≡_, refl, sym, ap, ap₂, _∙_}
+use mathlib.Core.Path.{_≡_, refl, ap, _∙_}
 use mathlib.Core.Logic.{_≢_}
-use mathlib.Core.Bool.{Bool, true, false}
 use Prim.Native.Nat.{ℕ, zero, suc, _+_, _-_, _*_, _/_, _%_, _≤_, _<_}
 use native.Mathlib.Nat.{add-mul, mul-add, div-lt-iff-lt-mul, lt-div-mul-add, div-add-mod, div-add-mod', mod-lt, le-div-iff-mul-le, div-mul-le-self, div-div-eq-div-mul, div-le-of-le-mul, le-trans, mul-comm, mul-le-mul-right}
 use native.Mathlib.Decide.{le-ind}

@@ -1,7 +1,6 @@
 -- A word written or taken apart stretch by stretch: what one more stretch of cells of one kind adds. Assumes nothing.
-use mathlib.Core.Path.{_≡_, refl, sym, ap, ap₂, _∙_}
-use mathlib.Core.Logic.{_≢_}
-use mathlib.Core.Bool.{Bool, true, false, true≢false, false≢true}
+use mathlib.Core.Path.{_≡_, refl, ap, ap₂, _∙_}
+use mathlib.Core.Bool.{Bool, true, false}
 use mathlib.Core.List.{List, [], _∷_, _++_, tail}
 use Prim.Native.Nat.{ℕ, zero, suc, _+_, _-_, _≤_, _<_}
 use native.Mathlib.Nat.{zero-add}
@@ -9,7 +8,7 @@ use native.Mathlib.Omega.{arith}
 use lib.ListN.{length, getD, take, drop, replicate, length-drop}
 use lib.Seq.{drop-nil, take-all}
 use Rattle.combinatorics.specs.Stretch.{sum, bit, count, keepIf, tabulate}
-use Rattle.cells.specs.Cells.{Cell, burst, fixed, digit, message, code, is, weave, pick, content, Enough}
+use Rattle.cells.specs.Cells.{Cell, burst, fixed, digit, message, is, weave, pick, content, Enough}
 
 -- how many cells of a list are of a kind
 unfoldable pub tally : Cell → List Cell → ℕ

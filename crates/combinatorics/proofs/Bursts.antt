@@ -1,13 +1,13 @@
 -- Laws of placements: rank is a bijection from the placements of m bursts onto 0 .. T − 1, and how many positions the bursts have. Assumes nothing.
-use mathlib.Core.Path.{_≡_, refl, sym, ap, ap₂, _∙_, subst}
-use mathlib.Core.Bool.{Bool, true, false, not, cond, _||_, _&&_, true≢false, false≢true, or-true}
+use mathlib.Core.Path.{_≡_, refl, sym, ap, _∙_, subst}
+use mathlib.Core.Bool.{true, false, _||_, _&&_, false≢true, or-true}
 use mathlib.Core.List.{List, [], _∷_}
 use Prim.Native.Nat.{ℕ, zero, suc, _+_, _-_, _*_, _≤_, _<_}
 use native.Mathlib.Nat.{add-sub-cancel}
 use native.Mathlib.Omega.{arith}
 use lib.Dec.{leb, ltb}
 use lib.ListN.{length, getD}
-use Rattle.combinatorics.specs.Rank.{rankFrom, unrank}
+use Rattle.combinatorics.specs.Rank.{unrank}
 use Rattle.combinatorics.specs.Stretch.{sum, bit, count}
 use Rattle.combinatorics.specs.Bursts.{apart, inBurst, contracted, placements, reduceFrom, expandFrom, rankOf, startsOf}
 use Rattle.combinatorics.proofs.Cases.{by-le, by-bool, leb-holds, leb-fails}

@@ -1,5 +1,5 @@
 -- Laws of the ways to choose: Pascal's rule as equations, growth, and the product by which a loop goes on. Assumes nothing.
-use mathlib.Core.Path.{_≡_, refl, sym, ap, _∙_}
+use mathlib.Core.Path.{_≡_, refl, sym, _∙_}
 use Prim.Native.Nat.{ℕ, zero, suc, _+_, _*_, _-_, _/_, _≤_, _<_}
 use native.Mathlib.Numerals.{add-one}
 use native.Mathlib.Nat.{mul-zero, zero-div, mul-div-cancel-left, zero-lt-suc, mul-sub, mul-comm}

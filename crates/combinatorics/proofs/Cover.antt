@@ -1,8 +1,8 @@
 -- Covering: from the right, each burst ends at the last worn position that is left, or is the leftmost that leaves room for the others. This greedy
 -- choice covers whenever some placement does, and no placement that covers has a smaller rank. Assumes nothing.
-use mathlib.Core.Path.{_≡_, refl, sym, ap, ap₂, _∙_, subst}
+use mathlib.Core.Path.{_≡_, refl, sym, ap, _∙_, subst}
 use mathlib.Core.Logic.{_≢_, _↔_}
-use mathlib.Core.Bool.{Bool, true, false, not, cond, _||_, _&&_, true≢false, false≢true, or-false}
+use mathlib.Core.Bool.{Bool, true, false, not, _||_, _&&_, true≢false, false≢true, or-false}
 use mathlib.Core.List.{List, [], _∷_, reverse, reverseAux, reverse-reverse}
 use Prim.Native.Nat.{ℕ, zero, suc, _+_, _-_, _*_, _≤_, _<_, max}
 use native.Mathlib.Omega.{arith}
@@ -14,8 +14,8 @@ use Rattle.combinatorics.specs.Stretch.{has, first, lastEnd}
 use Rattle.combinatorics.specs.Bursts.{inBurst, placements, reduceFrom, rankOf, startsOf, covers, coverRank}
 use Rattle.combinatorics.proofs.Cases.{by-le, by-bool}
 use Rattle.combinatorics.proofs.Choose.{choose-mono}
-use Rattle.combinatorics.proofs.Stretch.{at-or-past, has-none, has-some, first-false, first-true, first-is, first-most}
-use Rattle.combinatorics.proofs.Bursts.{Placed, RankedAs, by-burst, burst-here, burst-there, rank-lt, starts-of-rank, rank-of-starts}
+use Rattle.combinatorics.proofs.Stretch.{at-or-past, has-none, has-some, first-true, first-most}
+use Rattle.combinatorics.proofs.Bursts.{Placed, by-burst, burst-here, burst-there, rank-lt, starts-of-rank, rank-of-starts}
 
 unfoldable pub greedyDown : (ℕ → Bool) → ℕ → ℕ → ℕ → List ℕ
 greedyDown worn b zero n = []

@@ -1,8 +1,7 @@
 -- Worked examples by computation: document 01's numbers where it has them. Assumes nothing.
 use mathlib.Core.Path.{_≡_, refl}
 use mathlib.Core.Bool.{true, false}
-use mathlib.Core.List.{List, [], _∷_}
-use Prim.Native.Nat.{ℕ}
+use mathlib.Core.List.{[], _∷_}
 use Rattle.combinatorics.specs.Choose.{choose}
 use Rattle.combinatorics.specs.Rank.{rankFrom, unrankDown, unrank}
 use Rattle.combinatorics.specs.Stretch.{top}

@@ -1,13 +1,13 @@
 -- Laws of sums, counts and searches over a stretch of numbers. Assumes nothing.
-use mathlib.Core.Path.{_≡_, refl, sym, ap, ap₂, _∙_, subst}
+use mathlib.Core.Path.{_≡_, refl, sym, ap, _∙_, subst}
 use mathlib.Core.Logic.{_≢_}
-use mathlib.Core.Bool.{Bool, true, false, not, cond, _||_, _&&_, or-true, true≢false, false≢true}
+use mathlib.Core.Bool.{Bool, true, false, not, cond, _&&_, or-true, true≢false, false≢true}
 use mathlib.Core.List.{List, [], _∷_, _++_, map, map-append, flatMap, append-nil}
 use Prim.Native.Nat.{ℕ, zero, suc, _+_, _-_, _*_, _≤_, _<_}
 use native.Mathlib.Nat.{add-zero, add-suc}
 use native.Mathlib.Numerals.{add-one}
 use native.Mathlib.Omega.{arith}
-use lib.Dec.{leb, eqb}
+use lib.Dec.{eqb}
 use lib.ListN.{length, getD, take, set, length-append}
 use lib.Seq.{getD-set-same, getD-set-other}
 use Rattle.combinatorics.specs.Stretch.{sum, bit, count, has, first, keepIf, members, tabulate, top}

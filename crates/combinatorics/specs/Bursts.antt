@@ -1,6 +1,6 @@
 -- Placements: m disjoint bursts (document 01's runs) of b positions each among n, by their starts; their rank; and which of them cover a set of defects.
 -- Assumes nothing.
-use mathlib.Core.Bool.{Bool, true, false, not, _&&_, _||_}
+use mathlib.Core.Bool.{Bool, false, not, _&&_, _||_}
 use mathlib.Core.List.{List, [], _∷_}
 use Prim.Native.Nat.{ℕ, suc, _+_, _-_, _*_}
 use lib.Dec.{leb, ltb}

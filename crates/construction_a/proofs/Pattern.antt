@@ -1,6 +1,6 @@
 -- Laws of the listed patterns: what the reader makes of the blocks that look F. A word written by the rule shows its I-blocks whatever its B-blocks
 -- look like, and the blocks that the reader takes never look F. Assumes nothing.
-use mathlib.Core.Path.{_≡_, refl, sym, ap, ap₂, _∙_, subst}
+use mathlib.Core.Path.{_≡_, refl, sym, ap, _∙_, subst}
 use mathlib.Core.Logic.{_≢_}
 use mathlib.Core.Bool.{Bool, true, false, not, cond, _||_, _&&_, or-true, or-false, true≢false}
 use mathlib.Core.List.{List, [], _∷_}
@@ -10,7 +10,7 @@ use native.Mathlib.Nat.{mul-le-mul-right}
 use native.Mathlib.Omega.{arith}
 use lib.Dec.{leb, ltb, eqb}
 use lib.ListN.{length}
-use Rattle.combinatorics.specs.Stretch.{sum, count, has, first, keepIf, members, tabulate}
+use Rattle.combinatorics.specs.Stretch.{count, has, first, keepIf, members, tabulate}
 use Rattle.combinatorics.proofs.Cases.{by-le, by-eq, by-bool, eqb-same, eqb-other, leb-holds, leb-fails}
 use Rattle.combinatorics.proofs.Stretch.{same, Each, each-map, at-or-past, some-false, has-none, has-some, has-ext, members-none, members-ext, length-tabulate}
 use Rattle.construction_a.specs.Writing.{next, row, Chosen, whole, oneEach, chosen, beside, isChosen}

@@ -1,24 +1,24 @@
 -- Laws of the plan: exactly m B-blocks and m I-blocks, the heads of I- and F-blocks in no burst, and how many cells there are of each kind.
 -- Assumes nothing.
-use mathlib.Core.Path.{_≡_, refl, sym, ap, ap₂, _∙_}
-use mathlib.Core.Bool.{Bool, true, false, not, cond, _&&_, true≢false, false≢true}
+use mathlib.Core.Path.{_≡_, refl, sym, ap, _∙_}
+use mathlib.Core.Bool.{Bool, true, false, not, _&&_, true≢false, false≢true}
 use mathlib.Core.List.{List, [], _∷_, flatMap}
-use Prim.Native.Nat.{ℕ, zero, suc, _+_, _-_, _*_, _/_, _%_, _≤_, _<_}
+use Prim.Native.Nat.{ℕ, suc, _+_, _-_, _*_, _/_, _%_, _≤_, _<_}
 use native.Mathlib.Nat.{mul-le-mul-right, div-add-mod', mod-lt, div-lt-iff-lt-mul}
 use native.Mathlib.Omega.{arith}
 use lib.Dec.{ltb, eqb}
 use lib.ListN.{length}
-use Rattle.combinatorics.specs.Stretch.{sum, count, members, tabulate}
+use Rattle.combinatorics.specs.Stretch.{count, members, tabulate}
 use Rattle.combinatorics.specs.Bursts.{inBurst}
 use Rattle.combinatorics.proofs.Cases.{by-bool, eqb-same, eqb-other, leb-holds, leb-fails}
 use Rattle.combinatorics.proofs.Stretch.{same, Each, top-only, count-none, count-ext, count-three, members-blocks, length-members, length-tabulate, length-flat}
 use Rattle.combinatorics.proofs.Bursts.{Placed, placed-end, by-burst, burst-count}
-use Rattle.cells.specs.Cells.{Cell, burst, fixed, digit, message, is}
+use Rattle.cells.specs.Cells.{burst, fixed, digit, message, is}
 use Rattle.cells.specs.Cut.{blockHead}
 use Rattle.cells.proofs.Cells.{kinds}
 use Rattle.cells.proofs.Cut.{block-with, block-next, block-rises, block-first, block-end, burst-touches}
 use Rattle.construction_a.specs.Figures.{Params, parts, headOf, blockOf, indexTail, messageLen}
-use Rattle.construction_a.specs.Writing.{lastBlocks, isBurst, chosen, isIndexIn, isIndex, indexBlocks, isFixed, cellOf, kindAt}
+use Rattle.construction_a.specs.Writing.{lastBlocks, isBurst, isIndexIn, isIndex, indexBlocks, isFixed, cellOf, kindAt}
 use Rattle.construction_a.proofs.Figures.{Served}
 use Rattle.construction_a.proofs.Rule.{withBursts-count, withBursts-ends, i-not-b, i-list}
 

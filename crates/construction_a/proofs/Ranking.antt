@@ -1,12 +1,10 @@
 -- Rank is a bijection from the placements onto the numbers below T, and covering gives the cover of least rank. Assumes nothing.
-use mathlib.Core.Path.{_≡_}
-use mathlib.Core.Bool.{Bool, true}
-use mathlib.Core.List.{List}
+use mathlib.Core.Bool.{Bool}
 use Prim.Native.Nat.{ℕ, _<_}
 use Rattle.combinatorics.specs.Bursts.{coverRank}
 use Rattle.combinatorics.proofs.Bursts.{rank-lt, starts-of-rank, rank-of-starts}
 use Rattle.combinatorics.proofs.Cover.{cover-least, cover-is, covered-iff, covers-of, of-covers}
-use Rattle.construction_a.specs.Figures.{Params, isPlacement, placementCount}
+use Rattle.construction_a.specs.Figures.{Params, placementCount}
 use Rattle.construction_a.specs.Writing.{rank, placementOf}
 use Rattle.construction_a.specs.Ranking.{RankBijection, BurstBlocks, CoveredBy, CoversLeast}
 use Rattle.construction_a.proofs.Figures.{Served, placed-starts, starts-placed}

@@ -4,19 +4,19 @@ use mathlib.Core.Logic.{_≢_}
 use mathlib.Core.Bool.{Bool, true, false, not, cond, _&&_, true≢false, false≢true}
 use mathlib.Core.List.{List, [], _∷_, map}
 use mathlib.Core.Option.{Option, none, some}
-use Prim.Native.Nat.{ℕ, suc, _+_, _-_, _*_, _≤_, _<_}
+use Prim.Native.Nat.{ℕ, suc, _-_, _*_, _<_}
 use native.Mathlib.Omega.{arith}
 use lib.ListN.{length, getD}
 use Rattle.refusals.specs.Refusals.{must, disagrees, valueTooLarge}
 use Rattle.combinatorics.specs.Bursts.{inBurst}
 use Rattle.combinatorics.specs.Lists.{allBelow, sameList}
 use Rattle.combinatorics.specs.Stretch.{has}
-use Rattle.combinatorics.proofs.Bursts.{Placed, RankedAs, rank-of-starts}
+use Rattle.combinatorics.proofs.Bursts.{Placed, rank-of-starts}
 use Rattle.combinatorics.proofs.Cases.{by-le, by-eq, by-bool, eqb-true, eqb-false}
-use Rattle.combinatorics.proofs.Lists.{both, list-same, at-below}
+use Rattle.combinatorics.proofs.Lists.{both, list-same}
 use Rattle.combinatorics.proofs.Stretch.{Each, flat-map, has-some}
-use Rattle.cells.specs.Cells.{Cell, burst, fixed, digit, message, is, weave, pick}
-use Rattle.cells.specs.Codec.{Reading, accepted, refused}
+use Rattle.cells.specs.Cells.{burst, fixed, digit, message, is, weave, pick}
+use Rattle.cells.specs.Codec.{accepted, refused}
 use Rattle.cells.specs.Digits.{spell, value, places}
 use Rattle.cells.proofs.Cells.{pick-at, length-pick, pick-below, Clean, at-clean, clean-agrees, agree-at}
 use Rattle.cells.proofs.Cut.{block-with}
