@@ -1,0 +1,106 @@
+-- That the reader answers as the definitions do, refusal by refusal, and demand 2 of what it answers. Assumes nothing.
+use mathlib.Core.Path.{_≡_, refl, sym, ap, _∙_, subst}
+use mathlib.Core.Logic.{_≢_, _↔_}
+use mathlib.Core.Bool.{Bool, true, false, _&&_}
+use mathlib.Core.List.{List}
+use mathlib.Core.Option.{none, some}
+use Prim.Native.Nat.{ℕ, suc, _-_, _≤_, _<_}
+use native.Mathlib.Omega.{arith}
+use lib.Dec.{eqb}
+use lib.ListN.{length, replicate}
+use lib.Seq.{take-append-seam}
+use Rattle.refusals.specs.Refusals.{must, wrongLength, badSymbol, noPattern, valueTooLarge, disagrees}
+use Rattle.combinatorics.specs.Lists.{allBelow}
+use Rattle.combinatorics.proofs.Cases.{leb-holds, leb-fails, eqb-same, eqb-other}
+use Rattle.cells.specs.Codec.{Reading, accepted, refused, LeadsTo}
+use Rattle.construction_a.specs.DemandTwo.{constructionA, Listed}
+use Rattle.construction_a.specs.Figures.{Params, maxBursts, inRange, fits, parts, placementCount, messageLen}
+use Rattle.construction_a.specs.Outcomes.{Held, inUse, held, unserved, figuresOut, foundBound, WordAnswer, rankIs, refusal, Decoded, unread, decodeAs, decodeOut}
+use Rattle.construction_a.specs.Reading.{looksFixed, indexFound, written, readRank, read}
+use Rattle.construction_a.specs.Writing.{rank}
+use Rattle.construction_a.proofs.DemandTwo.{demand-two}
+use Rattle.construction_a.proofs.Outcomes.{refused-alike}
+use Rattle.decoder.specs.DemandTwo.{Readable, ReadsAsWritten, DecodesExactly}
+use Rattle.decoder.specs.Reader.{readAgreed}
+
+module _ (f : Params) (w out : List ℕ) where
+  -- 1 and 2, with the number that the figures have alone
+  pub decode-unfit : (a : ℕ) → figuresOut f ≡ unserved a → decodeOut f w out ≡ unread out a
+  unfolding decodeOut
+  decode-unfit a e =
+      refused-alike f a (unread out)
+      (must (eqb (length w) (f .n) && eqb (length out) (messageLen f)) (unread out wrongLength)
+      (must (allBelow (foundBound f) w) (unread out badSymbol)
+      (decodeAs f out (read f w)))) e
+
+  module _ (range : inRange f ≡ true) (fit : fits f ≡ true) where
+    -- 3, for the word and for the buffer
+    pub decode-short : length w ≢ f .n → decodeOut f w out ≡ unread out wrongLength
+    unfolding decodeOut
+    decode-short size = rw (range, fit, eqb-other (length w) (f .n) size)
+
+    module _ (whole : length w ≡ f .n) where
+      pub decode-room : length out ≢ messageLen f → decodeOut f w out ≡ unread out wrongLength
+      unfolding decodeOut
+      decode-room size = rw (range, fit, eqb-same (length w) (f .n) whole, eqb-other (length out) (messageLen f) size)
+
+      module _ (room : length out ≡ messageLen f) where
+        -- 4
+        pub decode-symbol : allBelow (f .q) w ≡ false → decodeOut f w out ≡ unread out badSymbol
+        unfolding decodeOut
+        decode-symbol e = rw (range, fit, eqb-same (length w) (f .n) whole, eqb-same (length out) (messageLen f) room, e)
+
+        pub decode-read : allBelow (f .q) w ≡ true → decodeOut f w out ≡ decodeAs f out (read f w)
+        unfolding decodeOut
+        decode-read e = rw (range, fit, eqb-same (length w) (f .n) whole, eqb-same (length out) (messageLen f) room, e)
+
+-- ---- 7, 8, and what is left to test for 9
+
+module _ (f : Params) (w : List ℕ) where
+  pub read-none : indexFound (parts f) (f .m) (looksFixed f w) ≡ none → read f w ≡ refused noPattern
+  unfolding read
+  read-none e = rw e
+
+  module _ (ks : List ℕ) (found : indexFound (parts f) (f .m) (looksFixed f w) ≡ some ks) where
+    pub read-large : placementCount f ≤ written f w ks → read f w ≡ refused valueTooLarge
+    unfolding read readRank
+    read-large l = rw (found, leb-fails (suc (written f w ks)) (placementCount f) (omega arith))
+
+    pub read-ranked : written f w ks < placementCount f → read f w ≡ readAgreed f w ks (written f w ks)
+    unfolding read readRank
+    read-ranked l = rw (found, leb-holds (suc (written f w ks)) (placementCount f) l)
+
+-- ---- Demand 2
+
+held-starts : (ss : List ℕ) → inUse (held ss) ≡ ss
+held-starts ss = take-append-seam ss (replicate (maxBursts - length ss) 0)
+
+-- an answer says which reading it came from
+module _ (f : Params) (out : List ℕ) where
+  was-accepted : (r : Reading) (ss ms : List ℕ) → decodeAs f out r ≡ decodeAs f out (accepted ss ms) → r ≡ accepted ss ms
+  was-accepted (accepted ss′ ms′) ss ms e =
+      let s : ss′ ≡ ss = sym (held-starts ss′) ∙ ap (λ (d : Decoded). inUse (d .placement)) e ∙ held-starts ss in
+      let m : ms′ ≡ ms = ap (λ (d : Decoded). d .message) e in
+      rw (s, m)
+  was-accepted (refused a) ss ms e = absurd (let x : refusal a ≡ rankIs (rank f ss) = ap (λ (d : Decoded). d .answer) e in let z : _≡_ {A = ℕ} 0 1 = cc in omega arith)
+
+  was-refused : (r : Reading) (a : ℕ) → decodeAs f out r ≡ unread out a → r ≡ refused a
+  was-refused (accepted ss ms) a e = absurd (let x : rankIs (rank f ss) ≡ refusal a = ap (λ (d : Decoded). d .answer) e in let z : _≡_ {A = ℕ} 0 1 = cc in omega arith)
+  was-refused (refused a′) a e = let x : refusal a′ ≡ refusal a = ap (λ (d : Decoded). d .answer) e in let s : a′ ≡ a = cc in rw s
+
+pub decodes-exactly : (f : Params) (w out : List ℕ) → DecodesExactly f w out (decodeOut f w out)
+decodes-exactly f w out g =
+    let d = demand-two f (g .range) (g .fit) in
+    let e : decodeOut f w out ≡ decodeAs f out (read f w) = decode-read f w out (g .range) (g .fit) (g .word .complete) (g .buffer) (g .word .symbols) in
+    record {
+      exactly = λ ss ms. (
+        λ p. d .exactly w ss ms (g .word) .0 (was-accepted f out (read f w) ss ms (sym e ∙ p)),
+        λ l. e ∙ ap (decodeAs f out) (d .exactly w ss ms (g .word) .1 l),
+      );
+      one-pair = λ ss ms ss′ ms′. d .one-pair w ss ms ss′ ms′ (g .word);
+      others = λ none. let o = d .others w (g .word) none in (o .0, e ∙ ap (decodeAs f out) (o .1));
+      listed = λ a. (
+        λ p. d .listed w a .0 (was-refused f out (read f w) a (sym e ∙ p)),
+        λ l. e ∙ ap (decodeAs f out) (d .listed w a .1 l),
+      );
+    }

@@ -1,0 +1,3 @@
+pub mod Answer
+pub mod DemandTwo
+pub mod Reader
