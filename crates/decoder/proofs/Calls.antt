@@ -7,19 +7,31 @@ use mathlib.Core.Option.{none, some}
 use Prim.Native.Nat.{ℕ, suc, _-_, _≤_, _<_}
 use native.Mathlib.Omega.{arith}
 use lib.Dec.{eqb}
-use lib.ListN.{length, replicate}
+use lib.ListN.{length, take, replicate}
 use lib.Seq.{take-append-seam}
 use Rattle.refusals.specs.Refusals.{must, wrongLength, badSymbol, noPattern, valueTooLarge, disagrees}
 use Rattle.combinatorics.specs.Lists.{allBelow}
 use Rattle.combinatorics.proofs.Cases.{leb-holds, leb-fails, eqb-same, eqb-other}
+use Rattle.cells.specs.Cells.{message, pick}
 use Rattle.cells.specs.Codec.{Reading, accepted, refused, LeadsTo}
 use Rattle.construction_a.specs.DemandTwo.{constructionA, Listed}
-use Rattle.construction_a.specs.Figures.{Params, maxBursts, inRange, fits, parts, placementCount, messageLen}
+use Rattle.construction_a.specs.Figures.{Params, maxBursts, inRange, fits, isPlacement, parts, placementCount, messageLen}
 use Rattle.construction_a.specs.Outcomes.{Held, inUse, held, unserved, figuresOut, foundBound, WordAnswer, rankIs, refusal, Decoded, unread, decodeAs, decodeOut}
-use Rattle.construction_a.specs.Reading.{looksFixed, indexFound, written, readRank, read}
-use Rattle.construction_a.specs.Writing.{rank}
+use Rattle.construction_a.specs.Reading.{looksFixed, indexFound, written, agrees, readRank, read}
+use Rattle.construction_a.specs.Writing.{rank, plan, placementOf}
 use Rattle.construction_a.proofs.DemandTwo.{demand-two}
+use Rattle.construction_a.proofs.Figures.{Served, placed-starts}
 use Rattle.construction_a.proofs.Outcomes.{refused-alike}
+use Rattle.construction_a.proofs.Ranking.{rank-bijection}
+use Rattle.params.specs.declared.Layout.{Layout}
+use Rattle.params.specs.Answer.{LaidOut}
+use Rattle.params.specs.Given.{figuresOf, Fitting}
+use Rattle.params.proofs.Fitting.{served}
+use Rattle.placements.specs.declared.Placement.{Placement}
+use Rattle.placements.specs.Bridge.{heldAs, Placing}
+use Rattle.placements.proofs.Calls.{starts-held}
+use Rattle.heads.specs.declared.pattern.IndexBlocks.{IndexBlocks}
+use Rattle.heads.specs.Patterns.{indexIn}
 use Rattle.decoder.specs.DemandTwo.{Readable, ReadsAsWritten, DecodesExactly}
 use Rattle.decoder.specs.Reader.{readAgreed}
 
@@ -70,6 +82,47 @@ module _ (f : Params) (w : List ℕ) where
     unfolding read readRank
     read-ranked l = rw (found, leb-holds (suc (written f w ks)) (placementCount f) l)
 
+-- ---- 9, or the placement and the message
+
+module _ (f : Params) (w ks out : List ℕ) (v : ℕ) where
+  pub disagreeing : agrees f w ks (placementOf f v) ≡ false → decodeAs f out (readAgreed f w ks v) ≡ unread out disagrees
+  disagreeing e = rw e
+
+  pub agreeing : (at : Held) (ms : List ℕ) → Served f → v < placementCount f → agrees f w ks (placementOf f v) ≡ true → at ≡ held (placementOf f v)
+      → ms ≡ pick message (plan f (placementOf f v)) w → record { answer = rankIs v; placement = at; message = ms } ≡ decodeAs f out (readAgreed f w ks v)
+  agreeing at ms ok l e h m = rw (e, h, m, rank-bijection f ok .same v l)
+
+-- the placement of a rank
+pub placing : (l : Layout) (v : ℕ) (p : Placement) → Fitting l → v < placementCount (figuresOf l) → heldAs p ≡ held (placementOf (figuresOf l) v) → Placing l p
+placing l v p g below e =
+    let f = figuresOf l in
+    let ss = placementOf f v in
+    let valid = rank-bijection f (served l g) .placed v below in
+    record {
+      layout = g;
+      count = ap (λ (h : Held). h .count) e ∙ placed-starts f ss valid .1;
+      placed = ap (isPlacement f) (starts-held ss e) ∙ valid;
+    }
+
+-- ---- A layout that was answered
+
+module _ (f : Params) (l : Layout) (is : LaidOut f l) where
+  pub same-figures : figuresOf l ≡ f
+  same-figures = rw (is .n-is, is .q-is, is .m-is, is .b-is)
+
+  pub fitting : inRange f ≡ true → fits f ≡ true → Fitting l
+  fitting range fit =
+      record {
+        range = ap inRange same-figures ∙ range;
+        fit = ap fits same-figures ∙ fit;
+        laid = subst (λ (g : Params). LaidOut g l) (sym same-figures) is;
+      }
+
+-- the index blocks of an answer
+pub index-some : (m : ℕ) (a : IndexBlocks) → a .found ≡ true → indexIn m a ≡ some (take m (a .blocks))
+unfolding indexIn
+index-some m a e = rw e
+
 -- ---- Demand 2
 
 held-starts : (ss : List ℕ) → inUse (held ss) ≡ ss
@@ -104,3 +157,7 @@ decodes-exactly f w out g =
         λ l. e ∙ ap (decodeAs f out) (d .listed w a .1 l),
       );
     }
+
+-- the two clauses of the reader's contract
+pub by-outcome : (f : Params) (w out : List ℕ) (d : Decoded) → d ≡ decodeOut f w out → (d ≡ decodeOut f w out) × DecodesExactly f w out d
+by-outcome f w out d e = (e, subst (DecodesExactly f w out) (sym e) (decodes-exactly f w out))

@@ -1,43 +1,62 @@
+-- `decode` meets its contract: 1, 2, or what figures that fit give. Assumes nothing.
+use mathlib.Core.Path.{_≡_, sym, ap, _∙_}
+use Prim.Native.Nat.{ℕ}
 use borrow.Author.Needs.{needs}
+use Rattle.construction_a.specs.Figures.{Params}
+use Rattle.construction_a.specs.Outcomes.{decodeOut}
+use Rattle.construction_a.proofs.Outcomes.{figured-fits}
+use Rattle.params.specs.Answer.{figuredAs, LaidOut}
+use Rattle.params.specs.Bridge.{given}
+use Rattle.params.proofs.Answered.{fit-learnt, refused-learnt}
+use Rattle.decoder.specs.Answer.{decodedAs}
+use Rattle.decoder.proofs.Calls.{decode-unfit, same-figures, fitting, by-outcome}
 use Rattle.decoder.proofs.decode.Statement.{statement}
 use Rattle.decoder.proofs.decode.Tie as tie
-use Rattle.decoder.proofs.decode.Reads as reads
-use Rattle.decoder.proofs.decode.Lts as lts
-use Rattle.decoder.proofs.decode_fitting.Reads as decode-fitting-reads
-use Rattle.decoder.proofs.unread.Reads as unread-reads
-use Rattle.params.proofs.Params.figures.Reads as figures-reads
 
--- src/lib.rt:40:9
+laid : (c : tie.After-answer2) → LaidOut (given (c .before .before .before .before .before .args .figures)) (c .answer2 .given .0 .0)
+laid c =
+    let r = c .before .before .figures in
+    fit-learnt (given (c .before .before .before .before .before .args .figures)) (r .result) (c .answer2 .given .0 .0) (c .answer2 .given .1) (r .ensures .0) (r .ensures .1) .1
+
 figures-requires : tie.Need-figures-requires
 figures-requires c κs = search needs
 
--- src/lib.rt:42:26
 enum-known-answer : tie.Need-enum-known-answer
 enum-known-answer c = search needs
 
--- src/lib.rt:42:37
 unread-requires : tie.Need-unread-requires
 unread-requires c κs = search needs
 
--- src/lib.rt:43:22
 enum-known-answer-2 : tie.Need-enum-known-answer-2
 enum-known-answer-2 c = search needs
 
--- src/lib.rt:43:33
 decode-fitting-requires : tie.Need-decode-fitting-requires
-decode-fitting-requires c κs = ?
+decode-fitting-requires c κs =
+    let l = c .before .before .answer2 .given .0 .0 in
+    let f = given (c .before .before .before .before .before .before .before .args .figures) in
+    let fit = figured-fits f (l .«placement_count») (l .«index_tail») (l .«message_len») (sym (c .before .before .before .before .figures .ensures .0) ∙ ap figuredAs (c .before .before .answer2 .given .1)) in
+    fitting f l (laid (c .before .before)) (fit .0) (fit .1)
 
--- src/lib.rt:36:1
 returns : tie.Need-returns
-returns c = ?
+returns c =
+    let s = c .before .before .before .before .before .before .before in
+    let number = c .before .before .answer .given in
+    let out = s .args .message .now in
+    by-outcome (given (s .args .figures)) (s .args .word .now) out (decodedAs (c .unread .result) out)
+    (c .unread .ensures out ∙ sym (decode-unfit (given (s .args .figures)) (s .args .word .now) out (number .0 .0) (refused-learnt (given (s .args .figures)) (c .before .before .before .before .figures .result) (number .0 .0) (number .1) (c .before .before .before .before .figures .ensures .0))))
 
--- src/lib.rt:36:1
 same-length : tie.Need-same-length
 same-length c = search needs
 
--- src/lib.rt:36:1
 returns-2 : tie.Need-returns-2
-returns-2 c = ?
+returns-2 c =
+    let s = c .before .before .before .before .before .before .before .before .before .before in
+    let f = given (s .args .figures) in
+    let l = c .before .before .before .before .before .answer2 .given .0 .0 in
+    let w = s .args .word .now in
+    let out = s .args .message .now in
+    let call = c .before .before .decode-fitting in
+    by-outcome f w out (decodedAs (call .result) (call .last .1 .1 .0)) (call .ensures ∙ ap (λ (g : Params). decodeOut g w out) (same-figures f l (laid (c .before .before .before .before .before))))
 
 pub decode-spec : {M : Type 1} → statement M
 decode-spec =

@@ -1,48 +1,80 @@
+-- `decode_found` meets its contract: 7, 8, or what the rank gives. Assumes nothing.
+use mathlib.Core.Path.{_≡_, sym, ap, _∙_}
+use mathlib.Core.Bool.{Bool, true, false}
+use mathlib.Core.Option.{some}
+use Prim.Native.Nat.{ℕ, _≤_, _<_, min}
+use native.Mathlib.Omega.{arith}
 use borrow.Author.Needs.{needs}
+use borrow.Author.Tests.{not-true, not-false}
+use lib.ListN.{take}
+use Rattle.construction_a.specs.Figures.{Params, parts, placementCount}
+use Rattle.construction_a.specs.Outcomes.{decodeAs}
+use Rattle.construction_a.specs.Reading.{looksFixed, indexFound, written}
+use Rattle.params.specs.Given.{figuresOf}
+use Rattle.heads.proofs.Listed.{index-none}
+use Rattle.heads.proofs.Looking.{shown}
+use Rattle.decoder.specs.Reader.{readAgreed}
+use Rattle.decoder.proofs.Calls.{read-none, read-large, read-ranked, index-some}
 use Rattle.decoder.proofs.decode_found.Statement.{statement}
 use Rattle.decoder.proofs.decode_found.Tie as tie
-use Rattle.decoder.proofs.decode_found.Reads as reads
-use Rattle.decoder.proofs.decode_found.Lts as lts
-use Rattle.decoder.proofs.decode_rank.Reads as decode-rank-reads
-use Rattle.decoder.proofs.unread.Reads as unread-reads
-use Rattle.heads.proofs.pattern.index_read.Reads as index-read-reads
-use Rattle.heads.proofs.written.written_value.Reads as written-value-reads
 
--- src/lib.rt:69:9
+abbrev f : tie.Start → Params
+f s = figuresOf (s .args .layout)
+
+-- the index blocks that the word shows
+found : (c : tie.Else1) → indexFound (parts (f (c .before .before .before .before .before))) (c .before .before .before .before .before .args .layout .m) (looksFixed (f (c .before .before .before .before .before)) (c .before .before .before .before .before .args .word .now))
+    ≡ some (take (c .before .before .before .before .before .args .layout .m) (c .before .before .index-read .result .blocks))
+found c =
+    let a = c .before .before .index-read in
+    sym (a .ensures) ∙ index-some (c .before .before .before .before .before .args .layout .m) (a .result) (not-false _ (c .if1 .left))
+
 index-read-requires : tie.Need-index-read-requires
 index-read-requires c κs = search needs
 
--- src/lib.rt:71:9
 unread-requires : tie.Need-unread-requires
 unread-requires c κs = search needs
 
--- src/lib.rt:71:9
 returns : tie.Need-returns
-returns c = ?
+returns c =
+    let s = c .before .before .before .before .before .before in
+    let a = c .before .before .before .index-read in
+    c .unread .ensures (s .args .message .now)
+    ∙ sym (ap (decodeAs (f s) (s .args .message .now)) (read-none (f s) (s .args .word .now) (sym (a .ensures) ∙ index-none (s .args .layout .m) (a .result) (not-true _ (c .before .if1 .taken)))))
 
--- src/lib.rt:74:9
 written-value-requires : tie.Need-written-value-requires
-written-value-requires c κs = ?
+written-value-requires c κs =
+    let s = c .before .before .before .before .before .before in
+    let a = c .before .before .before .index-read in
+    shown (s .args .layout) (s .args .word .now) (a .result) (s .pre .finding) (not-false _ (c .before .if1 .left)) (a .ensures)
 
--- src/lib.rt:76:9
 unread-requires-2 : tie.Need-unread-requires-2
 unread-requires-2 c κs = search needs
 
--- src/lib.rt:76:9
 returns-2 : tie.Need-returns-2
-returns-2 c = ?
+returns-2 c =
+    let s = c .before .before .before .before .before .before .before .before .before .before in
+    let wv = c .before .before .before .written-value in
+    let ks = take (s .args .layout .m) (c .before .before .before .before .before .before .before .index-read .result .blocks) in
+    c .unread2 .ensures (s .args .message .now)
+    ∙ sym (ap (decodeAs (f s) (s .args .message .now)) (read-large (f s) (s .args .word .now) ks (found (c .before .before .before .before .before)) (omega (arith, wv .ensures, c .before .if2 .taken, s .pre .finding .layout .laid .count-is))))
 
--- src/lib.rt:78:5
 decode-rank-requires : tie.Need-decode-rank-requires
 decode-rank-requires c κs = search needs
 
--- src/lib.rt:65:1
 same-length : tie.Need-same-length
 same-length c = search needs
 
--- src/lib.rt:65:1
 returns-3 : tie.Need-returns-3
-returns-3 c = ?
+returns-3 c =
+    let s = c .before .before .before .before .before .before .before .before .before .before .before .before .before in
+    let wv = c .before .before .before .before .before .before .written-value in
+    let w = s .args .word .now in
+    let ks = take (s .args .layout .m) (c .before .before .before .before .before .before .before .before .before .before .index-read .result .blocks) in
+    let count = s .pre .finding .layout .laid .count-is in
+    let v : wv .result ≡ written (f s) w ks = omega (arith, wv .ensures, c .before .before .before .before .if2 .left) in
+    c .before .before .decode-rank .ensures
+    ∙ ap (λ (x : ℕ). decodeAs (f s) (s .args .message .now) (readAgreed (f s) w ks x)) v
+    ∙ sym (ap (decodeAs (f s) (s .args .message .now)) (read-ranked (f s) w ks (found (c .before .before .before .before .before .before .before .before)) (omega (arith, wv .ensures, c .before .before .before .before .if2 .left, count))))
 
 pub decode-found-spec : {M : Type 1} → statement M
 decode-found-spec =

@@ -103,9 +103,9 @@ loop-again c =
     λ e. sym (has-on (l .parts * l .m) (t .k) (Off s) (omega arith) e) ∙ t .inv .2 in
     ⊎-elim
     (λ u.
-        let e : looksFixed (figuresOf l) w (t .k) ≡ true =
-        sym (stretch-looks l (s .pre .layout) w (t .k) (u .1 .result) (u .1 .ensures)) ∙ sym (u .3 .ensures) ∙ not-false _ (u .4 .left) in
-        (omega arith, refl, on (rw (marked fixedKind (s .args .kinds .now) (t .k) (u .0 .taken), e))))
+    let e : looksFixed (figuresOf l) w (t .k) ≡ true =
+    sym (stretch-looks l (s .pre .layout) w (t .k) (u .1 .result) (u .1 .ensures)) ∙ sym (u .3 .ensures) ∙ not-false _ (u .4 .left) in
+    (omega arith, refl, on (rw (marked fixedKind (s .args .kinds .now) (t .k) (u .0 .taken), e))))
     (λ u. (omega arith, refl, on (rw (unmarked fixedKind (s .args .kinds .now) (t .k) (u .left)))))
     (c .if1 .came)
 
