@@ -1,7 +1,7 @@
 -- That the reader answers as the definitions do, refusal by refusal, and demand 2 of what it answers. Assumes nothing.
-use mathlib.Core.Path.{_≡_, refl, sym, ap, _∙_, subst}
-use mathlib.Core.Logic.{_≢_, _↔_}
-use mathlib.Core.Bool.{Bool, true, false, _&&_}
+use mathlib.Core.Path.{_≡_, sym, ap, _∙_, subst}
+use mathlib.Core.Logic.{_≢_}
+use mathlib.Core.Bool.{true, false, _&&_}
 use mathlib.Core.List.{List}
 use mathlib.Core.Option.{none, some}
 use Prim.Native.Nat.{ℕ, suc, _-_, _≤_, _<_}
@@ -13,10 +13,9 @@ use Rattle.refusals.specs.Refusals.{must, wrongLength, badSymbol, noPattern, va
 use Rattle.combinatorics.specs.Lists.{allBelow}
 use Rattle.combinatorics.proofs.Cases.{leb-holds, leb-fails, eqb-same, eqb-other}
 use Rattle.cells.specs.Cells.{message, pick}
-use Rattle.cells.specs.Codec.{Reading, accepted, refused, LeadsTo}
-use Rattle.construction_a.specs.DemandTwo.{constructionA, Listed}
+use Rattle.cells.specs.Codec.{Reading, accepted, refused}
 use Rattle.construction_a.specs.Figures.{Params, maxBursts, inRange, fits, isPlacement, parts, placementCount, messageLen}
-use Rattle.construction_a.specs.Outcomes.{Held, inUse, held, unserved, figuresOut, foundBound, WordAnswer, rankIs, refusal, Decoded, unread, decodeAs, decodeOut}
+use Rattle.construction_a.specs.Outcomes.{Held, inUse, held, unserved, figuresOut, foundBound, rankIs, refusal, Decoded, unread, decodeAs, decodeOut}
 use Rattle.construction_a.specs.Reading.{looksFixed, indexFound, written, agrees, readRank, read}
 use Rattle.construction_a.specs.Writing.{rank, plan, placementOf}
 use Rattle.construction_a.proofs.DemandTwo.{demand-two}
@@ -32,7 +31,7 @@ use Rattle.placements.specs.Bridge.{heldAs, Placing}
 use Rattle.placements.proofs.Calls.{starts-held}
 use Rattle.heads.specs.declared.pattern.IndexBlocks.{IndexBlocks}
 use Rattle.heads.specs.Patterns.{indexIn}
-use Rattle.decoder.specs.DemandTwo.{Readable, ReadsAsWritten, DecodesExactly}
+use Rattle.decoder.specs.DemandTwo.{DecodesExactly}
 use Rattle.decoder.specs.Reader.{readAgreed}
 
 module _ (f : Params) (w out : List ℕ) where

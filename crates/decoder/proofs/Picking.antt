@@ -2,16 +2,16 @@
 use mathlib.Core.Path.{_≡_, refl, sym, ap, _∙_, subst}
 use mathlib.Core.Logic.{_≢_}
 use mathlib.Core.Bool.{true, false}
-use mathlib.Core.List.{List, [], _++_, append-nil, append-assoc}
+use mathlib.Core.List.{List, _++_, append-nil, append-assoc}
 use Prim.Native.Nat.{ℕ, zero, suc, _+_, _-_, _≤_, _<_}
 use native.Mathlib.Omega.{arith}
 use lib.ListN.{length, take, drop, replicate, length-append, length-drop}
 use lib.Seq.{take-all, take-at, length-take-le}
 use borrow.Rule.Slice.PartMut.{putMid, post-is}
 use Rattle.combinatorics.specs.Stretch.{tabulate}
-use Rattle.combinatorics.proofs.Stretch.{length-tabulate, count-le}
-use Rattle.cells.specs.Cells.{Cell, burst, fixed, digit, message, is, pick}
-use Rattle.cells.proofs.Walk.{tally, tally-append, tally-same, tally-other, tally-count, plan-stretch, tabulate-append, pick-append, pick-same, pick-other}
+use Rattle.combinatorics.proofs.Stretch.{length-tabulate}
+use Rattle.cells.specs.Cells.{Cell, message, is, pick}
+use Rattle.cells.proofs.Walk.{tally, tally-append, tally-same, tally-other, plan-stretch, tabulate-append, pick-append, pick-same, pick-other}
 use Rattle.stretches.specs.Walk.{cellNamed}
 
 -- the message cells before x are taken out of w

@@ -16,8 +16,8 @@ use params::Params;
 use placements::Placement;
 use refusals::Refusal;
 
-pub mod agree;
-pub mod taking;
+mod agree;
+mod taking;
 
 // What a found word is answered with: its rank where it is accepted, or the refusal.
 pub enum WordAnswer {

@@ -1,6 +1,5 @@
 -- `decode` meets its contract: 1, 2, or what figures that fit give. Assumes nothing.
-use mathlib.Core.Path.{_≡_, sym, ap, _∙_}
-use Prim.Native.Nat.{ℕ}
+use mathlib.Core.Path.{sym, ap, _∙_}
 use borrow.Author.Needs.{needs}
 use Rattle.construction_a.specs.Figures.{Params}
 use Rattle.construction_a.specs.Outcomes.{decodeOut}

@@ -1,6 +1,5 @@
 -- `decode_fitting` meets its contract: 3, 4, or what a word that can be found gives. Assumes nothing.
-use mathlib.Core.Path.{_≡_, sym, _∙_}
-use mathlib.Core.Bool.{true, false}
+use mathlib.Core.Path.{sym, _∙_}
 use borrow.Author.Needs.{needs}
 use borrow.Author.Tests.{not-true, not-false}
 use Rattle.construction_a.specs.Figures.{Params}

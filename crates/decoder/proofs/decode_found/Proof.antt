@@ -1,13 +1,12 @@
 -- `decode_found` meets its contract: 7, 8, or what the rank gives. Assumes nothing.
 use mathlib.Core.Path.{_≡_, sym, ap, _∙_}
-use mathlib.Core.Bool.{Bool, true, false}
 use mathlib.Core.Option.{some}
-use Prim.Native.Nat.{ℕ, _≤_, _<_, min}
+use Prim.Native.Nat.{ℕ}
 use native.Mathlib.Omega.{arith}
 use borrow.Author.Needs.{needs}
 use borrow.Author.Tests.{not-true, not-false}
 use lib.ListN.{take}
-use Rattle.construction_a.specs.Figures.{Params, parts, placementCount}
+use Rattle.construction_a.specs.Figures.{Params, parts}
 use Rattle.construction_a.specs.Outcomes.{decodeAs}
 use Rattle.construction_a.specs.Reading.{looksFixed, indexFound, written}
 use Rattle.params.specs.Given.{figuresOf}

@@ -1,6 +1,5 @@
 -- `decode_rank` meets its contract: 9, or the placement with its message. Assumes nothing.
-use mathlib.Core.Path.{_≡_, sym, ap, _∙_, subst}
-use mathlib.Core.Bool.{true, false}
+use mathlib.Core.Path.{sym, ap, _∙_, subst}
 use mathlib.Core.List.{List}
 use Prim.Native.Nat.{ℕ, _*_, _≤_}
 use native.Mathlib.Nat.{div-le-self}
@@ -13,10 +12,9 @@ use Rattle.construction_a.specs.Figures.{Params, maxWord, parts}
 use Rattle.construction_a.specs.Reading.{agrees}
 use Rattle.construction_a.specs.Writing.{plan, placementOf}
 use Rattle.construction_a.proofs.Figures.{Served}
-use Rattle.params.specs.Given.{figuresOf, Fitting}
+use Rattle.params.specs.Given.{figuresOf}
 use Rattle.params.proofs.Fitting.{served}
-use Rattle.placements.specs.declared.Placement.{Placement}
-use Rattle.placements.specs.Bridge.{heldAs, startsIn}
+use Rattle.placements.specs.Bridge.{heldAs}
 use Rattle.placements.proofs.Calls.{room-of, starts-held}
 use Rattle.stretches.specs.Walk.{KindsOf}
 use Rattle.decoder.proofs.Calls.{disagreeing, agreeing, placing}

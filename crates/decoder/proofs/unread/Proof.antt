@@ -1,7 +1,5 @@
 -- `unread` meets its contract. Assumes nothing.
-use mathlib.Core.Path.{_≡_, ap}
-use mathlib.Core.List.{List}
-use Prim.Native.Nat.{ℕ}
+use mathlib.Core.Path.{ap}
 use borrow.Author.Needs.{needs}
 use Rattle.construction_a.specs.Outcomes.{Held, refusal, Decoded}
 use Rattle.decoder.proofs.unread.Statement.{statement}

@@ -1,14 +1,13 @@
 -- `take_message` meets its contract: the message cells before the walk are taken. Assumes nothing.
 use mathlib.Core.Path.{_≡_, sym, _∙_, subst}
-use Prim.Native.Nat.{ℕ, _+_, _-_, _≤_, _<_}
+use Prim.Native.Nat.{ℕ, _+_, _-_, _≤_}
 use native.Mathlib.Omega.{arith}
-use borrow.Author.Needs.{needs}
-use lib.ListN.{length, take, drop, length-drop}
+use lib.ListN.{length, drop, length-drop}
 use lib.Seq.{length-take-le}
 use Rattle.combinatorics.specs.Stretch.{tabulate}
 use Rattle.cells.specs.Cells.{Cell, message as messageCell}
 use Rattle.cells.proofs.Walk.{tally, tally-count}
-use Rattle.construction_a.specs.Figures.{Params, maxWord, messageLen}
+use Rattle.construction_a.specs.Figures.{Params, messageLen}
 use Rattle.construction_a.specs.Writing.{kindAt, plan}
 use Rattle.construction_a.proofs.Figures.{Served}
 use Rattle.construction_a.proofs.Plan.{message-cells}
