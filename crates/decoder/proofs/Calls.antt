@@ -32,7 +32,6 @@ use Rattle.placements.proofs.Calls.{starts-held}
 use Rattle.heads.specs.declared.pattern.IndexBlocks.{IndexBlocks}
 use Rattle.heads.specs.Patterns.{indexIn}
 use Rattle.decoder.specs.DemandTwo.{DecodesExactly}
-use Rattle.decoder.specs.Reader.{readAgreed}
 
 module _ (f : Params) (w out : List ℕ) where
   -- 1 and 2, with the number that the figures have alone
@@ -65,7 +64,7 @@ module _ (f : Params) (w out : List ℕ) where
         unfolding decodeOut
         decode-read e = rw (range, fit, eqb-same (length w) (f .n) whole, eqb-same (length out) (messageLen f) room, e)
 
--- ---- 7, 8, and what is left to test for 9
+-- ---- 7, 8, and what the rank gives
 
 module _ (f : Params) (w : List ℕ) where
   pub read-none : indexFound (parts f) (f .m) (looksFixed f w) ≡ none → read f w ≡ refused noPattern
@@ -77,19 +76,21 @@ module _ (f : Params) (w : List ℕ) where
     unfolding read readRank
     read-large l = rw (found, leb-fails (suc (written f w ks)) (placementCount f) (omega arith))
 
-    pub read-ranked : written f w ks < placementCount f → read f w ≡ readAgreed f w ks (written f w ks)
-    unfolding read readRank
-    read-ranked l = rw (found, leb-holds (suc (written f w ks)) (placementCount f) l)
+    pub read-shown : read f w ≡ readRank f w ks (written f w ks)
+    unfolding read
+    read-shown = rw found
 
 -- ---- 9, or the placement and the message
 
-module _ (f : Params) (w ks out : List ℕ) (v : ℕ) where
-  pub disagreeing : agrees f w ks (placementOf f v) ≡ false → decodeAs f out (readAgreed f w ks v) ≡ unread out disagrees
-  disagreeing e = rw e
+module _ (f : Params) (w ks out : List ℕ) (v : ℕ) (below : v < placementCount f) where
+  pub disagreeing : agrees f w ks (placementOf f v) ≡ false → decodeAs f out (readRank f w ks v) ≡ unread out disagrees
+  unfolding readRank
+  disagreeing e = rw (leb-holds (suc v) (placementCount f) below, e)
 
-  pub agreeing : (at : Held) (ms : List ℕ) → Served f → v < placementCount f → agrees f w ks (placementOf f v) ≡ true → at ≡ held (placementOf f v)
-      → ms ≡ pick message (plan f (placementOf f v)) w → record { answer = rankIs v; placement = at; message = ms } ≡ decodeAs f out (readAgreed f w ks v)
-  agreeing at ms ok l e h m = rw (e, h, m, rank-bijection f ok .same v l)
+  pub agreeing : (at : Held) (ms : List ℕ) → Served f → agrees f w ks (placementOf f v) ≡ true → at ≡ held (placementOf f v)
+      → ms ≡ pick message (plan f (placementOf f v)) w → record { answer = rankIs v; placement = at; message = ms } ≡ decodeAs f out (readRank f w ks v)
+  unfolding readRank
+  agreeing at ms ok e h m = rw (leb-holds (suc v) (placementCount f) below, e, h, m, rank-bijection f ok .same v below)
 
 -- the placement of a rank
 pub placing : (l : Layout) (v : ℕ) (p : Placement) → Fitting l → v < placementCount (figuresOf l) → heldAs p ≡ held (placementOf (figuresOf l) v) → Placing l p

@@ -5,12 +5,7 @@ use mathlib.Core.List.{List}
 use Prim.Native.Nat.{ℕ, _<_}
 use lib.Dec.{eqb}
 use lib.ListN.{length, getD}
-use Rattle.refusals.specs.Refusals.{must, disagrees}
-use Rattle.cells.specs.Cells.{message, pick}
-use Rattle.cells.specs.Codec.{Reading, accepted, refused}
-use Rattle.construction_a.specs.Figures.{Params, placementCount, messageLen}
-use Rattle.construction_a.specs.Reading.{agrees}
-use Rattle.construction_a.specs.Writing.{plan, placementOf}
+use Rattle.construction_a.specs.Figures.{placementCount, messageLen}
 use Rattle.params.specs.declared.Layout.{Layout}
 use Rattle.params.specs.Given.{figuresOf}
 use Rattle.placements.specs.declared.Placement.{Placement}
@@ -35,9 +30,3 @@ pub record Takeable (l : Layout) (at : Placement) (w out : List ℕ) : Type 0 wh
 -- the blocks that an array marks with a kind, as a set
 unfoldable pub ofKind : ℕ → List ℕ → ℕ → Bool
 ofKind kind kinds k = eqb (getD kinds k 0) kind
-
--- reading from a rank on: 9 is left to refuse with
-abbrev pub readAgreed : Params → List ℕ → List ℕ → ℕ → Reading
-readAgreed f w ks v =
-    must (agrees f w ks (placementOf f v)) (refused disagrees)
-    (accepted (placementOf f v) (pick message (plan f (placementOf f v)) w))

@@ -4,12 +4,12 @@ ghost use mathlib.Core.List.{List};
 ghost use Prim.Native.Nat.{ℕ};
 ghost use lib.ListN.{take};
 ghost use Rattle.construction_a.specs.Outcomes.{unread as unreadAs, decodeAs, decodeOut};
-ghost use Rattle.construction_a.specs.Reading.{read};
+ghost use Rattle.construction_a.specs.Reading.{readRank, read};
 ghost use Rattle.params.specs.Bridge.{given};
 ghost use Rattle.params.specs.Given.{figuresOf, Fitting};
 ghost use Rattle.decoder.specs.Answer.{decodedAs};
 ghost use Rattle.decoder.specs.DemandTwo.{DecodesExactly};
-ghost use Rattle.decoder.specs.Reader.{Lent, Ranked, readAgreed};
+ghost use Rattle.decoder.specs.Reader.{Lent, Ranked};
 use params::Figures;
 use params::Layout;
 use params::Params;
@@ -17,6 +17,7 @@ use placements::Placement;
 use refusals::Refusal;
 
 mod agree;
+pub mod exported;
 mod taking;
 
 // What a found word is answered with: its rank where it is accepted, or the refusal.
@@ -87,7 +88,7 @@ fn decode_rank(
     message: &mut [u8],
 ) -> Decoded
     requires { ⌜ Ranked layout rank (now word) (now message) ⌝ }
-    ensures { λ r. ⌜ decodedAs r (now (message .exit)) ≡ decodeAs (figuresOf layout) (now (message .entry)) (readAgreed (figuresOf layout) (now (word .entry)) (take (layout .m) index) rank) ⌝ }
+    ensures { λ r. ⌜ decodedAs r (now (message .exit)) ≡ decodeAs (figuresOf layout) (now (message .entry)) (readRank (figuresOf layout) (now (word .entry)) (take (layout .m) index) rank) ⌝ }
 {
     let placement = Placement::unrank(layout.n as u32, layout.m as u32, layout.b as u32, rank);
     let kinds = blocks::kinds_of(layout, placement);

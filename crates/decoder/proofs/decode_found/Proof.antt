@@ -8,12 +8,11 @@ use borrow.Author.Tests.{not-true, not-false}
 use lib.ListN.{take}
 use Rattle.construction_a.specs.Figures.{Params, parts}
 use Rattle.construction_a.specs.Outcomes.{decodeAs}
-use Rattle.construction_a.specs.Reading.{looksFixed, indexFound, written}
+use Rattle.construction_a.specs.Reading.{looksFixed, indexFound, written, readRank}
 use Rattle.params.specs.Given.{figuresOf}
 use Rattle.heads.proofs.Listed.{index-none}
 use Rattle.heads.proofs.Looking.{shown}
-use Rattle.decoder.specs.Reader.{readAgreed}
-use Rattle.decoder.proofs.Calls.{read-none, read-large, read-ranked, index-some}
+use Rattle.decoder.proofs.Calls.{read-none, read-large, read-shown, index-some}
 use Rattle.decoder.proofs.decode_found.Statement.{statement}
 use Rattle.decoder.proofs.decode_found.Tie as tie
 
@@ -69,11 +68,10 @@ returns-3 c =
     let wv = c .before .before .before .before .before .before .written-value in
     let w = s .args .word .now in
     let ks = take (s .args .layout .m) (c .before .before .before .before .before .before .before .before .before .before .index-read .result .blocks) in
-    let count = s .pre .finding .layout .laid .count-is in
     let v : wv .result ≡ written (f s) w ks = omega (arith, wv .ensures, c .before .before .before .before .if2 .left) in
     c .before .before .decode-rank .ensures
-    ∙ ap (λ (x : ℕ). decodeAs (f s) (s .args .message .now) (readAgreed (f s) w ks x)) v
-    ∙ sym (ap (decodeAs (f s) (s .args .message .now)) (read-ranked (f s) w ks (found (c .before .before .before .before .before .before .before .before)) (omega (arith, wv .ensures, c .before .before .before .before .if2 .left, count))))
+    ∙ ap (λ (x : ℕ). decodeAs (f s) (s .args .message .now) (readRank (f s) w ks x)) v
+    ∙ sym (ap (decodeAs (f s) (s .args .message .now)) (read-shown (f s) w ks (found (c .before .before .before .before .before .before .before .before))))
 
 pub decode-found-spec : {M : Type 1} → statement M
 decode-found-spec =

@@ -67,7 +67,7 @@ returns c =
     let s = c .before .before .before .before .before .before .before .before .before .before .before in
     let is = kinds-at (c .before .before .before .before) in
     c .unread .ensures (s .args .message .now)
-    ∙ sym (disagreeing (f s) (s .args .word .now) (take (s .args .layout .m) (s .args .index)) (s .args .message .now) (s .args .rank)
+    ∙ sym (disagreeing (f s) (s .args .word .now) (take (s .args .layout .m) (s .args .index)) (s .args .message .now) (s .args .rank) (s .pre .below)
     (sym (c .before .before .agrees .ensures (placementOf (f s) (s .args .rank)) is) ∙ not-true _ (c .before .if1 .taken)))
 
 take-message-requires : tie.Need-take-message-requires
@@ -86,7 +86,7 @@ returns-2 c =
     let ss = placementOf (f s) (s .args .rank) in
     let w = s .args .word .now in
     let is = kinds-at (c .before .before .before .before .before .before .before .before) in
-    agreeing (f s) w (take (s .args .layout .m) (s .args .index)) (s .args .message .now) (s .args .rank) (heldAs (un .result)) (c .before .before .take-message .last .1 .1 .1 .1 .0) (ok s) (s .pre .below)
+    agreeing (f s) w (take (s .args .layout .m) (s .args .index)) (s .args .message .now) (s .args .rank) (s .pre .below) (heldAs (un .result)) (c .before .before .take-message .last .1 .1 .1 .1 .0) (ok s)
     (sym (c .before .before .before .before .before .before .agrees .ensures ss is) ∙ not-false _ (c .before .before .before .before .before .if1 .left)) (un .ensures)
     (c .before .before .take-message .ensures ∙ ap (λ (r : List ℕ). pick messageCell (plan (f s) r) w) (starts-held {p = un .result} ss (un .ensures)))
 
