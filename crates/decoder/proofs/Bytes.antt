@@ -1,5 +1,5 @@
 -- Laws of the reader for C: starts as bytes, and its refusals. Assumes nothing.
-use mathlib.Core.Path.{_≡_, refl, sym, ap, _∙_}
+use mathlib.Core.Path.{_≡_, refl, _∙_}
 use mathlib.Core.Logic.{_≢_}
 use mathlib.Core.Bool.{true}
 use mathlib.Core.List.{List, [], _∷_}
@@ -8,13 +8,17 @@ use native.Mathlib.Omega.{arith}
 use lib.Dec.{eqb}
 use lib.ListN.{length, getD, take, set, length-set}
 use lib.Seq.{take-all}
-use Rattle.refusals.specs.Refusals.{must, wrongLength}
+use Rattle.refusals.specs.Refusals.{must, served, wrongLength}
 use Rattle.combinatorics.proofs.Cases.{eqb-same, eqb-other}
 use Rattle.combinatorics.proofs.Lists.{fill-turn, fill-done}
 use Rattle.cells.specs.Bytes.{byteValues}
 use Rattle.construction_a.specs.Figures.{Params, inRange, fits}
 use Rattle.construction_a.specs.Outcomes.{unserved, figuresOut, decodeOut}
 use Rattle.construction_a.proofs.Outcomes.{refused-alike}
+use Rattle.placements.specs.Bridge.{startsIn}
+use Rattle.decoder.specs.declared.Decoded.{Decoded}
+use Rattle.decoder.specs.declared.WordAnswer.the-variants.{Accepted, Refused}
+use Rattle.decoder.specs.Answer.{decodedAs}
 use Rattle.decoder.specs.Exported.{lentAs, startBytes, exportedAs, exportedOut}
 
 -- ---- Starts as bytes
@@ -76,3 +80,11 @@ module _ (f : Params) (w out bytes : List ℕ) where
     pub exported-read : length bytes ≡ 2 * f .m → exportedOut f w out bytes ≡ exportedAs bytes (decodeOut f w out)
     unfolding exportedOut
     exported-read size = rw (range, fit, eqb-same (length bytes) (2 * f .m) size)
+
+-- the word reader's answer in code, taken apart
+module _ (bytes out : List ℕ) (d : Decoded) where
+  pub exported-refused : (a : ℕ) → d .answer ≡ Refused a → exportedAs bytes (decodedAs d out) ≡ lentAs a out bytes
+  exported-refused a e = rw e
+
+  pub exported-served : (v : ℕ) → d .answer ≡ Accepted v → exportedAs bytes (decodedAs d out) ≡ lentAs served out (startBytes (startsIn (d .placement)))
+  exported-served v e = rw e

@@ -1,5 +1,5 @@
 -- That the reader answers as the definitions do, refusal by refusal, and demand 2 of what it answers. Assumes nothing.
-use mathlib.Core.Path.{_≡_, sym, ap, _∙_, subst}
+use mathlib.Core.Path.{_≡_, refl, sym, ap, _∙_, subst}
 use mathlib.Core.Logic.{_≢_}
 use mathlib.Core.Bool.{true, false, _&&_}
 use mathlib.Core.List.{List}
@@ -11,7 +11,7 @@ use lib.ListN.{length, take, replicate}
 use lib.Seq.{take-append-seam}
 use Rattle.refusals.specs.Refusals.{must, wrongLength, badSymbol, noPattern, valueTooLarge, disagrees}
 use Rattle.combinatorics.specs.Lists.{allBelow}
-use Rattle.combinatorics.proofs.Cases.{leb-holds, leb-fails, eqb-same, eqb-other}
+use Rattle.combinatorics.proofs.Cases.{by-eq, by-bool, leb-holds, leb-fails, eqb-same, eqb-other}
 use Rattle.cells.specs.Cells.{message, pick}
 use Rattle.cells.specs.Codec.{Reading, accepted, refused}
 use Rattle.construction_a.specs.Figures.{Params, maxBursts, inRange, fits, isPlacement, parts, placementCount, messageLen}
@@ -20,11 +20,14 @@ use Rattle.construction_a.specs.Reading.{looksFixed, indexFound, written, agree
 use Rattle.construction_a.specs.Writing.{rank, plan, placementOf}
 use Rattle.construction_a.proofs.DemandTwo.{demand-two}
 use Rattle.construction_a.proofs.Figures.{Served, placed-starts}
-use Rattle.construction_a.proofs.Outcomes.{refused-alike}
+use Rattle.construction_a.proofs.Outcomes.{figured-fits, refused-alike}
 use Rattle.construction_a.proofs.Ranking.{rank-bijection}
 use Rattle.params.specs.declared.Layout.{Layout}
-use Rattle.params.specs.Answer.{LaidOut}
+use Rattle.params.specs.declared.Figures.{Figures}
+use Rattle.params.specs.declared.Figures.the-variants.{Fit}
+use Rattle.params.specs.Answer.{figuredAs, LaidOut, LaidIn}
 use Rattle.params.specs.Given.{figuresOf, Fitting}
+use Rattle.params.proofs.Answered.{fit-learnt}
 use Rattle.params.proofs.Fitting.{served}
 use Rattle.placements.specs.declared.Placement.{Placement}
 use Rattle.placements.specs.Bridge.{heldAs, Placing}
@@ -104,19 +107,16 @@ placing l v p g below e =
       placed = ap (isPlacement f) (starts-held ss e) ∙ valid;
     }
 
--- ---- A layout that was answered
+-- ---- A layout that was answered has the figures that were asked for, and they fit
 
-module _ (f : Params) (l : Layout) (is : LaidOut f l) where
-  pub same-figures : figuresOf l ≡ f
-  same-figures = rw (is .n-is, is .q-is, is .m-is, is .b-is)
-
-  pub fitting : inRange f ≡ true → fits f ≡ true → Fitting l
-  fitting range fit =
-      record {
-        range = ap inRange same-figures ∙ range;
-        fit = ap fits same-figures ∙ fit;
-        laid = subst (λ (g : Params). LaidOut g l) (sym same-figures) is;
-      }
+pub fit-given : (f : Params) (r : Figures) (l : Layout) → r ≡ Fit l → figuredAs r ≡ figuresOut f → LaidIn f r → (figuresOf l ≡ f) × Fitting l
+fit-given f r l e answer layout =
+    let is : LaidOut f l = fit-learnt f r l e answer layout .1 in
+    let fit = figured-fits f (l .«placement_count») (l .«index_tail») (l .«message_len») (sym answer ∙ ap figuredAs e) in
+    let same : figuresOf l ≡ f = rw (is .n-is, is .q-is, is .m-is, is .b-is) in (
+      same,
+      record { range = ap inRange same ∙ fit .0; fit = ap fits same ∙ fit .1; laid = subst (λ (g : Params). LaidOut g l) (sym same) is },
+    )
 
 -- the index blocks of an answer
 pub index-some : (m : ℕ) (a : IndexBlocks) → a .found ≡ true → indexIn m a ≡ some (take m (a .blocks))
@@ -161,3 +161,31 @@ decodes-exactly f w out g =
 -- the two clauses of the reader's contract
 pub by-outcome : (f : Params) (w out : List ℕ) (d : Decoded) → d ≡ decodeOut f w out → (d ≡ decodeOut f w out) × DecodesExactly f w out d
 by-outcome f w out d e = (e, subst (DecodesExactly f w out) (sym e) (decodes-exactly f w out))
+
+-- ---- An accepted word has a placement of m starts
+
+refused-not : {P : Type 0} (out : List ℕ) (d : Decoded) (a v : ℕ) → d ≡ unread out a → d .answer ≡ rankIs v → P
+refused-not out d a v e r =
+    absurd (let x : refusal a ≡ rankIs v = sym (ap (λ (d : Decoded). d .answer) e) ∙ r in let z : _≡_ {A = ℕ} 0 1 = cc in omega arith)
+
+pub accepted-count : (f : Params) (w out : List ℕ) (v : ℕ) → inRange f ≡ true → fits f ≡ true → decodeOut f w out .answer ≡ rankIs v
+    → decodeOut f w out .placement .count ≡ f .m
+accepted-count f w out v range fit r =
+    by-eq (length w) (f .n) (λ _. d .placement .count ≡ f .m)
+    (λ whole. by-eq (length out) (messageLen f) (λ _. d .placement .count ≡ f .m)
+    (λ room. by-bool (allBelow (f .q) w) (λ low. at whole low (decode-read f w out range fit whole room low))
+    (λ high. refused-not out d badSymbol v (decode-symbol f w out range fit whole room high) r))
+    (λ other. refused-not out d wrongLength v (decode-room f w out range fit whole other) r))
+    (λ other. refused-not out d wrongLength v (decode-short f w out range fit other) r)
+  where
+    d : Decoded
+    d = decodeOut f w out
+
+    at : length w ≡ f .n → allBelow (f .q) w ≡ true → d ≡ decodeAs f out (read f w) → d .placement .count ≡ f .m
+    at whole low e = go (read f w) refl
+      where
+        go : (x : Reading) → read f w ≡ x → d .placement .count ≡ f .m
+        go (accepted ss ms) g =
+            let l = demand-two f range fit .exactly w ss ms (record { complete = whole; symbols = low }) .0 g in
+            ap (λ (o : Decoded). o .placement .count) (e ∙ ap (decodeAs f out) g) ∙ placed-starts f ss (l .placement) .1
+        go (refused a) g = refused-not out d a v (e ∙ ap (decodeAs f out) g) r

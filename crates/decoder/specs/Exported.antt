@@ -1,5 +1,4 @@
 -- What the word reader for C answers, and what its two lent buffers hold afterwards, for every input. Assumes nothing.
-use mathlib.Core.Bool.{Bool}
 use mathlib.Core.List.{List, [], _∷_}
 use Prim.Native.Nat.{ℕ, _*_, _/_, _%_}
 use lib.Dec.{eqb}

@@ -1,21 +1,21 @@
 -- `decode` meets its contract: 1, 2, or what figures that fit give. Assumes nothing.
-use mathlib.Core.Path.{sym, ap, _∙_}
+use mathlib.Core.Path.{_≡_, sym, ap, _∙_}
 use borrow.Author.Needs.{needs}
 use Rattle.construction_a.specs.Figures.{Params}
 use Rattle.construction_a.specs.Outcomes.{decodeOut}
-use Rattle.construction_a.proofs.Outcomes.{figured-fits}
-use Rattle.params.specs.Answer.{figuredAs, LaidOut}
 use Rattle.params.specs.Bridge.{given}
-use Rattle.params.proofs.Answered.{fit-learnt, refused-learnt}
+use Rattle.params.specs.Given.{figuresOf, Fitting}
+use Rattle.params.proofs.Answered.{refused-learnt}
 use Rattle.decoder.specs.Answer.{decodedAs}
-use Rattle.decoder.proofs.Calls.{decode-unfit, same-figures, fitting, by-outcome}
+use Rattle.decoder.proofs.Calls.{decode-unfit, fit-given, by-outcome}
 use Rattle.decoder.proofs.decode.Statement.{statement}
 use Rattle.decoder.proofs.decode.Tie as tie
 
-laid : (c : tie.After-answer2) → LaidOut (given (c .before .before .before .before .before .args .figures)) (c .answer2 .given .0 .0)
-laid c =
+-- the layout that was answered
+learnt : (c : tie.After-answer2) → (figuresOf (c .answer2 .given .0 .0) ≡ given (c .before .before .before .before .before .args .figures)) × Fitting (c .answer2 .given .0 .0)
+learnt c =
     let r = c .before .before .figures in
-    fit-learnt (given (c .before .before .before .before .before .args .figures)) (r .result) (c .answer2 .given .0 .0) (c .answer2 .given .1) (r .ensures .0) (r .ensures .1) .1
+    fit-given (given (c .before .before .before .before .before .args .figures)) (r .result) (c .answer2 .given .0 .0) (c .answer2 .given .1) (r .ensures .0) (r .ensures .1)
 
 figures-requires : tie.Need-figures-requires
 figures-requires c κs = search needs
@@ -30,11 +30,7 @@ enum-known-answer-2 : tie.Need-enum-known-answer-2
 enum-known-answer-2 c = search needs
 
 decode-fitting-requires : tie.Need-decode-fitting-requires
-decode-fitting-requires c κs =
-    let l = c .before .before .answer2 .given .0 .0 in
-    let f = given (c .before .before .before .before .before .before .before .args .figures) in
-    let fit = figured-fits f (l .«placement_count») (l .«index_tail») (l .«message_len») (sym (c .before .before .before .before .figures .ensures .0) ∙ ap figuredAs (c .before .before .answer2 .given .1)) in
-    fitting f l (laid (c .before .before)) (fit .0) (fit .1)
+decode-fitting-requires c κs = learnt (c .before .before) .1
 
 returns : tie.Need-returns
 returns c =
@@ -51,11 +47,10 @@ returns-2 : tie.Need-returns-2
 returns-2 c =
     let s = c .before .before .before .before .before .before .before .before .before .before in
     let f = given (s .args .figures) in
-    let l = c .before .before .before .before .before .answer2 .given .0 .0 in
     let w = s .args .word .now in
     let out = s .args .message .now in
     let call = c .before .before .decode-fitting in
-    by-outcome f w out (decodedAs (call .result) (call .last .1 .1 .0)) (call .ensures ∙ ap (λ (g : Params). decodeOut g w out) (same-figures f l (laid (c .before .before .before .before .before))))
+    by-outcome f w out (decodedAs (call .result) (call .last .1 .1 .0)) (call .ensures ∙ ap (λ (g : Params). decodeOut g w out) (learnt (c .before .before .before .before .before) .0))
 
 pub decode-spec : {M : Type 1} → statement M
 decode-spec =
