@@ -1,0 +1,90 @@
+-- Laws of the reader for C: starts as bytes, and its refusals. Assumes nothing.
+use mathlib.Core.Path.{_≡_, refl, _∙_}
+use mathlib.Core.Logic.{_≢_}
+use mathlib.Core.Bool.{true}
+use mathlib.Core.List.{List, [], _∷_}
+use Prim.Native.Nat.{ℕ, zero, suc, _+_, _*_, _/_, _%_, _<_}
+use native.Mathlib.Omega.{arith}
+use lib.Dec.{eqb}
+use lib.ListN.{length, getD, take, set, length-set}
+use lib.Seq.{take-all}
+use Rattle.refusals.specs.Refusals.{must, served, wrongLength}
+use Rattle.combinatorics.proofs.Cases.{eqb-same, eqb-other}
+use Rattle.combinatorics.proofs.Lists.{fill-turn, fill-done}
+use Rattle.cells.specs.Bytes.{byteValues}
+use Rattle.construction_a.specs.Figures.{Params, inRange, fits}
+use Rattle.construction_a.specs.Outcomes.{unserved, figuresOut, decodeOut}
+use Rattle.construction_a.proofs.Outcomes.{refused-alike}
+use Rattle.placements.specs.Bridge.{startsIn}
+use Rattle.decoder.specs.declared.Decoded.{Decoded}
+use Rattle.decoder.specs.declared.WordAnswer.the-variants.{Accepted, Refused}
+use Rattle.decoder.specs.Answer.{decodedAs}
+use Rattle.decoder.specs.Exported.{lentAs, startBytes, exportedAs, exportedOut}
+
+-- ---- Starts as bytes
+
+pub length-bytes : (ss : List ℕ) → length (startBytes ss) ≡ 2 * length ss
+unfolding startBytes
+length-bytes [] = refl
+length-bytes (s ∷ ss) = omega (arith, length-bytes ss)
+
+pub byte-high : (ss : List ℕ) (i : ℕ) → i < length ss → getD (startBytes ss) (2 * i) 0 ≡ getD ss i 0 / byteValues
+unfolding startBytes
+byte-high [] i h = absurd (omega arith)
+byte-high (s ∷ ss) zero h = refl
+byte-high (s ∷ ss) (suc i) h =
+    let e : 2 * suc i ≡ suc (suc (2 * i)) = omega arith in
+    rw e (byte-high ss i (omega arith))
+
+pub byte-low : (ss : List ℕ) (i : ℕ) → i < length ss → getD (startBytes ss) (2 * i + 1) 0 ≡ getD ss i 0 % byteValues
+unfolding startBytes
+byte-low [] i h = absurd (omega arith)
+byte-low (s ∷ ss) zero h = refl
+byte-low (s ∷ ss) (suc i) h =
+    let e : 2 * suc i + 1 ≡ suc (suc (2 * i + 1)) = omega arith in
+    rw e (byte-low ss i (omega arith))
+
+-- as a loop goes: one start more
+module _ (ss out : List ℕ) (j : ℕ) (size : length out ≡ 2 * length ss) (so-far : take (2 * j) out ≡ take (2 * j) (startBytes ss)) where
+  pub bytes-turn : j < length ss
+      → take (2 * (j + 1)) (set (set out (2 * j) (getD ss j 0 / byteValues)) (2 * j + 1) (getD ss j 0 % byteValues)) ≡ take (2 * (j + 1)) (startBytes ss)
+  bytes-turn h =
+      let t = startBytes ss in
+      let e : 2 * (j + 1) ≡ 2 * j + 1 + 1 = omega arith in
+      let high = fill-turn out t (2 * j) (omega arith) (omega (arith, length-bytes ss)) so-far in
+      rw (e, ← byte-high ss j h, ← byte-low ss j h)
+      (fill-turn (set out (2 * j) (getD t (2 * j) 0)) t (2 * j + 1) (simp length-set (omega arith)) (omega (arith, length-bytes ss)) high)
+
+  pub bytes-done : j ≡ length ss → out ≡ startBytes ss
+  bytes-done e =
+      fill-done out (startBytes ss) (2 * j) (omega arith) so-far (omega arith) ∙ take-all (length out) (startBytes ss) (omega (arith, length-bytes ss))
+
+-- ---- "word read 1 2 3 4 7 8 9"
+
+module _ (f : Params) (w out bytes : List ℕ) where
+  -- 1 and 2, with the number that the figures have alone
+  pub exported-unfit : (a : ℕ) → figuresOut f ≡ unserved a → exportedOut f w out bytes ≡ lentAs a out bytes
+  unfolding exportedOut
+  exported-unfit a e =
+      refused-alike f a (λ x. lentAs x out bytes)
+      (must (eqb (length bytes) (2 * f .m)) (lentAs wrongLength out bytes)
+      (exportedAs bytes (decodeOut f w out))) e
+
+  module _ (range : inRange f ≡ true) (fit : fits f ≡ true) where
+    -- 3, for the starts
+    pub exported-length : length bytes ≢ 2 * f .m → exportedOut f w out bytes ≡ lentAs wrongLength out bytes
+    unfolding exportedOut
+    exported-length size = rw (range, fit, eqb-other (length bytes) (2 * f .m) size)
+
+    -- and what the word reader answers
+    pub exported-read : length bytes ≡ 2 * f .m → exportedOut f w out bytes ≡ exportedAs bytes (decodeOut f w out)
+    unfolding exportedOut
+    exported-read size = rw (range, fit, eqb-same (length bytes) (2 * f .m) size)
+
+-- the word reader's answer in code, taken apart
+module _ (bytes out : List ℕ) (d : Decoded) where
+  pub exported-refused : (a : ℕ) → d .answer ≡ Refused a → exportedAs bytes (decodedAs d out) ≡ lentAs a out bytes
+  exported-refused a e = rw e
+
+  pub exported-served : (v : ℕ) → d .answer ≡ Accepted v → exportedAs bytes (decodedAs d out) ≡ lentAs served out (startBytes (startsIn (d .placement)))
+  exported-served v e = rw e

@@ -1,0 +1,191 @@
+-- That the reader answers as the definitions do, refusal by refusal, and demand 2 of what it answers. Assumes nothing.
+use mathlib.Core.Path.{_≡_, refl, sym, ap, _∙_, subst}
+use mathlib.Core.Logic.{_≢_}
+use mathlib.Core.Bool.{true, false, _&&_}
+use mathlib.Core.List.{List}
+use mathlib.Core.Option.{none, some}
+use Prim.Native.Nat.{ℕ, suc, _-_, _≤_, _<_}
+use native.Mathlib.Omega.{arith}
+use lib.Dec.{eqb}
+use lib.ListN.{length, take, replicate}
+use lib.Seq.{take-append-seam}
+use Rattle.refusals.specs.Refusals.{must, wrongLength, badSymbol, noPattern, valueTooLarge, disagrees}
+use Rattle.combinatorics.specs.Lists.{allBelow}
+use Rattle.combinatorics.proofs.Cases.{by-eq, by-bool, leb-holds, leb-fails, eqb-same, eqb-other}
+use Rattle.cells.specs.Cells.{message, pick}
+use Rattle.cells.specs.Codec.{Reading, accepted, refused}
+use Rattle.construction_a.specs.Figures.{Params, maxBursts, inRange, fits, isPlacement, parts, placementCount, messageLen}
+use Rattle.construction_a.specs.Outcomes.{Held, inUse, held, unserved, figuresOut, foundBound, rankIs, refusal, Decoded, unread, decodeAs, decodeOut}
+use Rattle.construction_a.specs.Reading.{looksFixed, indexFound, written, agrees, readRank, read}
+use Rattle.construction_a.specs.Writing.{rank, plan, placementOf}
+use Rattle.construction_a.proofs.DemandTwo.{demand-two}
+use Rattle.construction_a.proofs.Figures.{Served, placed-starts}
+use Rattle.construction_a.proofs.Outcomes.{figured-fits, refused-alike}
+use Rattle.construction_a.proofs.Ranking.{rank-bijection}
+use Rattle.params.specs.declared.Layout.{Layout}
+use Rattle.params.specs.declared.Figures.{Figures}
+use Rattle.params.specs.declared.Figures.the-variants.{Fit}
+use Rattle.params.specs.Answer.{figuredAs, LaidOut, LaidIn}
+use Rattle.params.specs.Given.{figuresOf, Fitting}
+use Rattle.params.proofs.Answered.{fit-learnt}
+use Rattle.params.proofs.Fitting.{served}
+use Rattle.placements.specs.declared.Placement.{Placement}
+use Rattle.placements.specs.Bridge.{heldAs, Placing}
+use Rattle.placements.proofs.Calls.{starts-held}
+use Rattle.heads.specs.declared.pattern.IndexBlocks.{IndexBlocks}
+use Rattle.heads.specs.Patterns.{indexIn}
+use Rattle.decoder.specs.DemandTwo.{DecodesExactly}
+
+module _ (f : Params) (w out : List ℕ) where
+  -- 1 and 2, with the number that the figures have alone
+  pub decode-unfit : (a : ℕ) → figuresOut f ≡ unserved a → decodeOut f w out ≡ unread out a
+  unfolding decodeOut
+  decode-unfit a e =
+      refused-alike f a (unread out)
+      (must (eqb (length w) (f .n) && eqb (length out) (messageLen f)) (unread out wrongLength)
+      (must (allBelow (foundBound f) w) (unread out badSymbol)
+      (decodeAs f out (read f w)))) e
+
+  module _ (range : inRange f ≡ true) (fit : fits f ≡ true) where
+    -- 3, for the word and for the buffer
+    pub decode-short : length w ≢ f .n → decodeOut f w out ≡ unread out wrongLength
+    unfolding decodeOut
+    decode-short size = rw (range, fit, eqb-other (length w) (f .n) size)
+
+    module _ (whole : length w ≡ f .n) where
+      pub decode-room : length out ≢ messageLen f → decodeOut f w out ≡ unread out wrongLength
+      unfolding decodeOut
+      decode-room size = rw (range, fit, eqb-same (length w) (f .n) whole, eqb-other (length out) (messageLen f) size)
+
+      module _ (room : length out ≡ messageLen f) where
+        -- 4
+        pub decode-symbol : allBelow (f .q) w ≡ false → decodeOut f w out ≡ unread out badSymbol
+        unfolding decodeOut
+        decode-symbol e = rw (range, fit, eqb-same (length w) (f .n) whole, eqb-same (length out) (messageLen f) room, e)
+
+        pub decode-read : allBelow (f .q) w ≡ true → decodeOut f w out ≡ decodeAs f out (read f w)
+        unfolding decodeOut
+        decode-read e = rw (range, fit, eqb-same (length w) (f .n) whole, eqb-same (length out) (messageLen f) room, e)
+
+-- ---- 7, 8, and what the rank gives
+
+module _ (f : Params) (w : List ℕ) where
+  pub read-none : indexFound (parts f) (f .m) (looksFixed f w) ≡ none → read f w ≡ refused noPattern
+  unfolding read
+  read-none e = rw e
+
+  module _ (ks : List ℕ) (found : indexFound (parts f) (f .m) (looksFixed f w) ≡ some ks) where
+    pub read-large : placementCount f ≤ written f w ks → read f w ≡ refused valueTooLarge
+    unfolding read readRank
+    read-large l = rw (found, leb-fails (suc (written f w ks)) (placementCount f) (omega arith))
+
+    pub read-shown : read f w ≡ readRank f w ks (written f w ks)
+    unfolding read
+    read-shown = rw found
+
+-- ---- 9, or the placement and the message
+
+module _ (f : Params) (w ks out : List ℕ) (v : ℕ) (below : v < placementCount f) where
+  pub disagreeing : agrees f w ks (placementOf f v) ≡ false → decodeAs f out (readRank f w ks v) ≡ unread out disagrees
+  unfolding readRank
+  disagreeing e = rw (leb-holds (suc v) (placementCount f) below, e)
+
+  pub agreeing : (at : Held) (ms : List ℕ) → Served f → agrees f w ks (placementOf f v) ≡ true → at ≡ held (placementOf f v)
+      → ms ≡ pick message (plan f (placementOf f v)) w → record { answer = rankIs v; placement = at; message = ms } ≡ decodeAs f out (readRank f w ks v)
+  unfolding readRank
+  agreeing at ms ok e h m = rw (leb-holds (suc v) (placementCount f) below, e, h, m, rank-bijection f ok .same v below)
+
+-- the placement of a rank
+pub placing : (l : Layout) (v : ℕ) (p : Placement) → Fitting l → v < placementCount (figuresOf l) → heldAs p ≡ held (placementOf (figuresOf l) v) → Placing l p
+placing l v p g below e =
+    let f = figuresOf l in
+    let ss = placementOf f v in
+    let valid = rank-bijection f (served l g) .placed v below in
+    record {
+      layout = g;
+      count = ap (λ (h : Held). h .count) e ∙ placed-starts f ss valid .1;
+      placed = ap (isPlacement f) (starts-held ss e) ∙ valid;
+    }
+
+-- ---- A layout that was answered has the figures that were asked for, and they fit
+
+pub fit-given : (f : Params) (r : Figures) (l : Layout) → r ≡ Fit l → figuredAs r ≡ figuresOut f → LaidIn f r → (figuresOf l ≡ f) × Fitting l
+fit-given f r l e answer layout =
+    let is : LaidOut f l = fit-learnt f r l e answer layout .1 in
+    let fit = figured-fits f (l .«placement_count») (l .«index_tail») (l .«message_len») (sym answer ∙ ap figuredAs e) in
+    let same : figuresOf l ≡ f = rw (is .n-is, is .q-is, is .m-is, is .b-is) in (
+      same,
+      record { range = ap inRange same ∙ fit .0; fit = ap fits same ∙ fit .1; laid = subst (λ (g : Params). LaidOut g l) (sym same) is },
+    )
+
+-- the index blocks of an answer
+pub index-some : (m : ℕ) (a : IndexBlocks) → a .found ≡ true → indexIn m a ≡ some (take m (a .blocks))
+unfolding indexIn
+index-some m a e = rw e
+
+-- ---- Demand 2
+
+held-starts : (ss : List ℕ) → inUse (held ss) ≡ ss
+held-starts ss = take-append-seam ss (replicate (maxBursts - length ss) 0)
+
+-- an answer says which reading it came from
+module _ (f : Params) (out : List ℕ) where
+  was-accepted : (r : Reading) (ss ms : List ℕ) → decodeAs f out r ≡ decodeAs f out (accepted ss ms) → r ≡ accepted ss ms
+  was-accepted (accepted ss′ ms′) ss ms e =
+      let s : ss′ ≡ ss = sym (held-starts ss′) ∙ ap (λ (d : Decoded). inUse (d .placement)) e ∙ held-starts ss in
+      let m : ms′ ≡ ms = ap (λ (d : Decoded). d .message) e in
+      rw (s, m)
+  was-accepted (refused a) ss ms e = absurd (let x : refusal a ≡ rankIs (rank f ss) = ap (λ (d : Decoded). d .answer) e in let z : _≡_ {A = ℕ} 0 1 = cc in omega arith)
+
+  was-refused : (r : Reading) (a : ℕ) → decodeAs f out r ≡ unread out a → r ≡ refused a
+  was-refused (accepted ss ms) a e = absurd (let x : rankIs (rank f ss) ≡ refusal a = ap (λ (d : Decoded). d .answer) e in let z : _≡_ {A = ℕ} 0 1 = cc in omega arith)
+  was-refused (refused a′) a e = let x : refusal a′ ≡ refusal a = ap (λ (d : Decoded). d .answer) e in let s : a′ ≡ a = cc in rw s
+
+pub decodes-exactly : (f : Params) (w out : List ℕ) → DecodesExactly f w out (decodeOut f w out)
+decodes-exactly f w out g =
+    let d = demand-two f (g .range) (g .fit) in
+    let e : decodeOut f w out ≡ decodeAs f out (read f w) = decode-read f w out (g .range) (g .fit) (g .word .complete) (g .buffer) (g .word .symbols) in
+    record {
+      exactly = λ ss ms. (
+        λ p. d .exactly w ss ms (g .word) .0 (was-accepted f out (read f w) ss ms (sym e ∙ p)),
+        λ l. e ∙ ap (decodeAs f out) (d .exactly w ss ms (g .word) .1 l),
+      );
+      one-pair = λ ss ms ss′ ms′. d .one-pair w ss ms ss′ ms′ (g .word);
+      others = λ none. let o = d .others w (g .word) none in (o .0, e ∙ ap (decodeAs f out) (o .1));
+      listed = λ a. (
+        λ p. d .listed w a .0 (was-refused f out (read f w) a (sym e ∙ p)),
+        λ l. e ∙ ap (decodeAs f out) (d .listed w a .1 l),
+      );
+    }
+
+-- the two clauses of the reader's contract
+pub by-outcome : (f : Params) (w out : List ℕ) (d : Decoded) → d ≡ decodeOut f w out → (d ≡ decodeOut f w out) × DecodesExactly f w out d
+by-outcome f w out d e = (e, subst (DecodesExactly f w out) (sym e) (decodes-exactly f w out))
+
+-- ---- An accepted word has a placement of m starts
+
+refused-not : {P : Type 0} (out : List ℕ) (d : Decoded) (a v : ℕ) → d ≡ unread out a → d .answer ≡ rankIs v → P
+refused-not out d a v e r =
+    absurd (let x : refusal a ≡ rankIs v = sym (ap (λ (d : Decoded). d .answer) e) ∙ r in let z : _≡_ {A = ℕ} 0 1 = cc in omega arith)
+
+pub accepted-count : (f : Params) (w out : List ℕ) (v : ℕ) → inRange f ≡ true → fits f ≡ true → decodeOut f w out .answer ≡ rankIs v
+    → decodeOut f w out .placement .count ≡ f .m
+accepted-count f w out v range fit r =
+    by-eq (length w) (f .n) (λ _. d .placement .count ≡ f .m)
+    (λ whole. by-eq (length out) (messageLen f) (λ _. d .placement .count ≡ f .m)
+    (λ room. by-bool (allBelow (f .q) w) (λ low. at whole low (decode-read f w out range fit whole room low))
+    (λ high. refused-not out d badSymbol v (decode-symbol f w out range fit whole room high) r))
+    (λ other. refused-not out d wrongLength v (decode-room f w out range fit whole other) r))
+    (λ other. refused-not out d wrongLength v (decode-short f w out range fit other) r)
+  where
+    d : Decoded
+    d = decodeOut f w out
+
+    at : length w ≡ f .n → allBelow (f .q) w ≡ true → d ≡ decodeAs f out (read f w) → d .placement .count ≡ f .m
+    at whole low e = go (read f w) refl
+      where
+        go : (x : Reading) → read f w ≡ x → d .placement .count ≡ f .m
+        go (accepted ss ms) g =
+            let l = demand-two f range fit .exactly w ss ms (record { complete = whole; symbols = low }) .0 g in
+            ap (λ (o : Decoded). o .placement .count) (e ∙ ap (decodeAs f out) g) ∙ placed-starts f ss (l .placement) .1
+        go (refused a) g = refused-not out d a v (e ∙ ap (decodeAs f out) g) r

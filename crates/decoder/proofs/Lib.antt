@@ -1,0 +1,4 @@
+pub mod Agreeing
+pub mod Picking
+pub mod Calls
+pub mod Bytes

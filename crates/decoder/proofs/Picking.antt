@@ -1,0 +1,91 @@
+-- Laws of taking a message out of a word stretch by stretch. Assumes nothing.
+use mathlib.Core.Path.{_≡_, refl, sym, ap, _∙_, subst}
+use mathlib.Core.Logic.{_≢_}
+use mathlib.Core.Bool.{true, false}
+use mathlib.Core.List.{List, _++_, append-nil, append-assoc}
+use Prim.Native.Nat.{ℕ, zero, suc, _+_, _-_, _≤_, _<_}
+use native.Mathlib.Omega.{arith}
+use lib.ListN.{length, take, drop, replicate, length-append, length-drop}
+use lib.Seq.{take-all, take-at, length-take-le}
+use borrow.Rule.Slice.PartMut.{putMid, post-is}
+use Rattle.combinatorics.specs.Stretch.{tabulate}
+use Rattle.combinatorics.proofs.Stretch.{length-tabulate}
+use Rattle.cells.specs.Cells.{Cell, message, is, pick}
+use Rattle.cells.proofs.Walk.{tally, tally-append, tally-same, tally-other, plan-stretch, tabulate-append, pick-append, pick-same, pick-other}
+use Rattle.stretches.specs.Walk.{cellNamed}
+
+-- the message cells before x are taken out of w
+pub record Taken (k : ℕ) (kd : ℕ → Cell) (w : List ℕ) (x : ℕ) (out : List ℕ) (taken : ℕ) : Type 0 where
+  pub made : take taken out ≡ pick message (tabulate x 0 kd) w
+  pub count : taken ≡ tally message (tabulate x 0 kd)
+  pub size : length out ≡ k
+
+other-named : (kind : ℕ) → kind ≤ 3 → kind ≢ 3 → is message (cellNamed kind) ≡ false
+other-named zero h e = refl
+other-named (suc zero) h e = refl
+other-named (suc (suc zero)) h e = refl
+other-named (suc (suc (suc zero))) h e = absurd (e refl)
+other-named (suc (suc (suc (suc k)))) h e = absurd (omega arith)
+
+module _ (n k : ℕ) (kd : ℕ → Cell) (w : List ℕ) (whole : length w ≡ n) (all : tally message (tabulate n 0 kd) ≡ k) where
+  pub taken-start : (out : List ℕ) → length out ≡ k → Taken k kd w 0 out 0
+  unfolding tabulate pick tally
+  taken-start out e = record { made = refl; count = refl; size = e }
+
+  -- the message cells before a position are among all of them
+  tally-most : (to : ℕ) → to ≤ n → tally message (tabulate to 0 kd) ≤ k
+  tally-most to h =
+      let e : to + (n - to) ≡ n = omega arith in
+      let p : tabulate n 0 kd ≡ tabulate to 0 kd ++ tabulate (n - to) (0 + to) kd =
+      subst (λ (z : ℕ). tabulate z 0 kd ≡ tabulate to 0 kd ++ tabulate (n - to) (0 + to) kd) e (tabulate-append to (n - to) 0 kd) in
+      omega (arith, all, ap (tally message) p, tally-append message (tabulate to 0 kd) (tabulate (n - to) (0 + to) kd))
+
+  module _ (x to kind taken : ℕ) (out : List ℕ) (s : Taken k kd w x out taken) (l : x ≤ to) (h : to ≤ n)
+      (same : (y : ℕ) → x ≤ y → y < to → kd y ≡ cellNamed kind) where
+    longer : tabulate to 0 kd ≡ tabulate x 0 kd ++ replicate (to - x) (cellNamed kind)
+    longer =
+        let e : x + (to - x) ≡ to = omega arith in
+        subst (λ (z : ℕ). tabulate z 0 kd ≡ tabulate x 0 kd ++ replicate (to - x) (cellNamed kind)) e
+        (plan-stretch x (to - x) kd (cellNamed kind) (λ y a b. same y a (omega arith)))
+
+    picked : pick message (tabulate to 0 kd) w ≡ pick message (tabulate x 0 kd) w ++ pick message (replicate (to - x) (cellNamed kind)) (drop x w)
+    picked =
+        ap (λ (cs : List Cell). pick message cs w) longer ∙ pick-append message (tabulate x 0 kd) (replicate (to - x) (cellNamed kind)) w
+        ∙ ap (λ (z : ℕ). pick message (tabulate x 0 kd) w ++ pick message (replicate (to - x) (cellNamed kind)) (drop z w)) (length-tabulate x 0 kd)
+
+    -- there is room for one stretch more
+    pub taken-room : kind ≡ 3 → taken + (to - x) ≤ k
+    taken-room e =
+        let c : is message (cellNamed kind) ≡ true = ap (λ (z : ℕ). is message (cellNamed z)) e in
+        omega (arith, s .count, ap (tally message) longer, tally-append message (tabulate x 0 kd) (replicate (to - x) (cellNamed kind)), tally-same message (cellNamed kind) (to - x) c, tally-most to h)
+
+    -- a stretch of other cells gives nothing
+    pub taken-other : kind ≤ 3 → kind ≢ 3 → Taken k kd w to out taken
+    taken-other few e =
+        let o = other-named kind few e in
+        record {
+          made = s .made ∙ sym (picked ∙ ap (λ (r : List ℕ). pick message (tabulate x 0 kd) w ++ r) (pick-other message (cellNamed kind) (to - x) (drop x w) o) ∙ append-nil (pick message (tabulate x 0 kd) w));
+          count = omega (arith, s .count, ap (tally message) longer, tally-append message (tabulate x 0 kd) (replicate (to - x) (cellNamed kind)), tally-other message (cellNamed kind) (to - x) o);
+          size = s .size;
+        }
+
+    -- one of message cells is copied
+    pub taken-turn : kind ≡ 3 → (end : ℕ) → end ≡ taken + (to - x) → Taken k kd w to (putMid taken (end - taken) out (take (to - x) (drop x w))) end
+    taken-turn e end d =
+        let c : is message (cellNamed kind) ≡ true = ap (λ (z : ℕ). is message (cellNamed z)) e in
+        let part = take (to - x) (drop x w) in
+        let long : length part ≡ to - x = length-take-le (to - x) (drop x w) (omega (arith, whole, length-drop x w)) in
+        let front : length (take taken out) ≡ taken = length-take-le taken out (omega (arith, s .size, taken-room e)) in
+        let put : putMid taken (end - taken) out part ≡ (take taken out ++ part) ++ drop end out =
+        ap (λ (r : List ℕ). take taken out ++ (part ++ r)) (post-is taken end out (omega arith)) ∙ sym (append-assoc (take taken out) part (drop end out)) in
+        let size : length (take taken out ++ part) ≡ end = length-append (take taken out) part ∙ omega arith in
+        rw put (record {
+          made =
+              take-at (take taken out ++ part) (drop end out) end size ∙ ap (λ (r : List ℕ). r ++ part) (s .made)
+              ∙ sym (picked ∙ ap (λ (r : List ℕ). pick message (tabulate x 0 kd) w ++ r) (pick-same message (cellNamed kind) (to - x) (drop x w) c (omega (arith, whole, length-drop x w))));
+          count = omega (arith, s .count, ap (tally message) longer, tally-append message (tabulate x 0 kd) (replicate (to - x) (cellNamed kind)), tally-same message (cellNamed kind) (to - x) c);
+          size = length-append (take taken out ++ part) (drop end out) ∙ omega (arith, size, length-drop end out, s .size, taken-room e);
+        })
+
+  pub taken-done : (taken : ℕ) (out : List ℕ) → Taken k kd w n out taken → out ≡ pick message (tabulate n 0 kd) w
+  taken-done taken out s = sym (take-all taken out (omega (arith, s .size, s .count, all))) ∙ s .made

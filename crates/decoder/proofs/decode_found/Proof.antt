@@ -1,0 +1,88 @@
+-- `decode_found` meets its contract: 7, 8, or what the rank gives. Assumes nothing.
+use mathlib.Core.Path.{_≡_, sym, ap, _∙_}
+use mathlib.Core.Option.{some}
+use Prim.Native.Nat.{ℕ}
+use native.Mathlib.Omega.{arith}
+use borrow.Author.Needs.{needs}
+use borrow.Author.Tests.{not-true, not-false}
+use lib.ListN.{take}
+use Rattle.construction_a.specs.Figures.{Params, parts}
+use Rattle.construction_a.specs.Outcomes.{decodeAs}
+use Rattle.construction_a.specs.Reading.{looksFixed, indexFound, written, readRank}
+use Rattle.params.specs.Given.{figuresOf}
+use Rattle.heads.proofs.Listed.{index-none}
+use Rattle.heads.proofs.Looking.{shown}
+use Rattle.decoder.proofs.Calls.{read-none, read-large, read-shown, index-some}
+use Rattle.decoder.proofs.decode_found.Statement.{statement}
+use Rattle.decoder.proofs.decode_found.Tie as tie
+
+abbrev f : tie.Start → Params
+f s = figuresOf (s .args .layout)
+
+-- the index blocks that the word shows
+found : (c : tie.Else1) → indexFound (parts (f (c .before .before .before .before .before))) (c .before .before .before .before .before .args .layout .m) (looksFixed (f (c .before .before .before .before .before)) (c .before .before .before .before .before .args .word .now))
+    ≡ some (take (c .before .before .before .before .before .args .layout .m) (c .before .before .index-read .result .blocks))
+found c =
+    let a = c .before .before .index-read in
+    sym (a .ensures) ∙ index-some (c .before .before .before .before .before .args .layout .m) (a .result) (not-false _ (c .if1 .left))
+
+index-read-requires : tie.Need-index-read-requires
+index-read-requires c κs = search needs
+
+unread-requires : tie.Need-unread-requires
+unread-requires c κs = search needs
+
+returns : tie.Need-returns
+returns c =
+    let s = c .before .before .before .before .before .before in
+    let a = c .before .before .before .index-read in
+    c .unread .ensures (s .args .message .now)
+    ∙ sym (ap (decodeAs (f s) (s .args .message .now)) (read-none (f s) (s .args .word .now) (sym (a .ensures) ∙ index-none (s .args .layout .m) (a .result) (not-true _ (c .before .if1 .taken)))))
+
+written-value-requires : tie.Need-written-value-requires
+written-value-requires c κs =
+    let s = c .before .before .before .before .before .before in
+    let a = c .before .before .before .index-read in
+    shown (s .args .layout) (s .args .word .now) (a .result) (s .pre .finding) (not-false _ (c .before .if1 .left)) (a .ensures)
+
+unread-requires-2 : tie.Need-unread-requires-2
+unread-requires-2 c κs = search needs
+
+returns-2 : tie.Need-returns-2
+returns-2 c =
+    let s = c .before .before .before .before .before .before .before .before .before .before in
+    let wv = c .before .before .before .written-value in
+    let ks = take (s .args .layout .m) (c .before .before .before .before .before .before .before .index-read .result .blocks) in
+    c .unread2 .ensures (s .args .message .now)
+    ∙ sym (ap (decodeAs (f s) (s .args .message .now)) (read-large (f s) (s .args .word .now) ks (found (c .before .before .before .before .before)) (omega (arith, wv .ensures, c .before .if2 .taken, s .pre .finding .layout .laid .count-is))))
+
+decode-rank-requires : tie.Need-decode-rank-requires
+decode-rank-requires c κs = search needs
+
+same-length : tie.Need-same-length
+same-length c = search needs
+
+returns-3 : tie.Need-returns-3
+returns-3 c =
+    let s = c .before .before .before .before .before .before .before .before .before .before .before .before .before in
+    let wv = c .before .before .before .before .before .before .written-value in
+    let w = s .args .word .now in
+    let ks = take (s .args .layout .m) (c .before .before .before .before .before .before .before .before .before .before .index-read .result .blocks) in
+    let v : wv .result ≡ written (f s) w ks = omega (arith, wv .ensures, c .before .before .before .before .if2 .left) in
+    c .before .before .decode-rank .ensures
+    ∙ ap (λ (x : ℕ). decodeAs (f s) (s .args .message .now) (readRank (f s) w ks x)) v
+    ∙ sym (ap (decodeAs (f s) (s .args .message .now)) (read-shown (f s) w ks (found (c .before .before .before .before .before .before .before .before))))
+
+pub decode-found-spec : {M : Type 1} → statement M
+decode-found-spec =
+    tie.close
+    (tie.spec
+    index-read-requires
+    unread-requires
+    returns
+    written-value-requires
+    unread-requires-2
+    returns-2
+    decode-rank-requires
+    same-length
+    returns-3)

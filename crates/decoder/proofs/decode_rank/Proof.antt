@@ -1,0 +1,107 @@
+-- `decode_rank` meets its contract: 9, or the placement with its message. Assumes nothing.
+use mathlib.Core.Path.{sym, ap, _∙_, subst}
+use mathlib.Core.List.{List}
+use Prim.Native.Nat.{ℕ, _*_, _≤_}
+use native.Mathlib.Nat.{div-le-self}
+use native.Mathlib.Omega.{arith}
+use borrow.Author.Needs.{needs}
+use borrow.Author.Tests.{not-true, not-false}
+use lib.ListN.{take}
+use Rattle.cells.specs.Cells.{message as messageCell, pick}
+use Rattle.construction_a.specs.Figures.{Params, maxWord, parts}
+use Rattle.construction_a.specs.Reading.{agrees}
+use Rattle.construction_a.specs.Writing.{plan, placementOf}
+use Rattle.construction_a.proofs.Figures.{Served}
+use Rattle.params.specs.Given.{figuresOf}
+use Rattle.params.proofs.Fitting.{served}
+use Rattle.placements.specs.Bridge.{heldAs}
+use Rattle.placements.proofs.Calls.{room-of, starts-held}
+use Rattle.blocks.specs.Blocks.{KindsOf}
+use Rattle.decoder.proofs.Calls.{disagreeing, agreeing, placing}
+use Rattle.decoder.proofs.decode_rank.Statement.{statement}
+use Rattle.decoder.proofs.decode_rank.Tie as tie
+
+abbrev f : tie.Start → Params
+f s = figuresOf (s .args .layout)
+
+ok : (s : tie.Start) → Served (f s)
+ok s = served (s .args .layout) (s .pre .lent .finding .layout)
+
+burst-fits : (s : tie.Start) → s .args .layout .b ≤ maxWord
+burst-fits s = omega (arith, ok s .short, ok s .range .n-most, div-le-self (f s .n) (parts (f s) * f s .m))
+
+-- the kinds are those of the rank's placement
+kinds-at : (c : tie.After-kinds-of) → KindsOf (f (c .before .before .before .before .before .before .before)) (placementOf (f (c .before .before .before .before .before .before .before)) (c .before .before .before .before .before .before .before .args .rank)) (c .kinds-of .result)
+kinds-at c =
+    let s = c .before .before .before .before .before .before .before in
+    let ss = placementOf (f s) (s .args .rank) in
+    subst (λ (r : List ℕ). KindsOf (f s) r (c .kinds-of .result)) (starts-held {p = c .before .unrank .result} ss (c .before .unrank .ensures)) (c .kinds-of .ensures)
+
+cast-unrank : tie.Need-cast-unrank
+cast-unrank c = omega (arith, ok (c .before .before .before) .range .n-most)
+
+cast-unrank-2 : tie.Need-cast-unrank-2
+cast-unrank-2 c = omega (arith, ok (c .before .before .before .before) .range .m-most)
+
+cast-unrank-3 : tie.Need-cast-unrank-3
+cast-unrank-3 c = omega (arith, burst-fits (c .before .before .before .before .before))
+
+unrank-requires : tie.Need-unrank-requires
+unrank-requires c κs =
+    let s = c .before .before .before .before .before in
+    (room-of (f s) (ok s), s .pre .below)
+
+kinds-of-requires : tie.Need-kinds-of-requires
+kinds-of-requires c κs =
+    let s = c .before .before .before .before .before .before in
+    placing (s .args .layout) (s .args .rank) (c .unrank .result) (s .pre .lent .finding .layout) (s .pre .below) (c .unrank .ensures)
+
+agrees-requires : tie.Need-agrees-requires
+agrees-requires c κs = search needs
+
+unread-requires : tie.Need-unread-requires
+unread-requires c κs = search needs
+
+returns : tie.Need-returns
+returns c =
+    let s = c .before .before .before .before .before .before .before .before .before .before .before in
+    let is = kinds-at (c .before .before .before .before) in
+    c .unread .ensures (s .args .message .now)
+    ∙ sym (disagreeing (f s) (s .args .word .now) (take (s .args .layout .m) (s .args .index)) (s .args .message .now) (s .args .rank) (s .pre .below)
+    (sym (c .before .before .agrees .ensures (placementOf (f s) (s .args .rank)) is) ∙ not-true _ (c .before .if1 .taken)))
+
+take-message-requires : tie.Need-take-message-requires
+take-message-requires c κs =
+    let s = c .before .before .before .before .before .before .before .before .before .before .before .before in
+    let un = c .before .before .before .before .before .before .unrank in
+    (record { lent = s .pre .lent; placing = placing (s .args .layout) (s .args .rank) (un .result) (s .pre .lent .finding .layout) (s .pre .below) (un .ensures) }, c .before .before .before .before .before .kinds-of .ensures)
+
+same-length : tie.Need-same-length
+same-length c = search needs
+
+returns-2 : tie.Need-returns-2
+returns-2 c =
+    let s = c .before .before .before .before .before .before .before .before .before .before .before .before .before .before .before in
+    let un = c .before .before .before .before .before .before .before .before .before .unrank in
+    let ss = placementOf (f s) (s .args .rank) in
+    let w = s .args .word .now in
+    let is = kinds-at (c .before .before .before .before .before .before .before .before) in
+    agreeing (f s) w (take (s .args .layout .m) (s .args .index)) (s .args .message .now) (s .args .rank) (s .pre .below) (heldAs (un .result)) (c .before .before .take-message .last .1 .1 .1 .1 .0) (ok s)
+    (sym (c .before .before .before .before .before .before .agrees .ensures ss is) ∙ not-false _ (c .before .before .before .before .before .if1 .left)) (un .ensures)
+    (c .before .before .take-message .ensures ∙ ap (λ (r : List ℕ). pick messageCell (plan (f s) r) w) (starts-held {p = un .result} ss (un .ensures)))
+
+pub decode-rank-spec : {M : Type 1} → statement M
+decode-rank-spec =
+    tie.close
+    (tie.spec
+    cast-unrank
+    cast-unrank-2
+    cast-unrank-3
+    unrank-requires
+    kinds-of-requires
+    agrees-requires
+    unread-requires
+    returns
+    take-message-requires
+    same-length
+    returns-2)

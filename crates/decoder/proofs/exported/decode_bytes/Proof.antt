@@ -1,0 +1,89 @@
+-- `decode_bytes` meets its contract: 3, or what the word reader answers, as bytes. Assumes nothing.
+use mathlib.Core.Path.{_≡_, sym, ap, _∙_}
+use native.Mathlib.Omega.{arith}
+use borrow.Author.Needs.{needs}
+use Rattle.refusals.specs.Refusals.{served}
+use Rattle.construction_a.specs.Figures.{Params}
+use Rattle.construction_a.specs.Outcomes.{Decoded}
+use Rattle.params.specs.Given.{figuresOf}
+use Rattle.params.proofs.Fitting.{bound}
+use Rattle.decoder.specs.Answer.{answerAs}
+use Rattle.decoder.specs.Exported.{lentAs, exportedAs}
+use Rattle.decoder.proofs.Bytes.{exported-length, exported-read, exported-refused, exported-served}
+use Rattle.decoder.proofs.Calls.{accepted-count}
+use Rattle.decoder.proofs.exported.decode_bytes.Statement.{statement}
+use Rattle.decoder.proofs.exported.decode_bytes.Tie as tie
+
+abbrev f : tie.Start → Params
+f s = figuresOf (s .args .layout)
+
+mul-if1 : tie.Need-mul-if1
+mul-if1 c = omega (arith, bound (c .before .before .before .before .args .layout) (c .before .before .before .before .pre))
+
+returns : tie.Need-returns
+returns c =
+    let s = c .before .before .before .before .before in
+    sym (exported-length (f s) (s .args .word .now) (s .args .message .now) (s .args .starts .now) (s .pre .range) (s .pre .fit) (c .if1 .taken))
+
+decode-fitting-requires : tie.Need-decode-fitting-requires
+decode-fitting-requires c κs = search needs
+
+enum-known-answer : tie.Need-enum-known-answer
+enum-known-answer c = search needs
+
+enum-told : tie.Need-enum-told
+enum-told c = search needs
+
+put-starts-requires : tie.Need-put-starts-requires
+put-starts-requires c κs =
+    let s = c .before .before .before .before .before .before .before .before .before .before .before .before in
+    let call = c .before .before .before .before .before .decode-fitting in
+    let told = c .before .enum-told .given in
+    let count : call .result .placement .count ≡ s .args .layout .m =
+    ap (λ (d : Decoded). d .placement .count) (call .ensures)
+    ∙ accepted-count (f s) (s .args .word .now) (s .args .message .now) (told .0 .0) (s .pre .range) (s .pre .fit) (sym (ap (λ (d : Decoded). d .answer) (call .ensures)) ∙ ap answerAs (told .1)) in
+    (omega (arith, count, bound (s .args .layout) (s .pre)), omega (arith, count, c .before .before .before .before .before .before .before .if1 .left))
+
+same-length : tie.Need-same-length
+same-length c = search needs
+
+returns-2 : tie.Need-returns-2
+returns-2 c =
+    let s = c .before .before .before .before .before .before .before .before .before .before .before .before in
+    let call = c .before .before .before .before .before .decode-fitting in
+    let told = c .before .answer .given in
+    let bytes = s .args .starts .now in
+    sym (exported-read (f s) (s .args .word .now) (s .args .message .now) bytes (s .pre .range) (s .pre .fit) (c .before .before .before .before .before .before .before .if1 .left)
+    ∙ ap (exportedAs bytes) (sym (call .ensures)) ∙ exported-refused bytes (call .last .1 .1 .0) (call .result) (told .0 .0) (told .1))
+
+same-length-2 : tie.Need-same-length-2
+same-length-2 c = search needs
+
+same-length-3 : tie.Need-same-length-3
+same-length-3 c = search needs
+
+returns-3 : tie.Need-returns-3
+returns-3 c =
+    let s = c .before .before .before .before .before .before .before .before .before .before .before .before .before .before .before in
+    let call = c .before .before .before .before .before .before .before .before .decode-fitting in
+    let told = c .before .before .before .before .enum-told .given in
+    let bytes = s .args .starts .now in
+    ap (lentAs served (call .last .1 .1 .0)) (c .before .before .put-starts .ensures)
+    ∙ sym (exported-read (f s) (s .args .word .now) (s .args .message .now) bytes (s .pre .range) (s .pre .fit) (c .before .before .before .before .before .before .before .before .before .before .if1 .left)
+    ∙ ap (exportedAs bytes) (sym (call .ensures)) ∙ exported-served bytes (call .last .1 .1 .0) (call .result) (told .0 .0) (told .1))
+
+pub decode-bytes-spec : {M : Type 1} → statement M
+decode-bytes-spec =
+    tie.close
+    (tie.spec
+    mul-if1
+    returns
+    decode-fitting-requires
+    enum-known-answer
+    enum-told
+    put-starts-requires
+    same-length
+    returns-2
+    same-length-2
+    same-length-3
+    returns-3)

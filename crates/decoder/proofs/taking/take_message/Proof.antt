@@ -1,0 +1,186 @@
+-- `take_message` meets its contract: the message cells before the walk are taken. Assumes nothing.
+use mathlib.Core.Path.{_≡_, sym, _∙_, subst}
+use Prim.Native.Nat.{ℕ, _+_, _-_, _≤_}
+use native.Mathlib.Omega.{arith}
+use lib.ListN.{length, drop, length-drop}
+use lib.Seq.{length-take-le}
+use Rattle.combinatorics.specs.Stretch.{tabulate}
+use Rattle.cells.specs.Cells.{Cell, message as messageCell}
+use Rattle.cells.proofs.Walk.{tally, tally-count}
+use Rattle.construction_a.specs.Figures.{Params, messageLen}
+use Rattle.construction_a.specs.Writing.{kindAt, plan}
+use Rattle.construction_a.proofs.Figures.{Served}
+use Rattle.construction_a.proofs.Plan.{message-cells}
+use Rattle.params.specs.Given.{figuresOf}
+use Rattle.params.proofs.Fitting.{served}
+use Rattle.placements.specs.Bridge.{startsIn}
+use Rattle.placements.proofs.Placing.{starts-placed, starts-count}
+use Rattle.stretches.specs.Walk.{Come}
+use Rattle.decoder.proofs.Picking.{Taken, taken-start, taken-room, taken-other, taken-turn, taken-done}
+use Rattle.decoder.proofs.taking.take_message.Statement.{statement}
+use Rattle.decoder.proofs.taking.take_message.Tie as tie
+
+abbrev Inv-loop : tie.InvT-loop
+Inv-loop layout at kinds word message₀ here₀ taken₀ message here taken =
+    (here .at ≤ layout .n) × Come (figuresOf layout) (startsIn at) (here .at) here
+    × Taken (messageLen (figuresOf layout)) (kindAt (figuresOf layout) (startsIn at)) word (here .at) message taken
+
+abbrev μ-loop : tie.MeasureT-loop
+μ-loop layout at kinds word message₀ here₀ taken₀ message here taken = layout .n - here .at
+
+-- ---- What the contract lends
+
+abbrev Start : Type 0
+Start = tie.Start Inv-loop μ-loop
+
+abbrev f : Start → Params
+f s = figuresOf (s .args .layout)
+
+abbrev kd : Start → ℕ → Cell
+kd s = kindAt (f s) (startsIn (s .args .at))
+
+ok : (s : Start) → Served (f s)
+ok s = served (s .args .layout) (s .pre .0 .placing .layout)
+
+whole : (s : Start) → length (s .args .word .now) ≡ s .args .layout .n
+whole s = s .pre .0 .lent .finding .complete
+
+all : (s : Start) → tally messageCell (tabulate (s .args .layout .n) 0 (kd s)) ≡ messageLen (f s)
+all s =
+    tally-count messageCell (s .args .layout .n) 0 (kd s)
+    ∙ message-cells (f s) (ok s) (startsIn (s .args .at)) (starts-placed (s .args .layout) (s .args .at) (s .pre .0 .placing)) (starts-count (s .args .layout) (s .args .at) (s .pre .0 .placing))
+
+-- there is room for a stretch of message cells
+room : (c : tie.Then2 Inv-loop μ-loop) → c .before .before .before .before .before .before .before .loop .taken + (c .before .before .before .next-stretch .result .next .at - c .before .before .before .before .before .before .before .loop .here .at)
+    ≤ length (c .before .before .before .before .before .before .before .loop .message)
+room c =
+    let s = c .before .before .before .before .before .before .before .before .before .before .before in
+    let t = c .before .before .before .before .before .before .before .loop in
+    let st = c .before .before .before .next-stretch .ensures in
+    let to = c .before .before .before .next-stretch .result .next .at in
+    let kind = c .before .before .before .next-stretch .result .kind in
+    omega (arith, t .inv .2 .size, taken-room (s .args .layout .n) (messageLen (f s)) (kd s) (s .args .word .now) (whole s) (all s) (t .here .at) to kind (t .taken) (t .message) (t .inv .2) (omega (arith, st .onward)) (st .within) (st .same) (c .if2 .taken))
+
+walk-from-start-requires : tie.Need-walk-from-start-requires Inv-loop μ-loop
+walk-from-start-requires c κs = c .before .before .pre .0 .placing
+
+loop-holds : tie.Need-loop-holds Inv-loop μ-loop
+loop-holds c =
+    let s = c .before .before .before in
+    let come = c .walk-from-start .ensures in
+    let at = come .at-is in (
+      omega (arith, at),
+      subst (λ (x : ℕ). Come (f s) (startsIn (s .args .at)) x (c .walk-from-start .result)) (sym at) come,
+      subst (λ (x : ℕ). Taken (messageLen (f s)) (kd s) (s .args .word .now) x (s .args .message .now) 0) (sym at)
+          (taken-start (s .args .layout .n) (messageLen (f s)) (kd s) (s .args .word .now) (whole s) (all s) (s .args .message .now) (s .pre .0 .lent .room)),
+    )
+
+next-stretch-requires : tie.Need-next-stretch-requires Inv-loop μ-loop
+next-stretch-requires c κs =
+    let s = c .before .before .before .before .before .before .before in
+    let t = c .before .before .before .loop in
+    (s .pre .0 .placing, s .pre .1, t .inv .1 .goes-on (omega arith))
+
+sub-end : tie.Need-sub-end Inv-loop μ-loop
+sub-end c = omega (arith, c .before .before .before .next-stretch .ensures .onward)
+
+add-end : tie.Need-add-end Inv-loop μ-loop
+unfolding messageLen
+add-end c = omega (arith, room c, c .before .before .before .before .before .before .before .loop .inv .2 .size, ok (c .before .before .before .before .before .before .before .before .before .before .before) .range .n-most)
+
+sub-copy : tie.Need-sub-copy Inv-loop μ-loop
+sub-copy c = omega (arith, room c)
+
+part-copy-start : tie.Need-part-copy-start Inv-loop μ-loop
+part-copy-start c = omega (arith, room c)
+
+part-copy-end : tie.Need-part-copy-end Inv-loop μ-loop
+part-copy-end c = omega (arith, room c)
+
+sub-copy-2 : tie.Need-sub-copy-2 Inv-loop μ-loop
+sub-copy-2 c = omega (arith, c .before .before .before .before .next-stretch .ensures .onward)
+
+part-copy-start-2 : tie.Need-part-copy-start-2 Inv-loop μ-loop
+part-copy-start-2 c = omega (arith, c .before .before .before .before .next-stretch .ensures .onward)
+
+part-copy-end-2 : tie.Need-part-copy-end-2 Inv-loop μ-loop
+part-copy-end-2 c = omega (arith, c .before .before .before .before .next-stretch .ensures .within, whole (c .before .before .before .before .before .before .before .before .before .before .before .before))
+
+copy-requires : tie.Need-copy-requires Inv-loop μ-loop
+copy-requires c κs =
+    let s = c .before .before .before .before .before .before .before .before .before .before .before .before .before in
+    let t = c .before .before .before .before .before .before .before .before .before .loop in
+    let st = c .before .before .before .before .before .next-stretch .ensures in
+    let to = c .before .before .before .before .before .next-stretch .result .next .at in
+    let kind = c .before .before .before .before .before .next-stretch .result .kind in
+    let w = s .args .word .now in
+    let n : t .taken + (to - t .here .at) - t .taken ≡ to - t .here .at = omega arith in
+    rw n (length-take-le (to - t .here .at) (drop (t .taken) (t .message)) (omega (arith, length-drop (t .taken) (t .message), room (c .before .before)))
+    ∙ sym (length-take-le (to - t .here .at) (drop (t .here .at) w) (omega (arith, length-drop (t .here .at) w, st .within, whole s))))
+
+loop-less : tie.Need-loop-less Inv-loop μ-loop
+loop-less c = omega (arith, c .before .before .before .before .before .before .before .before .next-stretch .ensures .onward, c .before .before .before .before .before .before .before .before .next-stretch .ensures .within)
+
+loop-again : tie.Need-loop-again Inv-loop μ-loop
+loop-again c =
+    let s = c .before .before .before .before .before .before .before .before .before .before .before .before .before .before .before .before in
+    let t = c .before .before .before .before .before .before .before .before .before .before .before .before .loop in
+    let st = c .before .before .before .before .before .before .before .before .next-stretch .ensures in
+    let to = c .before .before .before .before .before .before .before .before .next-stretch .result .next .at in
+    let kind = c .before .before .before .before .before .before .before .before .next-stretch .result .kind in
+    let x = t .here .at in
+    let end = t .taken + (to - x) in (
+      st .within,
+      st .come,
+      rw (c .before .before .copy .ensures)
+          (taken-turn (s .args .layout .n) (messageLen (f s)) (kd s) (s .args .word .now) (whole s) (all s) x to kind (t .taken) (t .message) (t .inv .2) (omega (arith, st .onward)) (st .within) (st .same) (c .before .before .before .before .before .if2 .taken) end (omega arith)),
+    )
+
+loop-less-2 : tie.Need-loop-less-2 Inv-loop μ-loop
+loop-less-2 c = omega (arith, c .before .before .before .next-stretch .ensures .onward, c .before .before .before .next-stretch .ensures .within)
+
+loop-again-2 : tie.Need-loop-again-2 Inv-loop μ-loop
+loop-again-2 c =
+    let s = c .before .before .before .before .before .before .before .before .before .before .before in
+    let t = c .before .before .before .before .before .before .before .loop in
+    let st = c .before .before .before .next-stretch .ensures in
+    let to = c .before .before .before .next-stretch .result .next .at in
+    let kind = c .before .before .before .next-stretch .result .kind in
+    (st .within, st .come, taken-other (s .args .layout .n) (messageLen (f s)) (kd s) (s .args .word .now) (whole s) (all s) (t .here .at) to kind (t .taken) (t .message) (t .inv .2) (omega (arith, st .onward)) (st .within) (st .same) (st .named) (c .if2 .left))
+
+same-length : tie.Need-same-length Inv-loop μ-loop
+same-length c = c .before .before .before .loop .inv .2 .size ∙ sym (c .before .before .before .before .before .before .before .pre .0 .lent .room)
+
+returns : tie.Need-returns Inv-loop μ-loop
+unfolding plan
+returns c =
+    let s = c .before .before .before .before .before .before .before in
+    let t = c .before .before .before .loop in
+    let e : t .here .at ≡ s .args .layout .n = omega (arith, t .inv .0) in
+    taken-done (s .args .layout .n) (messageLen (f s)) (kd s) (s .args .word .now) (whole s) (all s) (t .taken) (t .message)
+    (subst (λ (x : ℕ). Taken (messageLen (f s)) (kd s) (s .args .word .now) x (t .message) (t .taken)) e (t .inv .2))
+
+pub take-message-spec : {M : Type 1} → statement M
+take-message-spec =
+    tie.close
+    (tie.spec
+    Inv-loop
+    μ-loop
+    walk-from-start-requires
+    loop-holds
+    next-stretch-requires
+    sub-end
+    add-end
+    sub-copy
+    part-copy-start
+    part-copy-end
+    sub-copy-2
+    part-copy-start-2
+    part-copy-end-2
+    copy-requires
+    loop-less
+    loop-again
+    loop-less-2
+    loop-again-2
+    same-length
+    returns)

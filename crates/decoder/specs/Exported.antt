@@ -1,0 +1,39 @@
+-- What the word reader for C answers, and what its two lent buffers hold afterwards, for every input. Assumes nothing.
+use mathlib.Core.List.{List, [], _∷_}
+use Prim.Native.Nat.{ℕ, _*_, _/_, _%_}
+use lib.Dec.{eqb}
+use lib.ListN.{length}
+use Rattle.refusals.specs.Refusals.{must, served, invalid, unfit, wrongLength}
+use Rattle.cells.specs.Bytes.{byteValues}
+use Rattle.construction_a.specs.Figures.{Params, inRange, fits}
+use Rattle.construction_a.specs.Outcomes.{Held, inUse, WordAnswer, rankIs, refusal, Decoded, decodeOut}
+
+-- "two lent byte buffers, for k message symbols and for m starts ..; the answer is 0 or the refusal"
+pub record Exported : Type 0 where
+  pub answer : ℕ
+  pub message : List ℕ
+  pub starts : List ℕ
+
+abbrev pub lentAs : ℕ → List ℕ → List ℕ → Exported
+lentAs a out bytes = record { answer = a; message = out; starts = bytes }
+
+-- "starts of 2 bytes each, high byte first"
+unfoldable pub startBytes : List ℕ → List ℕ
+startBytes [] = []
+startBytes (s ∷ ss) = s / byteValues ∷ s % byteValues ∷ startBytes ss
+
+-- what the word reader answers, with its placement as bytes; a refusal leaves the starts alone, as it does the message
+abbrev pub answered : List ℕ → WordAnswer → Held → List ℕ → Exported
+answered bytes (rankIs v) at ms = lentAs served ms (startBytes (inUse at))
+answered bytes (refusal a) at ms = lentAs a ms bytes
+
+abbrev pub exportedAs : List ℕ → Decoded → Exported
+exportedAs bytes d = answered bytes (d .answer) (d .placement) (d .message)
+
+-- "word read 1 2 3 4 7 8 9", where 3 stands for the buffer of starts too
+unfoldable pub exportedOut : Params → List ℕ → List ℕ → List ℕ → Exported
+exportedOut f w out bytes =
+    must (inRange f) (lentAs invalid out bytes)
+    (must (fits f) (lentAs unfit out bytes)
+    (must (eqb (length bytes) (2 * f .m)) (lentAs wrongLength out bytes)
+    (exportedAs bytes (decodeOut f w out))))

@@ -1,0 +1,4 @@
+pub mod Answer
+pub mod DemandTwo
+pub mod Reader
+pub mod Exported

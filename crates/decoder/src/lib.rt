@@ -1,0 +1,113 @@
+// The word reader: from a found word to its rank, its placement and its message, or the refusal. Assumes nothing.
+ghost use mathlib.Core.Path.{_≡_};
+ghost use mathlib.Core.List.{List};
+ghost use Prim.Native.Nat.{ℕ};
+ghost use lib.ListN.{take};
+ghost use Rattle.construction_a.specs.Outcomes.{unread as unreadAs, decodeAs, decodeOut};
+ghost use Rattle.construction_a.specs.Reading.{readRank, read};
+ghost use Rattle.params.specs.Bridge.{given};
+ghost use Rattle.params.specs.Given.{figuresOf, Fitting};
+ghost use Rattle.decoder.specs.Answer.{decodedAs};
+ghost use Rattle.decoder.specs.DemandTwo.{DecodesExactly};
+ghost use Rattle.decoder.specs.Reader.{Lent, Ranked};
+use params::Figures;
+use params::Layout;
+use params::Params;
+use placements::Placement;
+use refusals::Refusal;
+
+mod agree;
+pub mod exported;
+mod taking;
+
+// What a found word is answered with: its rank where it is accepted, or the refusal.
+pub enum WordAnswer {
+    Accepted(u64),
+    Refused(u8),
+}
+
+// The answer, and the placement beside it, with no starts where the word is refused.
+pub struct Decoded {
+    pub answer: WordAnswer,
+    pub placement: Placement,
+}
+
+// The rank and the placement of a found word of n symbols, and its message in a buffer of k, which keeps its contents where the word is
+// refused. Refusals: 1 2 3 4 7 8 9.
+pub fn decode(figures: Params, word: &[u8], message: &mut [u8]) -> Decoded
+    ensures outcome { λ r. ⌜ decodedAs r (now (message .exit)) ≡ decodeOut (given figures) (now (word .entry)) (now (message .entry)) ⌝ }
+    ensures exactly { λ r. ⌜ DecodesExactly (given figures) (now (word .entry)) (now (message .entry)) (decodedAs r (now (message .exit))) ⌝ }
+{
+    let answer = Params::figures(figures.n, figures.q, figures.m, figures.b);
+    match answer {
+        Figures::Refused(number) => unread(number),
+        Figures::Fit(layout) => decode_fitting(layout, word, message),
+    }
+}
+
+// The same for figures that fit. Refusals: 3 4 7 8 9.
+pub fn decode_fitting(layout: Layout, word: &[u8], message: &mut [u8]) -> Decoded
+    requires { ⌜ Fitting layout ⌝ }
+    ensures { λ r. ⌜ decodedAs r (now (message .exit)) ≡ decodeOut (figuresOf layout) (now (word .entry)) (now (message .entry)) ⌝ }
+{
+    if word.len() != layout.n {
+        return unread(Refusal::LENGTH);
+    }
+    if message.len() != layout.message_len {
+        return unread(Refusal::LENGTH);
+    }
+    if !symbols::all_below(word, layout.q) {
+        return unread(Refusal::SYMBOL);
+    }
+    decode_found(layout, word, message)
+}
+
+// The same for a word that can be found. Refusals: 7 8 9.
+fn decode_found(layout: Layout, word: &[u8], message: &mut [u8]) -> Decoded
+    requires { ⌜ Lent layout (now word) (now message) ⌝ }
+    ensures { λ r. ⌜ decodedAs r (now (message .exit)) ≡ decodeAs (figuresOf layout) (now (message .entry)) (read (figuresOf layout) (now (word .entry))) ⌝ }
+{
+    let shown = heads::pattern::index_read(layout, word);
+    if !shown.found {
+        return unread(Refusal::PATTERN);
+    }
+    let index = shown.blocks;
+    let rank = heads::written::written_value(layout, word, index);
+    if layout.placement_count <= rank {
+        return unread(Refusal::VALUE);
+    }
+    decode_rank(layout, index, rank, word, message)
+}
+
+// The same for the rank that index blocks spell. Refusal: 9. The message is taken where nothing can be refused any more.
+fn decode_rank(
+    layout: Layout,
+    index: [u8; Placement::MAX],
+    rank: u64,
+    word: &[u8],
+    message: &mut [u8],
+) -> Decoded
+    requires { ⌜ Ranked layout rank (now word) (now message) ⌝ }
+    ensures { λ r. ⌜ decodedAs r (now (message .exit)) ≡ decodeAs (figuresOf layout) (now (message .entry)) (readRank (figuresOf layout) (now (word .entry)) (take (layout .m) index) rank) ⌝ }
+{
+    let placement = Placement::unrank(layout.n as u32, layout.m as u32, layout.b as u32, rank);
+    let kinds = blocks::kinds_of(layout, placement);
+    if !agree::agrees(layout, &kinds, index, word) {
+        return unread(Refusal::DISAGREES);
+    }
+    taking::take_message(layout, placement, &kinds, word, message);
+    Decoded {
+        answer: WordAnswer::Accepted(rank),
+        placement,
+    }
+}
+
+// A refusal, with no placement.
+fn unread(number: u8) -> Decoded
+    ensures { λ r. ⌜ ((out : List ℕ) → decodedAs r out ≡ unreadAs out number) ⌝ }
+{
+    Decoded {
+        answer: WordAnswer::Refused(number),
+        placement: Placement::none(),
+    }
+}

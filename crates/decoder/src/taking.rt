@@ -1,0 +1,51 @@
+// Taking the message out of a word: every symbol is stored once, straight from the word, stretch by stretch. Assumes nothing.
+ghost use mathlib.Core.Path.{_≡_};
+ghost use lib.ListN.{length};
+ghost use Rattle.cells.specs.Cells;
+ghost use Rattle.cells.specs.Cells.{pick};
+ghost use Rattle.construction_a.specs.Writing.{plan};
+ghost use Rattle.params.specs.Given.{figuresOf};
+ghost use Rattle.placements.specs.Bridge.{startsIn};
+ghost use Rattle.blocks.specs.Blocks.{KindsOf};
+ghost use Rattle.decoder.specs.Reader.{Takeable};
+use params::Layout;
+use placements::Placement;
+
+// The message of a placement's word, cell by cell from left to right.
+pub fn take_message(
+    layout: Layout,
+    at: Placement,
+    kinds: &[u8; Layout::MAX_BLOCKS],
+    word: &[u8],
+    message: &mut [u8],
+)
+    requires { ⌜ Takeable layout at (now word) (now message) × KindsOf (figuresOf layout) (startsIn at) (now kinds) ⌝ }
+    ensures { λ _. ⌜ now (message .exit) ≡ pick Rattle.cells.specs.Cells.message (plan (figuresOf layout) (startsIn at)) (now (word .entry)) ⌝ }
+{
+    let mut here = stretches::walk_from_start(layout, at);
+    let mut taken: usize = 0;
+    while here.at < layout.n {
+        let stretch = stretches::next_stretch(layout, at, kinds, here);
+        let from = here.at;
+        let next = stretch.next;
+        let to = next.at;
+        if stretch.kind == stretches::MESSAGE_CELL {
+            let end = taken + (to - from);
+            copy(&mut message[taken..end], &word[from..to]);
+            taken = end;
+        }
+        here = next;
+    }
+}
+
+// One stretch of symbols.
+fn copy(stretch: &mut [u8], symbols: &[u8])
+    requires { ⌜ length (now stretch) ≡ length (now symbols) ⌝ }
+    ensures { λ _. ⌜ now (stretch .exit) ≡ now (symbols .entry) ⌝ }
+{
+    let mut i: usize = 0;
+    while i < stretch.len() {
+        stretch[i] = symbols[i];
+        i += 1;
+    }
+}
