@@ -6,7 +6,7 @@ use lib.ListN.{length}
 use Rattle.refusals.specs.Refusals.{must, served, invalid, unfit, wrongLength}
 use Rattle.cells.specs.Bytes.{byteValues}
 use Rattle.construction_a.specs.Figures.{Params, inRange, fits}
-use Rattle.construction_a.specs.Outcomes.{Held, inUse, WordAnswer, rankIs, refusal, Decoded, decodeOut}
+use Rattle.construction_a.specs.Outcomes.{Held, inUse, FiguresOut, figured, unserved, figuresOut, WordAnswer, rankIs, refusal, Decoded, decodeOut}
 
 -- "two lent byte buffers, for k message symbols and for m starts ..; the answer is 0 or the refusal"
 pub record Exported : Type 0 where
@@ -37,3 +37,14 @@ exportedOut f w out bytes =
     (must (fits f) (lentAs unfit out bytes)
     (must (eqb (length bytes) (2 * f .m)) (lentAs wrongLength out bytes)
     (exportedAs bytes (decodeOut f w out))))
+
+-- k, for a program that has to lend so many symbols; a length that no message has where the figures are refused
+abbrev pub noLength : ℕ
+noLength = 4294967295
+
+abbrev pub lengthIn : FiguresOut → ℕ
+lengthIn (figured t r k) = k
+lengthIn (unserved a) = noLength
+
+abbrev pub messageLenOut : Params → ℕ
+messageLenOut f = lengthIn (figuresOut f)

@@ -5,7 +5,7 @@ ghost use lib.ListN.{length};
 ghost use Rattle.construction_a.specs.Figures.{maxBursts, params};
 ghost use Rattle.params.specs.Given.{figuresOf, Fitting};
 ghost use Rattle.placements.specs.Bridge.{startsIn};
-ghost use Rattle.decoder.specs.Exported.{lentAs, startBytes, exportedOut};
+ghost use Rattle.decoder.specs.Exported.{lentAs, startBytes, exportedOut, messageLenOut};
 use crate::WordAnswer;
 use crate::decode_fitting;
 use params::Figures;
@@ -14,6 +14,9 @@ use params::Params;
 use params::bytes::BYTE_VALUES;
 use placements::Placement;
 use refusals::Refusal;
+
+// A length that no message has.
+pub const NO_LENGTH: u32 = 4294967295;
 
 // 0, with the message and the starts of the bursts, 2 bytes each and the high byte first; or the refusal, which leaves both buffers alone.
 // Refusals: 1 2 3 4 7 8 9.
@@ -33,6 +36,18 @@ pub extern "C" fn burgzemi_decode(
     match answer {
         Figures::Refused(number) => number,
         Figures::Fit(layout) => decode_bytes(layout, word, message, starts),
+    }
+}
+
+// How many symbols a message has, so that a C program can lend them; NO_LENGTH for figures that are refused.
+#[no_mangle]
+pub extern "C" fn burgzemi_message_len(n: u32, q: u32, m: u32, b: u32) -> u32
+    ensures { λ r. ⌜ r ≡ messageLenOut (params n q m b) ⌝ }
+{
+    let answer = Params::figures(n, q, m, b);
+    match answer {
+        Figures::Refused(_) => NO_LENGTH,
+        Figures::Fit(layout) => layout.message_len as u32,
     }
 }
 

@@ -1,7 +1,6 @@
 -- Laws of looking for the burst that has a position, and of damaging a word position by position. Assumes nothing.
 use mathlib.Core.Path.{_≡_, refl, sym, ap, _∙_}
-use mathlib.Core.Logic.{_≢_}
-use mathlib.Core.Bool.{Bool, true, false, cond, _||_}
+use mathlib.Core.Bool.{Bool, true, false, cond}
 use mathlib.Core.List.{List, [], _∷_}
 use Prim.Native.Nat.{ℕ, _+_, _≤_, _<_}
 use native.Mathlib.Nat.{zero-add}
@@ -9,7 +8,6 @@ use native.Mathlib.Omega.{arith}
 use lib.ListN.{length, getD, set, take, length-set}
 use lib.Seq.{getD-set-same, getD-set-other, take-length}
 use Rattle.combinatorics.specs.Bursts.{inBurst}
-use Rattle.combinatorics.specs.Stretch.{tabulate}
 use Rattle.combinatorics.proofs.Cases.{by-eq}
 use Rattle.combinatorics.proofs.Stretch.{take-is}
 use Rattle.roundtrip.specs.Damage.{damaged, holds}

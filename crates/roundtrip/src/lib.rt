@@ -3,9 +3,33 @@ ghost use mathlib.Core.Path.{_≡_};
 ghost use Prim.Native.Nat.{_≤_};
 ghost use Rattle.combinatorics.specs.Bursts.{inBurst};
 ghost use Rattle.construction_a.specs.Figures.{maxBursts};
-ghost use Rattle.placements.specs.Bridge.{startsIn};
+ghost use Rattle.construction_a.specs.Writing.{word as wordOf};
+ghost use Rattle.params.specs.Bridge.{given};
+ghost use Rattle.placements.specs.Bridge.{heldAs, startsIn};
+ghost use Rattle.decoder.specs.Answer.{decodedAs};
 ghost use Rattle.roundtrip.specs.Damage.{Damaging, damaged, holds};
+ghost use Rattle.roundtrip.specs.RoundTrip.{Writable, readBack};
+use decoder::Decoded;
+use params::Params;
 use placements::Placement;
+
+// Writes the word of a placement and a message, puts other symbols of the alphabet into its bursts, and reads what is then found.
+pub fn round_trip(
+    figures: Params,
+    at: Placement,
+    message: &[u8],
+    damage: &[u8],
+    word: &mut [u8],
+    read: &mut [u8],
+) -> Decoded
+    requires { ⌜ Writable (given figures) (heldAs at) (now message) (now damage) (now word) (now read) ⌝ }
+    ensures word { λ _. ⌜ now (word .exit) ≡ damaged (inBurst (figures .b) (startsIn at)) (now (damage .entry)) (wordOf (given figures) (startsIn at) (now (message .entry))) ⌝ }
+    ensures read { λ r. ⌜ decodedAs r (now (read .exit)) ≡ readBack (given figures) (startsIn at) (now (message .entry)) ⌝ }
+{
+    encoder::encode(figures, at, message, word);
+    spoil(at, figures.b, damage, word);
+    decoder::decode(figures, word, read)
+}
 
 // The symbols of `damage` stand in the word wherever a burst has its position.
 fn spoil(at: Placement, b: u32, damage: &[u8], word: &mut [u8])

@@ -1,6 +1,5 @@
 -- `has` meets its contract. Assumes nothing.
 use native.Mathlib.Omega.{arith}
-use mathlib.Core.Path.{refl, sym}
 use borrow.Author.Needs.{needs}
 use Rattle.combinatorics.proofs.Cases.{leb-holds, leb-fails}
 use Rattle.roundtrip.proofs.has.Statement.{statement}
