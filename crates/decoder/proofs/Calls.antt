@@ -20,14 +20,11 @@ use Rattle.construction_a.specs.Reading.{looksFixed, indexFound, written, agree
 use Rattle.construction_a.specs.Writing.{rank, plan, placementOf}
 use Rattle.construction_a.proofs.DemandTwo.{demand-two}
 use Rattle.construction_a.proofs.Figures.{Served, placed-starts}
-use Rattle.construction_a.proofs.Outcomes.{figured-fits, refused-alike}
+use Rattle.construction_a.proofs.Outcomes.{refused-alike}
 use Rattle.construction_a.proofs.Ranking.{rank-bijection}
 use Rattle.params.specs.declared.Layout.{Layout}
-use Rattle.params.specs.declared.Figures.{Figures}
 use Rattle.params.specs.declared.Figures.the-variants.{Fit}
-use Rattle.params.specs.Answer.{figuredAs, LaidOut, LaidIn}
 use Rattle.params.specs.Given.{figuresOf, Fitting}
-use Rattle.params.proofs.Answered.{fit-learnt}
 use Rattle.params.proofs.Fitting.{served}
 use Rattle.placements.specs.declared.Placement.{Placement}
 use Rattle.placements.specs.Bridge.{heldAs, Placing}
@@ -106,17 +103,6 @@ placing l v p g below e =
       count = ap (λ (h : Held). h .count) e ∙ placed-starts f ss valid .1;
       placed = ap (isPlacement f) (starts-held ss e) ∙ valid;
     }
-
--- ---- A layout that was answered has the figures that were asked for, and they fit
-
-pub fit-given : (f : Params) (r : Figures) (l : Layout) → r ≡ Fit l → figuredAs r ≡ figuresOut f → LaidIn f r → (figuresOf l ≡ f) × Fitting l
-fit-given f r l e answer layout =
-    let is : LaidOut f l = fit-learnt f r l e answer layout .1 in
-    let fit = figured-fits f (l .«placement_count») (l .«index_tail») (l .«message_len») (sym answer ∙ ap figuredAs e) in
-    let same : figuresOf l ≡ f = rw (is .n-is, is .q-is, is .m-is, is .b-is) in (
-      same,
-      record { range = ap inRange same ∙ fit .0; fit = ap fits same ∙ fit .1; laid = subst (λ (g : Params). LaidOut g l) (sym same) is },
-    )
 
 -- the index blocks of an answer
 pub index-some : (m : ℕ) (a : IndexBlocks) → a .found ≡ true → indexIn m a ≡ some (take m (a .blocks))

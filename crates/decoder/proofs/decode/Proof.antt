@@ -6,8 +6,9 @@ use Rattle.construction_a.specs.Outcomes.{decodeOut}
 use Rattle.params.specs.Bridge.{given}
 use Rattle.params.specs.Given.{figuresOf, Fitting}
 use Rattle.params.proofs.Answered.{refused-learnt}
+use Rattle.params.proofs.Fitting.{layout-fits}
 use Rattle.decoder.specs.Answer.{decodedAs}
-use Rattle.decoder.proofs.Calls.{decode-unfit, fit-given, by-outcome}
+use Rattle.decoder.proofs.Calls.{decode-unfit, by-outcome}
 use Rattle.decoder.proofs.decode.Statement.{statement}
 use Rattle.decoder.proofs.decode.Tie as tie
 
@@ -15,7 +16,7 @@ use Rattle.decoder.proofs.decode.Tie as tie
 learnt : (c : tie.After-answer2) → (figuresOf (c .answer2 .given .0 .0) ≡ given (c .before .before .before .before .before .args .figures)) × Fitting (c .answer2 .given .0 .0)
 learnt c =
     let r = c .before .before .figures in
-    fit-given (given (c .before .before .before .before .before .args .figures)) (r .result) (c .answer2 .given .0 .0) (c .answer2 .given .1) (r .ensures .0) (r .ensures .1)
+    layout-fits (given (c .before .before .before .before .before .args .figures)) (r .result) (c .answer2 .given .0 .0) (c .answer2 .given .1) (r .ensures .0) (r .ensures .1)
 
 figures-requires : tie.Need-figures-requires
 figures-requires c κs = search needs

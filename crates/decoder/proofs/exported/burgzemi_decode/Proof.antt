@@ -4,9 +4,9 @@ use borrow.Author.Needs.{needs}
 use Rattle.construction_a.specs.Figures.{Params, params}
 use Rattle.params.specs.Given.{figuresOf, Fitting}
 use Rattle.params.proofs.Answered.{refused-learnt}
+use Rattle.params.proofs.Fitting.{layout-fits}
 use Rattle.decoder.specs.Exported.{exportedOut}
 use Rattle.decoder.proofs.Bytes.{exported-unfit}
-use Rattle.decoder.proofs.Calls.{fit-given}
 use Rattle.decoder.proofs.exported.burgzemi_decode.Statement.{statement}
 use Rattle.decoder.proofs.exported.burgzemi_decode.Tie as tie
 
@@ -17,7 +17,7 @@ f s = params (s .args .n) (s .args .q) (s .args .m) (s .args .b)
 learnt : (c : tie.After-answer2) → (figuresOf (c .answer2 .given .0 .0) ≡ f (c .before .before .before .before .before .before)) × Fitting (c .answer2 .given .0 .0)
 learnt c =
     let r = c .before .before .figures in
-    fit-given (f (c .before .before .before .before .before .before)) (r .result) (c .answer2 .given .0 .0) (c .answer2 .given .1) (r .ensures .0) (r .ensures .1)
+    layout-fits (f (c .before .before .before .before .before .before)) (r .result) (c .answer2 .given .0 .0) (c .answer2 .given .1) (r .ensures .0) (r .ensures .1)
 
 figures-requires : tie.Need-figures-requires
 figures-requires c κs = search needs
