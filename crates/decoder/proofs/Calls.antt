@@ -1,23 +1,22 @@
--- That the reader answers as the definitions do, refusal by refusal, and demand 2 of what it answers. Assumes nothing.
-use mathlib.Core.Path.{_≡_, refl, sym, ap, _∙_, subst}
+-- That the reader answers as the definitions do, refusal by refusal. Assumes nothing.
+use mathlib.Core.Path.{_≡_, refl, sym, ap, _∙_}
 use mathlib.Core.Logic.{_≢_}
 use mathlib.Core.Bool.{true, false, _&&_}
 use mathlib.Core.List.{List}
 use mathlib.Core.Option.{none, some}
-use Prim.Native.Nat.{ℕ, suc, _-_, _≤_, _<_}
+use Prim.Native.Nat.{ℕ, suc, _≤_, _<_}
 use native.Mathlib.Omega.{arith}
 use lib.Dec.{eqb}
-use lib.ListN.{length, take, replicate}
-use lib.Seq.{take-append-seam}
+use lib.ListN.{length, take}
 use Rattle.refusals.specs.Refusals.{must, wrongLength, badSymbol, noPattern, valueTooLarge, disagrees}
 use Rattle.combinatorics.specs.Lists.{allBelow}
 use Rattle.combinatorics.proofs.Cases.{by-eq, by-bool, leb-holds, leb-fails, eqb-same, eqb-other}
 use Rattle.cells.specs.Cells.{message, pick}
 use Rattle.cells.specs.Codec.{Reading, accepted, refused}
-use Rattle.construction_a.specs.Figures.{Params, maxBursts, inRange, fits, isPlacement, parts, placementCount, messageLen}
-use Rattle.construction_a.specs.Outcomes.{Held, inUse, held, unserved, figuresOut, foundBound, rankIs, refusal, Decoded, unread, decodeAs, decodeOut}
+use Rattle.construction_a.specs.Figures.{Params, inRange, fits, isPlacement, parts, placementCount, messageLen}
+use Rattle.construction_a.specs.Outcomes.{Held, held, unserved, figuresOut, foundBound, rankIs, refusal, Decoded, unread, decodeAs, decodeOut}
 use Rattle.construction_a.specs.Reading.{looksFixed, indexFound, written, agrees, readRank, read}
-use Rattle.construction_a.specs.Writing.{rank, plan, placementOf}
+use Rattle.construction_a.specs.Writing.{plan, placementOf}
 use Rattle.construction_a.proofs.DemandTwo.{demand-two}
 use Rattle.construction_a.proofs.Figures.{Served, placed-starts}
 use Rattle.construction_a.proofs.Outcomes.{refused-alike}
@@ -31,7 +30,6 @@ use Rattle.placements.specs.Bridge.{heldAs, Placing}
 use Rattle.placements.proofs.Calls.{starts-held}
 use Rattle.heads.specs.declared.pattern.IndexBlocks.{IndexBlocks}
 use Rattle.heads.specs.Patterns.{indexIn}
-use Rattle.decoder.specs.DemandTwo.{DecodesExactly}
 
 module _ (f : Params) (w out : List ℕ) where
   -- 1 and 2, with the number that the figures have alone
@@ -108,45 +106,6 @@ placing l v p g below e =
 pub index-some : (m : ℕ) (a : IndexBlocks) → a .found ≡ true → indexIn m a ≡ some (take m (a .blocks))
 unfolding indexIn
 index-some m a e = rw e
-
--- ---- Demand 2
-
-held-starts : (ss : List ℕ) → inUse (held ss) ≡ ss
-held-starts ss = take-append-seam ss (replicate (maxBursts - length ss) 0)
-
--- an answer says which reading it came from
-module _ (f : Params) (out : List ℕ) where
-  was-accepted : (r : Reading) (ss ms : List ℕ) → decodeAs f out r ≡ decodeAs f out (accepted ss ms) → r ≡ accepted ss ms
-  was-accepted (accepted ss′ ms′) ss ms e =
-      let s : ss′ ≡ ss = sym (held-starts ss′) ∙ ap (λ (d : Decoded). inUse (d .placement)) e ∙ held-starts ss in
-      let m : ms′ ≡ ms = ap (λ (d : Decoded). d .message) e in
-      rw (s, m)
-  was-accepted (refused a) ss ms e = absurd (let x : refusal a ≡ rankIs (rank f ss) = ap (λ (d : Decoded). d .answer) e in let z : _≡_ {A = ℕ} 0 1 = cc in omega arith)
-
-  was-refused : (r : Reading) (a : ℕ) → decodeAs f out r ≡ unread out a → r ≡ refused a
-  was-refused (accepted ss ms) a e = absurd (let x : rankIs (rank f ss) ≡ refusal a = ap (λ (d : Decoded). d .answer) e in let z : _≡_ {A = ℕ} 0 1 = cc in omega arith)
-  was-refused (refused a′) a e = let x : refusal a′ ≡ refusal a = ap (λ (d : Decoded). d .answer) e in let s : a′ ≡ a = cc in rw s
-
-pub decodes-exactly : (f : Params) (w out : List ℕ) → DecodesExactly f w out (decodeOut f w out)
-decodes-exactly f w out g =
-    let d = demand-two f (g .range) (g .fit) in
-    let e : decodeOut f w out ≡ decodeAs f out (read f w) = decode-read f w out (g .range) (g .fit) (g .word .complete) (g .buffer) (g .word .symbols) in
-    record {
-      exactly = λ ss ms. (
-        λ p. d .exactly w ss ms (g .word) .0 (was-accepted f out (read f w) ss ms (sym e ∙ p)),
-        λ l. e ∙ ap (decodeAs f out) (d .exactly w ss ms (g .word) .1 l),
-      );
-      one-pair = λ ss ms ss′ ms′. d .one-pair w ss ms ss′ ms′ (g .word);
-      others = λ none. let o = d .others w (g .word) none in (o .0, e ∙ ap (decodeAs f out) (o .1));
-      listed = λ a. (
-        λ p. d .listed w a .0 (was-refused f out (read f w) a (sym e ∙ p)),
-        λ l. e ∙ ap (decodeAs f out) (d .listed w a .1 l),
-      );
-    }
-
--- the two clauses of the reader's contract
-pub by-outcome : (f : Params) (w out : List ℕ) (d : Decoded) → d ≡ decodeOut f w out → (d ≡ decodeOut f w out) × DecodesExactly f w out d
-by-outcome f w out d e = (e, subst (DecodesExactly f w out) (sym e) (decodes-exactly f w out))
 
 -- ---- An accepted word has a placement of m starts
 

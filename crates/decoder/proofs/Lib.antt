@@ -1,4 +1,5 @@
 pub mod Agreeing
 pub mod Picking
 pub mod Calls
+pub mod DemandTwo
 pub mod Bytes

@@ -8,7 +8,8 @@ use Rattle.params.specs.Given.{figuresOf, Fitting}
 use Rattle.params.proofs.Answered.{refused-learnt}
 use Rattle.params.proofs.Fitting.{layout-fits}
 use Rattle.decoder.specs.Answer.{decodedAs}
-use Rattle.decoder.proofs.Calls.{decode-unfit, by-outcome}
+use Rattle.decoder.proofs.Calls.{decode-unfit}
+use Rattle.decoder.proofs.DemandTwo.{by-outcome}
 use Rattle.decoder.proofs.decode.Statement.{statement}
 use Rattle.decoder.proofs.decode.Tie as tie
 
