@@ -1,8 +1,10 @@
 // Runs the bench strips that no proof computes, and writes what the proved functions answer, a line for each. Assumes nothing.
+use decoder::WordAnswer;
 use jobs::JobTable;
 use params::Figures;
 use params::Params;
 use placements::CoverAnswer;
+use placements::Placement;
 
 fn main() {
     figures_row(Params {
@@ -19,6 +21,10 @@ fn main() {
     });
     sound_row();
     worn_row();
+    first_written();
+    second_written();
+    third_written();
+    read_rows();
     table_rows();
 }
 
@@ -52,6 +58,112 @@ fn worn_row() {
     map[12] = 1;
     let answer = placements::cover(first_strip(), &map);
     cover_row(b"defect at 12", answer);
+}
+
+// Word write on the three starred strips, with messages that have one symbol throughout.
+fn first_written() {
+    let message = [1u8; 20];
+    let mut word = [0u8; 30];
+    let at = Placement {
+        starts: [12, 0, 0, 0, 0, 0],
+        count: 1,
+    };
+    let answer = encoder::encode(first_strip(), at, &message, &mut word);
+    written_row(b"start 12, message 1: ", answer, &word);
+}
+
+fn second_written() {
+    let message = [2u8; 44];
+    let mut word = [0u8; 60];
+    let at = Placement {
+        starts: [8, 12, 0, 0, 0, 0],
+        count: 2,
+    };
+    let figures = Params {
+        n: 60,
+        q: 4,
+        m: 2,
+        b: 4,
+    };
+    let answer = encoder::encode(figures, at, &message, &mut word);
+    written_row(b"starts 8 12, message 2: ", answer, &word);
+}
+
+fn third_written() {
+    let message = [2u8; 66];
+    let mut word = [0u8; 90];
+    let at = Placement {
+        starts: [22, 30, 65, 0, 0, 0],
+        count: 3,
+    };
+    let figures = Params {
+        n: 90,
+        q: 3,
+        m: 3,
+        b: 3,
+    };
+    let answer = encoder::encode(figures, at, &message, &mut word);
+    written_row(b"starts 22 30 65, message 2: ", answer, &word);
+}
+
+fn written_row(what: &[u8], answer: u8, word: &[u8]) {
+    put(what, answer as u64);
+    io::write_all(libc::STDOUT_FILENO, b" ");
+    put_symbols(word);
+    end_row();
+}
+
+// Word read on the first strip: all 0, all 1, and its word with other symbols in the index block.
+fn read_rows() {
+    read_row(b"all 0", &[0u8; 30]);
+    read_row(b"all 1", &[1u8; 30]);
+    read_row(b"111111", &first_word([1, 1, 1, 1, 1, 1]));
+    read_row(b"100000", &first_word([1, 0, 0, 0, 0, 0]));
+    read_row(b"101100", &first_word([1, 0, 1, 1, 0, 0]));
+}
+
+// The first strip's word with these symbols in its index block.
+fn first_word(index: [u8; 6]) -> [u8; 30] {
+    let mut word = [1u8; 30];
+    word[0] = 0;
+    word[12] = 0;
+    word[13] = 0;
+    word[14] = 0;
+    word[20] = index[0];
+    word[21] = index[1];
+    word[22] = index[2];
+    word[23] = index[3];
+    word[24] = index[4];
+    word[25] = index[5];
+    word
+}
+
+fn read_row(what: &[u8], word: &[u8]) {
+    let mut message = [0u8; 20];
+    io::write_all(libc::STDOUT_FILENO, what);
+    let found = decoder::decode(first_strip(), word, &mut message);
+    let answer = found.answer;
+    match answer {
+        WordAnswer::Refused(number) => put(b": refused ", number as u64),
+        WordAnswer::Accepted(rank) => {
+            let placement = found.placement;
+            put(b": rank ", rank);
+            put(b", start ", placement.starts[0] as u64);
+            io::write_all(libc::STDOUT_FILENO, b", message ");
+            put_symbols(&message);
+        }
+    }
+    end_row();
+}
+
+// Symbols one after the other, each below 10.
+fn put_symbols(symbols: &[u8]) {
+    let mut i: usize = 0;
+    while i < symbols.len() {
+        let symbol = symbols[i];
+        io::print_decimal(libc::STDOUT_FILENO, symbol as u64);
+        i += 1;
+    }
 }
 
 fn first_strip() -> Params {
