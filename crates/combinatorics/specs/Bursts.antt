@@ -36,7 +36,7 @@ unfoldable pub expandFrom : ℕ → ℕ → List ℕ → List ℕ
 expandFrom d k [] = []
 expandFrom d k (c ∷ cs) = (c + k * d) ∷ expandFrom d (suc k) cs
 
--- "The rank is the sum, over the runs, of the ways to choose as many things as the run's number out of its reduced start."
+-- "The rank is the sum, over the runs, of the ways to choose as many things as the run's number out of its reduced start; .."
 unfoldable pub rankOf : ℕ → List ℕ → ℕ
 rankOf b ss = rankFrom 0 (reduceFrom (b - 1) 0 ss)
 

@@ -3,13 +3,11 @@ use mathlib.Core.Bool.{cond}
 use Prim.Native.Nat.{ℕ, suc, _*_, _%_, _≤_, _<_}
 use lib.Dec.{eqb}
 use Rattle.cells.specs.Digits.{Place, lead, plain, span, places}
+use Rattle.construction_a.specs.Figures.{maxAlphabet}
 
+-- room for the digits of a rank; `digits-few` of proofs/Room shows that no figures need more
 abbrev pub maxDigits : ℕ
 maxDigits = 128
-
--- a symbol is a byte
-abbrev pub maxSymbols : ℕ
-maxSymbols = 256
 
 -- place i of blocks of one lead place and r plain ones
 unfoldable pub placeAt : ℕ → ℕ → Place
@@ -18,7 +16,7 @@ placeAt r i = cond (eqb (i % suc r) 0) lead plain
 -- a value that the places can spell, in an alphabet of bytes
 pub record Spellable (q m r v : ℕ) : Type 0 where
   pub alphabet : 2 ≤ q
-  pub bytes : q ≤ maxSymbols
+  pub bytes : q ≤ maxAlphabet
   pub room : m * suc r ≤ maxDigits
   pub tail : r < maxDigits
   pub below : v < span q (places m r)

@@ -5,7 +5,7 @@ ghost use lib.ListN.{take};
 ghost use Rattle.cells.specs.Digits.{radix, spell, places};
 ghost use Rattle.encoder.specs.Digits.{maxDigits, placeAt, Spellable};
 
-// The most digits that a rank takes.
+// Room for the digits of a rank.
 pub const MAX_DIGITS: usize = 128;
 
 // The stored digits of a value over m blocks of one lead place and `tail` plain ones, made from the right by quotient and remainder.

@@ -37,7 +37,8 @@ pub fn index_read(layout: Layout, word: &[u8]) -> IndexBlocks
     index_found(looks_of(layout, word), layout.parts, layout.m)
 }
 
-// The index blocks that the blocks which look fixed show: every block of the part without such a block, or one block of each part.
+// The index blocks that the blocks which look fixed show: every block of the part without such a block, or of the later of two such parts, or one
+// block of each part.
 pub fn index_found(looks: [u8; Layout::MAX_BLOCKS], parts: usize, m: usize) -> IndexBlocks
     requires { ⌜ Parted parts m ⌝ }
     ensures { λ r. ⌜ indexIn m r ≡ indexFound parts m (looksIn looks) ⌝ }
@@ -178,7 +179,7 @@ impl Candidates {
         }
     }
 
-    // Of numbers below n the one candidate, or the later of two neighbours, which for the first and the last is the first; n where there is none.
+    // Of numbers below n the one candidate, or the later of two neighbours, which for the first and the last is the first; n or more where there is none.
     fn later(self, n: usize) -> usize
         requires { ⌜ (self .first < n) × (self .second < n) ⌝ }
         ensures { λ r. ⌜ ((xs : List ℕ) → self ≡ heldOf xs → numbered n r ≡ later n xs) ⌝ }

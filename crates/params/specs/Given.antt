@@ -1,14 +1,14 @@
 -- What inner functions of the layers above may count on: a layout of figures that fit. Assumes nothing.
 use mathlib.Core.Path.{_≡_}
 use mathlib.Core.Bool.{true}
-use Prim.Native.Nat.{ℕ}
-use Rattle.construction_a.specs.Figures.{Params, params, inRange, fits}
+use Prim.Native.Nat.{ℕ, _*_}
+use Rattle.construction_a.specs.Figures.{Params, params, maxBursts, inRange, fits}
 use Rattle.params.specs.Answer.{LaidOut}
 use Rattle.params.specs.declared.Layout.{Layout}
 
 -- the most blocks that a word can have: p × m where m is the largest
 abbrev pub maxBlocks : ℕ
-maxBlocks = 36
+maxBlocks = maxBursts * maxBursts
 
 -- the figures of a layout
 abbrev pub figuresOf : Layout → Params

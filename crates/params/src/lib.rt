@@ -157,7 +157,7 @@ impl Params {
 
 impl Layout {
     // The most blocks that a word can have.
-    pub const MAX_BLOCKS: usize = 36;
+    pub const MAX_BLOCKS: usize = (Params::MAX_BURSTS * Params::MAX_BURSTS) as usize;
 
     // The block that has position x.
     pub fn block_of(self, x: usize) -> usize

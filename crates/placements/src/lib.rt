@@ -25,7 +25,7 @@ pub struct Placement {
 
 impl Placement {
     // The most bursts of a placement.
-    pub const MAX: usize = 6;
+    pub const MAX: usize = Params::MAX_BURSTS as usize;
 
     // No burst at all: what stands beside a refusal.
     pub fn none() -> Self

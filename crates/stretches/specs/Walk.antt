@@ -20,7 +20,7 @@ cellNamed c = cond (eqb c 0) burst (cond (eqb c 1) fixed (cond (eqb c 2) digit m
 unfoldable pub headCells : Params → List ℕ → ℕ → ℕ
 headCells f ss k = cond (isIndex f ss k) (suc (indexTail f)) (cond (isBurst f ss k) 0 1)
 
--- the walk stands at a position of its block, past the bursts that it counts and no others, and not among the block's head cells but at the first
+-- the walk stands at a position of its block, past the bursts that it counts and no others, and at the block's first cell or past its head cells
 pub record Walking (f : Params) (ss : List ℕ) (w : Walk) : Type 0 where
   pub inside : w .at < f .n
   pub block-in : w .block < blocks f
@@ -50,7 +50,7 @@ pub record Stretches (f : Params) (ss : List ℕ) (w : Walk) (s : Stretch) : Typ
 unfoldable pub nextStart : Params → List ℕ → ℕ → ℕ
 nextStart f ss i = cond (ltb i (length ss)) (getD ss i 0) (f .n)
 
--- how many bursts end at or before a position, where all before number i do and none behind it does
+-- how many bursts lie wholly before a position, where all before number i do and none behind it does
 unfoldable pub passedBy : Params → List ℕ → ℕ → ℕ → ℕ
 passedBy f ss i x = cond (ltb i (length ss) && leb (getD ss i 0 + f .b) x) (suc i) i
 

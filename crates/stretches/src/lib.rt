@@ -20,7 +20,7 @@ pub const DIGIT_CELL: u8 = 2;
 
 pub const MESSAGE_CELL: u8 = 3;
 
-// Where a walk stands: a position, its block with that block's first position and the next one's, and how many bursts end at or before it.
+// Where a walk stands: a position, its block with that block's first position and the next one's, and how many bursts lie wholly before it.
 pub struct Walk {
     pub at: usize,
     pub block: usize,
@@ -124,7 +124,7 @@ fn moved(layout: Layout, at: Placement, walk: Walk, to: usize) -> Walk
     }
 }
 
-// How many bursts end at or before a position, where all before this number do and none behind it does.
+// How many bursts lie wholly before a position, where all before this number do and none behind it does.
 fn passed(layout: Layout, at: Placement, burst: usize, to: usize) -> usize
     requires { ⌜ Placing layout at ⌝ }
     ensures { λ r. ⌜ r ≡ passedBy (figuresOf layout) (startsIn at) burst to ⌝ }
@@ -139,7 +139,7 @@ fn passed(layout: Layout, at: Placement, burst: usize, to: usize) -> usize
     burst
 }
 
-// The first position behind a block, or the word's end where there is no such block.
+// The first position behind a block of the word.
 fn edge_of(layout: Layout, block: usize) -> usize
     requires { ⌜ Fitting layout ⌝ }
     ensures { λ r. ⌜ (block < blocks (figuresOf layout) → r ≡ headOf (figuresOf layout) (suc block)) ⌝ }
