@@ -1,4 +1,3 @@
-pub mod Payload
 pub mod Outcomes
 pub mod Examples
 pub mod DemandThree

@@ -19,10 +19,10 @@ use Rattle.construction_a.proofs.Outcomes.{refused-alike}
 use Rattle.jobs.specs.declared.Entry.{Entry}
 use Rattle.jobs.specs.Jobs.{opened}
 use Rattle.jobs.specs.Table.{twice}
-use Rattle.jobcodec.specs.Payload.{IsPayload, carriesJob, messageOf}
+use Rattle.payloads.specs.Payload.{IsPayload, carriesJob, messageOf}
 use Rattle.jobcodec.specs.JobWrite.{jobStatus, jobWriteOut}
 use Rattle.jobcodec.specs.JobRead.{JobRead, withhold, jobIn, jobReading, jobReadOut}
-use Rattle.jobcodec.proofs.Payload.{length-message, message-symbols}
+use Rattle.payloads.proofs.Payload.{length-message, message-symbols}
 
 -- ---- "1 2", as both orders begin
 

@@ -1,4 +1,3 @@
-pub mod Payload
 pub mod JobWrite
 pub mod JobRead
 pub mod DemandThree
