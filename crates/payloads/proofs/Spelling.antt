@@ -13,7 +13,7 @@ use lib.Seq.{take-all, take-at, take-suc, length-take-le, drop-cons, drop-set-lt
 use Rattle.combinatorics.specs.Lists.{all, allBelow}
 use Rattle.combinatorics.proofs.Cases.{by-eq, leb-holds, leb-fails}
 use Rattle.combinatorics.proofs.Stretch.{tabulate-at}
-use Rattle.cells.specs.Bytes.{byteValues, maxByteWidth, payloadLen}
+use Rattle.cells.specs.Bytes.{byteValues, payloadLen}
 use Rattle.cells.specs.Digits.{plain, span, spell, value}
 use Rattle.cells.proofs.Bytes.{width-most, width-enough}
 use Rattle.cells.proofs.Digits.{horner, horner-is, span-plain, spell-snoc, length-spell}
@@ -95,10 +95,10 @@ module _ (q w : ℕ) (symbols : List ℕ) (few : q ≤ byteValues) where
         (rw (add-one i, ← drop-cons symbols i 0 k) (s .same)) in
         record { below = next-below (s .below); same = sym (ap (λ (y : ℕ). horner q (replicate (w - (i + 1)) plain) (drop (i + 1) symbols) (v * q + y)) z) ∙ same }
 
-    -- 64 bits are enough
-    pub taken-fits : i < w → w ≤ maxByteWidth → Taken q w symbols i v → v * q + getD symbols i 0 < byteValues ^ maxByteWidth
-    taken-fits l g s =
-        omega (arith, next-below (s .below), pow-le-pow-right {n = byteValues} (omega arith) {i = i + 1} {j = maxByteWidth} (omega arith))
+    -- so many bytes are enough
+    pub taken-fits : (most : ℕ) → i < w → w ≤ most → Taken q w symbols i v → v * q + getD symbols i 0 < byteValues ^ most
+    taken-fits most l g s =
+        omega (arith, next-below (s .below), pow-le-pow-right {n = byteValues} (omega arith) {i = i + 1} {j = most} (omega arith))
 
   pub taken-all : (i v : ℕ) → w ≤ i → Taken q w symbols i v → v ≡ value q (replicate w plain) symbols
   unfolding horner

@@ -92,6 +92,22 @@ pub fn job_number(payload: &[u8]) -> u32
     spelled_value(bytes::BYTE_VALUES, NUMBER_BYTES, payload) as u32
 }
 
+// The job number of the payload that a message spells, so that nothing is stored before its job is known to be open.
+pub fn number_in(q: u64, width: usize, count: usize, message: &[u8]) -> u32
+    requires { ⌜ Measured q width count (now message) × (spellsPayload q (length (now message)) (now message) ≡ true) × (4 ≤ count) ⌝ }
+    ensures { λ r. ⌜ r ≡ jobNumber (payloadIn q (length (now (message .entry))) (now (message .entry))) ⌝ }
+{
+    let mut number: u64 = 0;
+    let mut i: usize = 0;
+    while i < NUMBER_BYTES {
+        let at = i * width;
+        let byte = spelled_value(q, width, &message[at..]);
+        number = number * bytes::BYTE_VALUES + byte;
+        i += 1;
+    }
+    number as u32
+}
+
 // What the first `width` symbols spell, most significant first. Whatever bytes stand there, eight of them are less than 64 bits.
 fn spelled_value(q: u64, width: usize, symbols: &[u8]) -> u64
     requires { ⌜ Valued q width (now symbols) ⌝ }

@@ -2,6 +2,7 @@
 use Prim.Native.Nat.{_-_, _≤_}
 use native.Mathlib.Omega.{arith}
 use borrow.Author.Needs.{needs}
+use Rattle.cells.specs.Bytes.{maxByteWidth}
 use Rattle.payloads.proofs.Spelling.{Taken, taken-none, taken-turn, taken-fits, taken-all}
 use Rattle.payloads.proofs.spelled_value.Statement.{statement}
 use Rattle.payloads.proofs.spelled_value.Tie as tie
@@ -26,14 +27,14 @@ mul-value c =
     let s = c .before .before .before in
     let a = s .args in
     let t = c .before .before .loop in
-    omega (arith, taken-fits (a .q) (a .width) (a .symbols .now) (s .pre .bytes) (t .i) (t .value) (omega (arith, c .shared-slice-known .given (t .i))) (omega arith) (s .pre .short) (t .inv .1))
+    omega (arith, taken-fits (a .q) (a .width) (a .symbols .now) (s .pre .bytes) (t .i) (t .value) (omega (arith, c .shared-slice-known .given (t .i))) maxByteWidth (omega arith) (s .pre .short) (t .inv .1))
 
 add-value : tie.Need-add-value Inv-loop μ-loop
 add-value c =
     let s = c .before .before .before in
     let a = s .args in
     let t = c .before .before .loop in
-    omega (arith, taken-fits (a .q) (a .width) (a .symbols .now) (s .pre .bytes) (t .i) (t .value) (omega (arith, c .shared-slice-known .given (t .i))) (omega arith) (s .pre .short) (t .inv .1))
+    omega (arith, taken-fits (a .q) (a .width) (a .symbols .now) (s .pre .bytes) (t .i) (t .value) (omega (arith, c .shared-slice-known .given (t .i))) maxByteWidth (omega arith) (s .pre .short) (t .inv .1))
 
 add-i : tie.Need-add-i Inv-loop μ-loop
 add-i c = search needs
