@@ -2,3 +2,4 @@ pub mod Outcomes
 pub mod Examples
 pub mod DemandThree
 pub mod RoundTrip
+pub mod Calls

@@ -1,3 +1,4 @@
 pub mod JobWrite
 pub mod JobRead
 pub mod DemandThree
+pub mod Given
