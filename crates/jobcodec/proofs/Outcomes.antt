@@ -41,7 +41,7 @@ module _ {A : Type 0} (f : Params) (es : List Entry) (refuse : ℕ → A) (rest 
       → must (inRange f && not (twice es)) (refuse invalid) (must (fits f) (refuse unfit) rest) ≡ refuse a
   figures-refused a e r = rw (e, both-true (inRange f)) (refused-alike f a refuse rest r)
 
--- ---- Figures and table in order, and five bytes or more
+-- ---- On with the encoder and the decoder
 
 -- where nothing is refused, a job is written as the encoder writes its message
 pub write-encodes : (f : Params) (es : List Entry) (at : Held) (payload out : List ℕ) → Ready f es
