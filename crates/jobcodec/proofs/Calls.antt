@@ -25,11 +25,13 @@ use Rattle.params.specs.declared.Layout.{Layout}
 use Rattle.params.proofs.Answered.{fit-learnt, Bounds, bounds}
 use Rattle.jobs.specs.declared.Entry.{Entry}
 use Rattle.jobs.specs.Jobs.{Status, unknown, opened, cancelled, needsOpen}
+use Rattle.jobs.specs.Replay.{ReplayOut, replayOut}
 use Rattle.jobs.specs.Table.{twice}
 use Rattle.payloads.specs.Payload.{carriesJob, messageOf, payloadIn, spellsPayload}
 use Rattle.jobcodec.specs.JobWrite.{jobStatus, whereOpen, jobWriteOut}
-use Rattle.jobcodec.specs.JobRead.{handOut, withhold, jobIn, jobReading, jobReadOut}
+use Rattle.jobcodec.specs.JobRead.{JobRead, handOut, withhold, jobIn, jobReading, jobReadOut}
 use Rattle.jobcodec.specs.Given.{Laid, Ready}
+use Rattle.jobcodec.specs.ListRead.{listUnread, listRead, listOut}
 use Rattle.jobcodec.proofs.Outcomes.{both-false, figures-refused}
 
 -- ---- "1 2"
@@ -199,3 +201,14 @@ module _ (q k : ℕ) (es : List Entry) (out ms : List ℕ) where
 
     pub handed : needsOpen (jobStatus es (payloadIn q k ms)) ≡ served → jobIn q k es out (accepted [] ms) ≡ handOut (payloadIn q k ms)
     handed n = rw (e, n)
+
+-- ---- A list of calls, and the job reading after it
+
+module _ (f : Params) (letters numbers answers w out : List ℕ) (r : ReplayOut) (e : r ≡ replayOut letters numbers answers) where
+  pub list-refused : r .answer ≢ served → listUnread r out ≡ listOut f letters numbers answers w out
+  unfolding listOut
+  list-refused d = rw (← e, eqb-other (r .answer) served d)
+
+  pub list-goes-on : (j : JobRead) → r .answer ≡ served → j ≡ jobReadOut f (r .table) w out → listRead r j ≡ listOut f letters numbers answers w out
+  unfolding listOut
+  list-goes-on j d h = rw (← e, eqb-same (r .answer) served d, h)

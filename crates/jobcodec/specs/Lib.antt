@@ -2,3 +2,4 @@ pub mod JobWrite
 pub mod JobRead
 pub mod DemandThree
 pub mod Given
+pub mod ListRead
