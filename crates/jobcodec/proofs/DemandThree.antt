@@ -23,12 +23,12 @@ use Rattle.jobs.specs.Table.{emptyTable, answersFrom, tableFrom}
 use Rattle.jobs.specs.Ledger.{newest, statusAfter, status, ledgerFrom, acceptedBy}
 use Rattle.jobs.specs.Simulation.{Agrees, Follows}
 use Rattle.jobs.proofs.Simulates.{simulation-from-empty, accepted-by}
-use Rattle.jobcodec.specs.Payload.{carriesJob, jobNumber, messageOf, payloadIn, spellsPayload}
+use Rattle.payloads.specs.Payload.{carriesJob, jobNumber, messageOf, payloadIn, spellsPayload}
 use Rattle.jobcodec.specs.JobWrite.{whereOpen}
 use Rattle.jobcodec.specs.JobRead.{JobRead, handOut, withhold, jobIn, jobReading, jobReadOut}
 use Rattle.jobcodec.specs.DemandThree.{Gives, OnlyPair, BothFacts, isRefusal, HandsOut, Claim, DemandThree}
 use Rattle.jobcodec.proofs.Examples.{figures, wordWith, buffer, opened, computed}
-use Rattle.jobcodec.proofs.Payload.{payload-back, payload-passes, payload-is, message-is}
+use Rattle.payloads.proofs.Payload.{payload-back, payload-passes, payload-is, message-is}
 
 -- ---- Pairs, under any exact codec
 

@@ -25,7 +25,7 @@ use Rattle.jobs.specs.declared.Entry.{Entry}
 use Rattle.jobs.specs.declared.Entry.the-variants.{Free, Open, Cancelled}
 use Rattle.jobs.specs.Jobs.{opening, cancelling, finishing, Call, on}
 use Rattle.jobs.specs.Table.{firstEntry, replaceFirst, put, twice, decide, emptyTable, tableFrom}
-use Rattle.jobcodec.specs.Payload.{carriesJob, jobNumber, messageOf, payloadIn, spellsPayload}
+use Rattle.payloads.specs.Payload.{carriesJob, jobNumber, messageOf, payloadIn, spellsPayload}
 use Rattle.jobcodec.specs.JobWrite.{jobWriteOut}
 use Rattle.jobcodec.specs.JobRead.{JobRead, jobReading, jobReadOut}
 use Rattle.jobcodec.specs.DemandThree.{Presented}

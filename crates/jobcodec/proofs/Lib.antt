@@ -1,5 +1,5 @@
-pub mod Payload
 pub mod Outcomes
 pub mod Examples
 pub mod DemandThree
 pub mod RoundTrip
+pub mod Calls

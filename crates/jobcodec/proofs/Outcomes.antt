@@ -19,14 +19,15 @@ use Rattle.construction_a.proofs.Outcomes.{refused-alike}
 use Rattle.jobs.specs.declared.Entry.{Entry}
 use Rattle.jobs.specs.Jobs.{opened}
 use Rattle.jobs.specs.Table.{twice}
-use Rattle.jobcodec.specs.Payload.{IsPayload, carriesJob, messageOf}
+use Rattle.payloads.specs.Payload.{IsPayload, messageOf}
 use Rattle.jobcodec.specs.JobWrite.{jobStatus, jobWriteOut}
 use Rattle.jobcodec.specs.JobRead.{JobRead, withhold, jobIn, jobReading, jobReadOut}
-use Rattle.jobcodec.proofs.Payload.{length-message, message-symbols}
+use Rattle.jobcodec.specs.Given.{Ready}
+use Rattle.payloads.proofs.Payload.{length-message, message-symbols}
 
 -- ---- "1 2", as both orders begin
 
-both-false : (a : Bool) → (a && false) ≡ false
+pub both-false : (a : Bool) → (a && false) ≡ false
 both-false true = refl
 both-false false = refl
 
@@ -35,22 +36,12 @@ both-true true = refl
 both-true false = refl
 
 module _ {A : Type 0} (f : Params) (es : List Entry) (refuse : ℕ → A) (rest : A) where
-  -- a table with one number twice, whatever the figures
-  pub twice-refused : twice es ≡ true → must (inRange f && not (twice es)) (refuse invalid) (must (fits f) (refuse unfit) rest) ≡ refuse invalid
-  twice-refused e = rw (e, both-false (inRange f))
-
-  -- otherwise what figures alone are refused with
+  -- what figures alone are refused with
   pub figures-refused : (a : ℕ) → twice es ≡ false → figuresOut f ≡ unserved a
       → must (inRange f && not (twice es)) (refuse invalid) (must (fits f) (refuse unfit) rest) ≡ refuse a
   figures-refused a e r = rw (e, both-true (inRange f)) (refused-alike f a refuse rest r)
 
--- ---- Figures and table in order, and five bytes or more
-
-pub record Ready (f : Params) (es : List Entry) : Type 0 where
-  pub range : inRange f ≡ true
-  pub once : twice es ≡ false
-  pub fit : fits f ≡ true
-  pub carries : carriesJob (f .q) (messageLen f) ≡ true
+-- ---- On with the encoder and the decoder
 
 -- where nothing is refused, a job is written as the encoder writes its message
 pub write-encodes : (f : Params) (es : List Entry) (at : Held) (payload out : List ℕ) → Ready f es

@@ -23,13 +23,13 @@ use Rattle.construction_a.proofs.DemandTwo.{demand-two}
 use Rattle.jobs.specs.declared.Entry.{Entry}
 use Rattle.jobs.specs.Jobs.{Status, unknown, opened, cancelled}
 use Rattle.jobs.specs.Table.{twice}
-use Rattle.jobcodec.specs.Payload.{IsPayload, carriesJob, messageOf}
+use Rattle.payloads.specs.Payload.{carriesJob, messageOf}
 use Rattle.jobcodec.specs.JobWrite.{jobStatus, whereOpen, jobWriteOut}
 use Rattle.jobcodec.specs.JobRead.{handOut, jobReading, jobReadOut}
 use Rattle.jobcodec.specs.DemandThree.{isRefusal, Gives}
+use Rattle.jobcodec.specs.Given.{Ready}
 use Rattle.jobcodec.proofs.DemandThree.{not-served, read-pair}
-use Rattle.jobcodec.proofs.Outcomes.{Ready}
-use Rattle.jobcodec.proofs.Payload.{length-message, message-symbols, payload-back, payload-passes}
+use Rattle.payloads.proofs.Payload.{length-message, message-symbols, payload-back, payload-passes}
 
 -- ---- What an accepted writing says of its input
 

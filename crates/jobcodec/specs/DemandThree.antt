@@ -17,7 +17,7 @@ use Rattle.construction_a.specs.DemandTwo.{constructionA}
 use Rattle.jobs.specs.Jobs.{opening, cancelling, finishing, Call}
 use Rattle.jobs.specs.Table.{emptyTable, answersFrom, tableFrom}
 use Rattle.jobs.specs.Ledger.{newest, verdictsFrom, acceptedBy}
-use Rattle.jobcodec.specs.Payload.{IsPayload, carriesJob, jobNumber, messageOf}
+use Rattle.payloads.specs.Payload.{IsPayload, carriesJob, jobNumber, messageOf}
 use Rattle.jobcodec.specs.JobRead.{JobRead, handOut, withhold, jobReadOut}
 
 -- ---- The first fact, under any codec

@@ -12,7 +12,7 @@ use Rattle.construction_a.specs.Figures.{Params, inRange, fits}
 use Rattle.construction_a.specs.DemandTwo.{constructionA}
 use Rattle.jobs.specs.declared.Entry.{Entry}
 use Rattle.jobs.specs.Table.{twice}
-use Rattle.jobcodec.specs.Payload.{carriesJob, payloadIn, spellsPayload}
+use Rattle.payloads.specs.Payload.{carriesJob, payloadIn, spellsPayload}
 use Rattle.jobcodec.specs.JobWrite.{jobStatus, whereOpen}
 
 pub record JobRead : Type 0 where

@@ -14,7 +14,7 @@ use Rattle.construction_a.specs.Outcomes.{Held, inUse, Encoded, unwritten}
 use Rattle.jobs.specs.declared.Entry.{Entry}
 use Rattle.jobs.specs.Jobs.{Status, needsOpen}
 use Rattle.jobs.specs.Table.{standing, lookup, twice}
-use Rattle.jobcodec.specs.Payload.{carriesJob, jobNumber, messageOf}
+use Rattle.payloads.specs.Payload.{carriesJob, jobNumber, messageOf}
 
 -- what the table has of a payload's job number
 abbrev pub jobStatus : List Entry → List ℕ → Status

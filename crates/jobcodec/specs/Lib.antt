@@ -1,4 +1,5 @@
-pub mod Payload
 pub mod JobWrite
 pub mod JobRead
 pub mod DemandThree
+pub mod Given
+pub mod ListRead

@@ -3,7 +3,7 @@
 use mathlib.Core.Path.{_≡_, refl, sym, ap, _∙_}
 use mathlib.Core.Bool.{true}
 use mathlib.Core.List.{List, [], _∷_, _++_, flatMap, append-assoc}
-use Prim.Native.Nat.{ℕ, zero, suc, _+_, _-_, _*_, _≤_, _<_}
+use Prim.Native.Nat.{ℕ, zero, suc, _+_, _-_, _*_, _^_, _≤_, _<_}
 use native.Mathlib.Nat.{div-mul-le-self}
 use native.Mathlib.Omega.{arith}
 use borrow.Author.Tests.{leb-true}
@@ -16,10 +16,10 @@ use Rattle.combinatorics.proofs.Cases.{leb-holds}
 use Rattle.combinatorics.proofs.Lists.{both, all-append, all-take, all-drop, all-replicate, all-flat, all-same}
 use Rattle.combinatorics.proofs.Stretch.{length-tabulate, length-flat}
 use Rattle.cells.specs.Bytes.{byteValues, byteWidth, payloadLen}
-use Rattle.cells.specs.Digits.{span, spell, value}
+use Rattle.cells.specs.Digits.{plain, span, spell, value}
 use Rattle.cells.proofs.Bytes.{width-enough}
-use Rattle.cells.proofs.Digits.{spell-spelled, value-spell, spell-value, span-plain, length-spell, value-front, plain-spelled, spelled-plain}
-use Rattle.jobcodec.specs.Payload.{IsPayload, bytePlaces, spelledLen, messageOf, payloadIn, spellsPayload}
+use Rattle.cells.proofs.Digits.{spell-spelled, value-spell, value-lt, spell-value, span-plain, length-spell, value-front, plain-spelled, spelled-plain}
+use Rattle.payloads.specs.Payload.{IsPayload, carriesJob, jobNumber, bytePlaces, spelledLen, messageOf, payloadIn, spellsPayload}
 
 -- what the symbols of byte i of a message spell
 abbrev pub byteAt : ℕ → List ℕ → ℕ → ℕ
@@ -165,3 +165,19 @@ module _ (q k : ℕ) where
     pub spelled-once : (ms : List ℕ) → length ms ≡ k → allBelow q ms ≡ true → spellsPayload q k ms ≡ true → SpelledOnce q k ms (payloadIn q k ms)
     spelled-once ms e h t =
         record { payload-bytes = payload-is ms t; spells = message-is ms e h t; no-other = λ y p m. sym (payload-back y p) ∙ ap (payloadIn q k) m }
+
+-- ---- Job numbers
+
+-- "10: K below 5" otherwise
+pub carries-five : (q k : ℕ) → carriesJob q k ≡ true → 5 ≤ payloadLen q k
+unfolding carriesJob
+carries-five q k e = leb-true 5 (payloadLen q k) e
+
+-- a job number has 32 bits
+pub number-below : (y : List ℕ) → 4 ≤ length y → allBelow byteValues y ≡ true → jobNumber y < byteValues ^ 4
+unfolding jobNumber
+number-below y l h =
+    let ps = replicate 4 plain in
+    let t : length (take 4 y) ≡ 4 = length-take-le 4 y l in
+    let v : value byteValues ps y ≡ value byteValues ps (take 4 y) = ap (value byteValues ps) (sym (take-append-drop 4 y)) ∙ value-front byteValues ps (take 4 y) (drop 4 y) t in
+    rw (v, ← span-plain byteValues 4) (value-lt byteValues ps (take 4 y) (plain-spelled byteValues 4 (take 4 y) t (all-take (λ x. ltb x byteValues) 4 y h)))

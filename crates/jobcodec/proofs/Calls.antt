@@ -1,0 +1,214 @@
+-- Job write and job read test by test, as the code makes them. Assumes nothing.
+use mathlib.Core.Path.{_≡_, refl, sym, ap, _∙_}
+use mathlib.Core.Logic.{_≢_}
+use mathlib.Core.Bool.{Bool, true, false, not, _&&_}
+use mathlib.Core.List.{List, []}
+use Prim.Native.Nat.{ℕ, _≤_, _<_}
+use native.Mathlib.Omega.{arith}
+use lib.Dec.{eqb}
+use lib.ListN.{length, take, replicate}
+use lib.Seq.{length-take-le}
+use Rattle.refusals.specs.Refusals.{must, served, invalid, unfit, wrongLength, badStarts, badPayload}
+use Rattle.combinatorics.specs.Bursts.{apart}
+use Rattle.combinatorics.proofs.Cases.{eqb-same, eqb-other, leb-holds, leb-fails}
+use Rattle.cells.specs.Bytes.{payloadLen}
+use Rattle.cells.specs.Codec.{accepted}
+use Rattle.construction_a.specs.Figures.{Params, maxWord, inRange, fits, messageLen}
+use Rattle.construction_a.specs.Writing.{word}
+use Rattle.construction_a.specs.Outcomes.{Held, inUse, Encoded, unwritten, unserved, figuresOut}
+use Rattle.construction_a.proofs.Figures.{serve}
+use Rattle.construction_a.proofs.Outcomes.{figured-fits}
+use Rattle.params.specs.Answer.{figuredAs, LaidIn}
+use Rattle.params.specs.declared.Figures.{Figures}
+use Rattle.params.specs.declared.Figures.the-variants.{Fit}
+use Rattle.params.specs.declared.Layout.{Layout}
+use Rattle.params.proofs.Answered.{fit-learnt, Bounds, bounds}
+use Rattle.jobs.specs.declared.Entry.{Entry}
+use Rattle.jobs.specs.Jobs.{Status, unknown, opened, cancelled, needsOpen}
+use Rattle.jobs.specs.Replay.{ReplayOut, replayOut}
+use Rattle.jobs.specs.Table.{twice}
+use Rattle.payloads.specs.Payload.{carriesJob, messageOf, payloadIn, spellsPayload}
+use Rattle.jobcodec.specs.JobWrite.{jobStatus, whereOpen, jobWriteOut}
+use Rattle.jobcodec.specs.JobRead.{JobRead, handOut, withhold, jobIn, jobReading, jobReadOut}
+use Rattle.jobcodec.specs.Given.{Laid, Ready}
+use Rattle.jobcodec.specs.ListRead.{listUnread, listRead, listOut}
+use Rattle.jobcodec.proofs.Outcomes.{both-false, figures-refused}
+
+-- ---- "1 2"
+
+module _ (f : Params) (es : List Entry) where
+  pub write-twice : (at : Held) (payload out : List ℕ) → twice es ≡ true → jobWriteOut f es at payload out ≡ unwritten out invalid
+  unfolding jobWriteOut
+  write-twice at payload out e = rw (e, both-false (inRange f))
+
+  pub read-twice : (w out : List ℕ) → twice es ≡ true → jobReadOut f es w out ≡ withhold out invalid
+  unfolding jobReadOut
+  read-twice w out e = rw (e, both-false (inRange f))
+
+  pub write-unfit : (at : Held) (payload out : List ℕ) (a : ℕ) → twice es ≡ false → figuresOut f ≡ unserved a → jobWriteOut f es at payload out ≡ unwritten out a
+  unfolding jobWriteOut
+  write-unfit at payload out a e r = figures-refused f es (unwritten out) _ a e r
+
+  pub read-unfit : (w out : List ℕ) (a : ℕ) → twice es ≡ false → figuresOut f ≡ unserved a → jobReadOut f es w out ≡ withhold out a
+  unfolding jobReadOut
+  read-unfit w out a e r = figures-refused f es (withhold out) _ a e r
+
+  -- what a caller learns of an answer that is a layout
+  pub laid : (answer : Figures) (l : Layout) → answer ≡ Fit l → figuredAs answer ≡ figuresOut f → LaidIn f answer → twice es ≡ false → Laid f l es
+  laid answer l e told layout once =
+      let fit = figured-fits f (l .«placement_count») (l .«index_tail») (l .«message_len») (sym told ∙ ap figuredAs e) in
+      record { range = fit .0; fit = fit .1; layout = fit-learnt f answer l e told layout .1; once = once }
+
+-- ---- Figures that fit, laid out
+
+module _ (f : Params) (l : Layout) (es : List Entry) (h : Laid f l es) where
+  pub laid-bounds : Bounds l
+  laid-bounds = bounds f l (serve f (h .range) (h .fit)) (h .layout)
+
+  pub bytes-are : (count : ℕ) → count ≡ payloadLen (l .q) (l .«message_len») → count ≡ payloadLen (f .q) (messageLen f)
+  bytes-are count e = e ∙ rw (h .layout .q-is, h .layout .len-is)
+
+  -- no message is longer than the longest word
+  pub message-short : l .«message_len» ≤ maxWord
+  unfolding messageLen
+  message-short = omega (arith, h .layout .len-is, h .layout .n-is, laid-bounds .n-most)
+
+  pub room-is : length {A = ℕ} (take (l .«message_len») (replicate maxWord 0)) ≡ messageLen f
+  room-is = length-take-le {A = ℕ} (l .«message_len») (replicate maxWord 0) message-short ∙ h .layout .len-is
+
+  -- five bytes or more
+  pub ready : (count : ℕ) → count ≡ payloadLen (l .q) (l .«message_len») → 5 ≤ count → Ready f es
+  unfolding carriesJob
+  ready count e five =
+      record { range = h .range; once = h .once; fit = h .fit; carries = leb-holds 5 (payloadLen (f .q) (messageLen f)) (omega (arith, bytes-are count e)) }
+
+  carries-not : (count : ℕ) → count ≡ payloadLen (l .q) (l .«message_len») → count < 5 → carriesJob (f .q) (messageLen f) ≡ false
+  unfolding carriesJob
+  carries-not count e few = leb-fails 5 (payloadLen (f .q) (messageLen f)) (omega (arith, bytes-are count e))
+
+  -- "10: K below 5"
+  pub write-few : (at : Held) (payload out : List ℕ) (count : ℕ) → count ≡ payloadLen (l .q) (l .«message_len») → count < 5
+      → jobWriteOut f es at payload out ≡ unwritten out badPayload
+  unfolding jobWriteOut
+  write-few at payload out count e few = rw (h .range, h .once, h .fit, carries-not count e few)
+
+  pub read-few : (w out : List ℕ) (count : ℕ) → count ≡ payloadLen (l .q) (l .«message_len») → count < 5 → jobReadOut f es w out ≡ withhold out badPayload
+  unfolding jobReadOut jobReading
+  read-few w out count e few = rw (h .range, h .once, h .fit, carries-not count e few)
+
+-- ---- Writing
+
+module _ (f : Params) (es : List Entry) (at : Held) (payload out : List ℕ) (r : Ready f es) where
+  pub write-count : at .count ≢ f .m → jobWriteOut f es at payload out ≡ unwritten out wrongLength
+  unfolding jobWriteOut
+  write-count n = rw (r .range, r .once, r .fit, r .carries, eqb-other (at .count) (f .m) n)
+
+  pub write-bytes : at .count ≡ f .m → length payload ≢ payloadLen (f .q) (messageLen f) → jobWriteOut f es at payload out ≡ unwritten out wrongLength
+  unfolding jobWriteOut
+  write-bytes c n =
+      rw (r .range, r .once, r .fit, r .carries, eqb-same (at .count) (f .m) c, eqb-other (length payload) (payloadLen (f .q) (messageLen f)) n)
+
+  module _ (c : at .count ≡ f .m) (y : length payload ≡ payloadLen (f .q) (messageLen f)) where
+    pub write-length : length out ≢ f .n → jobWriteOut f es at payload out ≡ unwritten out wrongLength
+    unfolding jobWriteOut
+    write-length n =
+        rw (
+          r .range,
+          r .once,
+          r .fit,
+          r .carries,
+          eqb-same (at .count) (f .m) c,
+          eqb-same (length payload) (payloadLen (f .q) (messageLen f)) y,
+          eqb-other (length out) (f .n) n,
+        )
+
+    module _ (o : length out ≡ f .n) where
+      pub write-starts : apart (f .b) (f .n) 0 (inUse at) ≡ false → jobWriteOut f es at payload out ≡ unwritten out badStarts
+      unfolding jobWriteOut
+      write-starts n =
+          rw (
+            r .range,
+            r .once,
+            r .fit,
+            r .carries,
+            eqb-same (at .count) (f .m) c,
+            eqb-same (length payload) (payloadLen (f .q) (messageLen f)) y,
+            eqb-same (length out) (f .n) o,
+            n,
+          )
+
+      by-status : (s : Status) (rest : Encoded) → rest .answer ≡ served → whereOpen s (unwritten out) rest .answer ≡ needsOpen s
+      by-status unknown rest e = refl
+      by-status opened rest e = e
+      by-status cancelled rest e = refl
+
+      -- "12 14"
+      pub write-status : apart (f .b) (f .n) 0 (inUse at) ≡ true → jobWriteOut f es at payload out .answer ≡ needsOpen (jobStatus es payload)
+      unfolding jobWriteOut
+      write-status p =
+          rw (
+            r .range,
+            r .once,
+            r .fit,
+            r .carries,
+            eqb-same (at .count) (f .m) c,
+            eqb-same (length payload) (payloadLen (f .q) (messageLen f)) y,
+            eqb-same (length out) (f .n) o,
+            p,
+          )
+          (by-status (jobStatus es payload) (record { answer = served; word = word f (inUse at) (messageOf (f .q) (messageLen f) payload) }) refl)
+
+-- a refused writing keeps the word
+module _ (out : List ℕ) where
+  abbrev pub Keeps : Encoded → Type 0
+  Keeps r = r .answer ≢ served → unwritten out (r .answer) ≡ r
+
+  keeps : (t : Bool) (a : ℕ) (rest : Encoded) → Keeps rest → Keeps (must t (unwritten out a) rest)
+  keeps true a rest h = h
+  keeps false a rest h = λ _. refl
+
+  pub refused-keeps : (f : Params) (es : List Entry) (at : Held) (payload : List ℕ) → Keeps (jobWriteOut f es at payload out)
+  unfolding jobWriteOut
+  refused-keeps f es at payload =
+      let k = messageLen f in
+      let done : Encoded = record { answer = served; word = word f (inUse at) (messageOf (f .q) k payload) } in
+      let last = whereOpen (jobStatus es payload) (unwritten out) done in
+      let starts = must (apart (f .b) (f .n) 0 (inUse at)) (unwritten out badStarts) last in
+      let lengths = must (eqb (at .count) (f .m) && eqb (length payload) (payloadLen (f .q) k) && eqb (length out) (f .n)) (unwritten out wrongLength) starts in
+      let five = must (carriesJob (f .q) k) (unwritten out badPayload) lengths in
+      keeps (inRange f && not (twice es)) invalid (must (fits f) (unwritten out unfit) five)
+      (keeps (fits f) unfit five
+      (keeps (carriesJob (f .q) k) badPayload lengths
+      (keeps (eqb (at .count) (f .m) && eqb (length payload) (payloadLen (f .q) k) && eqb (length out) (f .n)) wrongLength starts
+      (keeps (apart (f .b) (f .n) 0 (inUse at)) badStarts last
+      (keeps (eqb (needsOpen (jobStatus es payload)) served) (needsOpen (jobStatus es payload)) done (λ d. absurd (d refl)))))))
+
+-- ---- Reading
+
+pub read-length : (f : Params) (es : List Entry) (w out : List ℕ) → Ready f es → length out ≢ payloadLen (f .q) (messageLen f)
+    → jobReadOut f es w out ≡ withhold out wrongLength
+unfolding jobReadOut jobReading
+read-length f es w out r n =
+    rw (r .range, r .once, r .fit, r .carries, eqb-other (length out) (payloadLen (f .q) (messageLen f)) n, both-false (eqb (length w) (f .n)))
+
+module _ (q k : ℕ) (es : List Entry) (out ms : List ℕ) where
+  pub no-payload : spellsPayload q k ms ≡ false → jobIn q k es out (accepted [] ms) ≡ withhold out badPayload
+  no-payload e = rw e
+
+  module _ (e : spellsPayload q k ms ≡ true) where
+    pub not-open : (a : ℕ) → a ≡ needsOpen (jobStatus es (payloadIn q k ms)) → a ≢ served → jobIn q k es out (accepted [] ms) ≡ withhold out a
+    not-open a n d = rw (e, ← n, eqb-other a served d)
+
+    pub handed : needsOpen (jobStatus es (payloadIn q k ms)) ≡ served → jobIn q k es out (accepted [] ms) ≡ handOut (payloadIn q k ms)
+    handed n = rw (e, n)
+
+-- ---- A list of calls, and the job reading after it
+
+module _ (f : Params) (letters numbers answers w out : List ℕ) (r : ReplayOut) (e : r ≡ replayOut letters numbers answers) where
+  pub list-refused : r .answer ≢ served → listUnread r out ≡ listOut f letters numbers answers w out
+  unfolding listOut
+  list-refused d = rw (← e, eqb-other (r .answer) served d)
+
+  pub list-goes-on : (j : JobRead) → r .answer ≡ served → j ≡ jobReadOut f (r .table) w out → listRead r j ≡ listOut f letters numbers answers w out
+  unfolding listOut
+  list-goes-on j d h = rw (← e, eqb-same (r .answer) served d, h)

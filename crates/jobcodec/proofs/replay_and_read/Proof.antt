@@ -1,0 +1,66 @@
+-- `replay_and_read` meets its contract: the table follows the ledger, and the reading under it is what demand 3 claims. Assumes nothing.
+use mathlib.Core.Path.{_≡_, sym, ap₂, subst}
+use mathlib.Core.List.{List, []}
+use Prim.Native.Nat.{ℕ}
+use borrow.Author.Needs.{needs}
+use Rattle.params.specs.Bridge.{given}
+use Rattle.jobs.specs.Replay.{callsOf, replayed}
+use Rattle.jobs.specs.Slots.{entries}
+use Rattle.jobcodec.specs.JobRead.{JobRead, jobReadOut}
+use Rattle.jobcodec.specs.DemandThree.{ClaimA}
+use Rattle.jobcodec.specs.Given.{seen}
+use Rattle.jobcodec.proofs.DemandThree.{follows-claim}
+use Rattle.jobcodec.proofs.Calls.{list-refused, list-goes-on}
+use Rattle.jobcodec.proofs.replay_and_read.Statement.{statement}
+use Rattle.jobcodec.proofs.replay_and_read.Tie as tie
+
+replay-requires : tie.Need-replay-requires
+replay-requires c κs = search needs
+
+same-length : tie.Need-same-length
+same-length c = search needs
+
+returns : tie.Need-returns
+returns c =
+    let a = c .before .before .before .before .before .before .before .before .before .before .before .args in
+    let r = c .before .before .before .before .replay in (
+      list-refused (given (a .figures)) (a .letters .now) (a .numbers .now) (a .answers .now) (a .word .now) (a .payload .now) (replayed (r .result) (r .last .1 .1 .0)) (r .ensures .0) (c .if1 .taken),
+      tt,
+    )
+
+job-read-requires : tie.Need-job-read-requires
+job-read-requires c κs = search needs
+
+same-length-2 : tie.Need-same-length-2
+same-length-2 c = search needs
+
+same-length-3 : tie.Need-same-length-3
+same-length-3 c = search needs
+
+returns-2 : tie.Need-returns-2
+returns-2 c =
+    let a = c .before .before .before .before .before .before .before .before .before .before .before .before .before .before .before .args in
+    let f = given (a .figures) in
+    let r = c .before .before .before .before .before .before .before .before .replay in
+    let j = c .before .before .job-read in
+    let served = c .before .before .before .before .if1 .left in
+    let answers = r .last .1 .1 .0 in
+    let es = entries (r .result .table) in
+    let calls = callsOf (a .letters .now) (a .numbers .now) in
+    let read : seen (j .result) (j .last .1 .1 .1 .0) ≡ jobReadOut f es (a .word .now) (a .payload .now) =
+    ap₂ {C = JobRead} (λ (n : ℕ) (y : List ℕ). record { answer = n; payload = y }) (j .ensures .0) (j .ensures .1) in (
+      list-goes-on f (a .letters .now) (a .numbers .now) (a .answers .now) (a .word .now) (a .payload .now) (replayed (r .result) answers) (r .ensures .0) (seen (j .result) (j .last .1 .1 .1 .0)) served read,
+      subst (ClaimA f calls (a .word .now) (a .payload .now) answers) (sym read) (follows-claim f [] calls answers es (a .word .now) (a .payload .now) (r .ensures .1 served)),
+    )
+
+pub replay-and-read-spec : {M : Type 1} → statement M
+replay-and-read-spec =
+    tie.close
+    (tie.spec
+    replay-requires
+    same-length
+    returns
+    job-read-requires
+    same-length-2
+    same-length-3
+    returns-2)

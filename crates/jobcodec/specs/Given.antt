@@ -1,0 +1,58 @@
+-- What the inner functions of job write and job read ask for, and how their answers are read. Assumes nothing.
+use mathlib.Core.Path.{_≡_}
+use mathlib.Core.Bool.{true, false}
+use mathlib.Core.List.{List}
+use Prim.Native.Nat.{ℕ, _≤_}
+use lib.ListN.{length}
+use Rattle.refusals.specs.Refusals.{served}
+use Rattle.cells.specs.Bytes.{payloadLen}
+use Rattle.construction_a.specs.Figures.{Params, maxAlphabet, inRange, fits, messageLen}
+use Rattle.params.specs.Answer.{LaidOut}
+use Rattle.params.specs.declared.Layout.{Layout}
+use Rattle.jobs.specs.declared.Entry.{Entry}
+use Rattle.jobs.specs.Table.{twice}
+use Rattle.payloads.specs.Payload.{carriesJob}
+use Rattle.decoder.specs.declared.WordAnswer.{WordAnswer}
+use Rattle.decoder.specs.declared.WordAnswer.the-variants.{Accepted, Refused}
+use Rattle.jobcodec.specs.JobRead.{JobRead}
+
+-- what was seen of a job reading: its answer, and the lent payload
+abbrev pub seen : ℕ → List ℕ → JobRead
+seen a out = record { answer = a; payload = out }
+
+-- the number of a refused word
+abbrev pub refusalIn : WordAnswer → ℕ
+refusalIn (Accepted v) = served
+refusalIn (Refused a) = a
+
+-- the layout of figures that fit, and a table that holds no number twice
+pub record Laid (f : Params) (l : Layout) (es : List Entry) : Type 0 where
+  pub range : inRange f ≡ true
+  pub fit : fits f ≡ true
+  pub layout : LaidOut f l
+  pub once : twice es ≡ false
+
+-- a payload as long as the message has bytes
+pub record Spellable (f : Params) (payload message : List ℕ) : Type 0 where
+  pub range : inRange f ≡ true
+  pub count : length payload ≡ payloadLen (f .q) (length message)
+
+-- figures and table in order, and five bytes or more
+pub record Ready (f : Params) (es : List Entry) : Type 0 where
+  pub range : inRange f ≡ true
+  pub once : twice es ≡ false
+  pub fit : fits f ≡ true
+  pub carries : carriesJob (f .q) (messageLen f) ≡ true
+
+-- figures that carry a job, room for the message, and a buffer for the payload
+pub record Readable (f : Params) (es : List Entry) (message payload : List ℕ) : Type 0 where
+  pub ready : Ready f es
+  pub room : length message ≡ messageLen f
+  pub lent : length payload ≡ payloadLen (f .q) (messageLen f)
+
+-- a message that holds as many bytes as the payload has, a job number at least
+pub record Holding (q : ℕ) (message payload : List ℕ) : Type 0 where
+  pub alphabet : 2 ≤ q
+  pub bytes : q ≤ maxAlphabet
+  pub count : length payload ≡ payloadLen q (length message)
+  pub number : 4 ≤ length payload
