@@ -12,9 +12,8 @@
 #include <stdlib.h>
 #include <string.h>
 
-/* The longest word that is looked at, one symbol more than any word has, so that too long a word is refused by the reader. */
-#define MAX_SYMBOLS 1025
-#define MAX_BURSTS 6
+/* The longest word that is looked at: one symbol more than any word has, so that the reader refuses it by its length. */
+#define MAX_SYMBOLS (BURGZEMI_MAX_WORD + 1)
 
 static const char *refusal_text(unsigned answer)
 {
@@ -71,9 +70,20 @@ static int symbols(const char *hex, uint8_t *word)
     return (int)(digits / 2);
 }
 
+static void print_accepted(const uint8_t *starts, size_t starts_len, const uint8_t *message, size_t message_len)
+{
+    printf("starts");
+    for (size_t i = 0; i < starts_len; i += 2)
+        printf(" %u", 256u * starts[i] + starts[i + 1]);
+    printf("\nmessage ");
+    for (size_t i = 0; i < message_len; i++)
+        printf("%02X", message[i]);
+    printf("\n");
+}
+
 int main(int argc, char **argv)
 {
-    static uint8_t word[MAX_SYMBOLS], message[MAX_SYMBOLS], starts[2 * MAX_BURSTS];
+    static uint8_t word[MAX_SYMBOLS], message[BURGZEMI_MAX_WORD], starts[2 * BURGZEMI_MAX_BURSTS];
     uint32_t n, q, m, b;
 
     if (argc != 6)
@@ -94,12 +104,6 @@ int main(int argc, char **argv)
         return 1;
     }
 
-    printf("starts");
-    for (size_t i = 0; i < starts_len; i += 2)
-        printf(" %u", 256u * starts[i] + starts[i + 1]);
-    printf("\nmessage ");
-    for (size_t i = 0; i < message_len; i++)
-        printf("%02X", message[i]);
-    printf("\n");
+    print_accepted(starts, starts_len, message, message_len);
     return 0;
 }

@@ -11,16 +11,16 @@ use Rattle.combinatorics.specs.Stretch.{bit, tabulate}
 use Rattle.construction_a.specs.Figures.{Params, params, messageLen}
 use Rattle.construction_a.specs.Writing.{rank, indexBlocks, word}
 use Rattle.construction_a.specs.Reading.{heads}
-use Rattle.construction_a.specs.Outcomes.{FiguresOut, figured, unserved, figuresOut, held, Encoded, encodeOut, Covered, coverOut, inUse}
+use Rattle.construction_a.specs.Outcomes.{FiguresOut, figured, unserved, figuresNumber, figuresOut, held, Encoded, encodeOut, Covered, coverOut, inUse}
 use Rattle.jobs.specs.Jobs.{opening, cancelling, on}
 use Rattle.jobs.specs.Table.{emptyTable, answersFrom}
 
 -- figures alone: 0, T, r and k, or the refusal
 abbrev numbers : FiguresOut → List ℕ
-numbers (figured t r k) = 0 ∷ t ∷ r ∷ k ∷ []
-numbers (unserved a) = a ∷ []
+numbers (figured t r k) = figuresNumber (figured t r k) ∷ t ∷ r ∷ k ∷ []
+numbers (unserved a) = figuresNumber (unserved a) ∷ []
 
--- word write: the answer, then the lent word, which held 0
+-- word write: the answer, then the lent word, which held 1
 abbrev writtenOut : Encoded → List ℕ
 writtenOut e = e .answer ∷ e .word
 
@@ -31,16 +31,16 @@ covered c = c .answer ∷ inUse (c .placement)
 abbrev mapOf : ℕ → List ℕ → List ℕ
 mapOf n worn = tabulate n 0 (λ x. bit (any (eqb x) worn))
 
--- the first symbols of each I-block, in a word with message symbols 0
+-- the first symbols of each I-block, in a word with message symbols 1
 abbrev begins : Params → List ℕ → List ℕ
-begins f ss = heads f (word f ss (replicate (messageLen f) 0)) (indexBlocks f ss)
+begins f ss = heads f (word f ss (replicate (messageLen f) 1)) (indexBlocks f ss)
 
 unfoldable pub starred : List Example
 starred =
     -- "n 30, q 2, m 1, b 3: T 28, r 5, k 20."
     example (numbers (figuresOut (params 30 2 1 3))) (0 ∷ 28 ∷ 5 ∷ 20 ∷ [])
     -- "Start 12, message all 1: 0, eleven 1s, 000, 11111, 101100, 1111."
-    ∷ example (writtenOut (encodeOut (params 30 2 1 3) (held (12 ∷ [])) (replicate 20 1) (replicate 30 0)))
+    ∷ example (writtenOut (encodeOut (params 30 2 1 3) (held (12 ∷ [])) (replicate 20 1) (replicate 30 1)))
     (0 ∷ 0 ∷ replicate 11 1 ++ replicate 3 0 ++ replicate 5 1 ++ (1 ∷ 0 ∷ 1 ∷ 1 ∷ 0 ∷ 0 ∷ []) ++ replicate 4 1)
     -- "* b 5 there fits; * b 6 is 2."
     ∷ example (numbers (figuresOut (params 30 2 1 5))) (0 ∷ 26 ∷ 5 ∷ 18 ∷ [])
@@ -63,6 +63,9 @@ starred =
     -- "Covering, first strip: worn 27 and 29 give 27; * 26 and 29 give 6; .."
     ∷ example (covered (coverOut (params 30 2 1 3) (mapOf 30 (27 ∷ 29 ∷ [])))) (0 ∷ 27 ∷ [])
     ∷ example (covered (coverOut (params 30 2 1 3) (mapOf 30 (26 ∷ 29 ∷ [])))) (6 ∷ [])
+    -- ".. no worn cell gives 0; 12 gives 10."
+    ∷ example (covered (coverOut (params 30 2 1 3) (mapOf 30 []))) (0 ∷ 0 ∷ [])
+    ∷ example (covered (coverOut (params 30 2 1 3) (mapOf 30 (12 ∷ [])))) (0 ∷ 10 ∷ [])
     -- "Cancel unknown 9, then open 9: 12."
     ∷ example (answersFrom emptyTable (on cancelling 9 ∷ on opening 9 ∷ [])) (0 ∷ 12 ∷ [])
     ∷ []

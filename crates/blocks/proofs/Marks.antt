@@ -9,11 +9,11 @@ use native.Mathlib.Omega.{arith}
 use lib.Dec.{leb, ltb, eqb}
 use lib.ListN.{length, getD, set}
 use lib.Seq.{getD-set-same, getD-set-other}
-use Rattle.combinatorics.specs.Stretch.{first}
+use Rattle.combinatorics.specs.Stretch.{count, first}
 use Rattle.combinatorics.proofs.Cases.{by-le, by-eq, eqb-same, eqb-other, eqb-false, leb-holds, leb-fails}
 use Rattle.combinatorics.proofs.Stretch.{first-in, first-false}
 use Rattle.construction_a.specs.Writing.{row, next, partCount, partWith, Chosen, whole, oneEach, chosen, beside, isChosen, isIndexIn}
-use Rattle.construction_a.proofs.Rule.{next-lt, at-row}
+use Rattle.construction_a.proofs.Rule.{next-lt, at-row, chosen-by}
 use Rattle.blocks.specs.Blocks.{marked}
 
 -- none yet
@@ -90,20 +90,18 @@ module _ (m : ℕ) (B : ℕ → Bool) where
 
 -- ---- The three cases of the rule
 
-module _ (p m : ℕ) (B : ℕ → Bool) where
+module _ (p m : ℕ) (B : ℕ → Bool) (all : count (p * m) 0 B ≡ m) where
   pub chosen-full : partWith p m B m < p → chosen p m B ≡ whole (next p (partWith p m B m))
-  unfolding chosen partWith partCount
-  chosen-full h = rw (leb-holds (suc (partWith p m B m)) p h)
+  chosen-full h = rw (chosen-by p m B all, leb-holds (suc (partWith p m B m)) p h)
 
   pub chosen-bare : p ≤ partWith p m B m → partWith p m B 0 < p → chosen p m B ≡ whole (partWith p m B 0)
-  unfolding chosen partWith partCount
-  chosen-bare l h = rw (leb-fails (suc (partWith p m B m)) p (omega arith), leb-holds (suc (partWith p m B 0)) p h)
+  chosen-bare l h = rw (chosen-by p m B all, leb-fails (suc (partWith p m B m)) p (omega arith), leb-holds (suc (partWith p m B 0)) p h)
 
   pub chosen-each : p ≤ partWith p m B m → p ≤ partWith p m B 0 → chosen p m B ≡ oneEach
-  unfolding chosen partWith partCount
-  chosen-each l h = rw (leb-fails (suc (partWith p m B m)) p (omega arith), leb-fails (suc (partWith p m B 0)) p (omega arith))
+  chosen-each l h = rw (chosen-by p m B all, leb-fails (suc (partWith p m B m)) p (omega arith), leb-fails (suc (partWith p m B 0)) p (omega arith))
 
-  -- where no part is without burst blocks each has some
+-- where no part is without burst blocks each has some
+module _ (p m : ℕ) (B : ℕ → Bool) where
   pub each-some : p ≤ partWith p m B 0 → (i : ℕ) → i < p → 0 < partCount m B i
   unfolding partWith
   each-some h i l =

@@ -48,7 +48,7 @@ fn burst_kinds(layout: Layout, at: Placement) -> [u8; Layout::MAX_BLOCKS]
 
 // The kinds with the index blocks marked, by the three cases of the rule.
 fn with_index(kinds: [u8; Layout::MAX_BLOCKS], parts: usize, m: usize) -> [u8; Layout::MAX_BLOCKS]
-    requires { ⌜ (0 < m) × (parts * m ≤ maxBlocks) × (parts ≤ maxBlocks) × (m ≤ maxBlocks) ⌝ }
+    requires { ⌜ (0 < m) × (parts * m ≤ maxBlocks) × (parts ≤ maxBlocks) × (m ≤ maxBlocks) × (count (parts * m) 0 (bursts kinds) ≡ m) ⌝ }
     ensures { λ r. ⌜ ((k : ℕ) → k < parts * m → getD r k 0 ≡ marked (isIndexIn m (bursts kinds) (chosen parts m (bursts kinds))) kinds k) ⌝ }
 {
     let full = part_with(kinds, parts, m, m);

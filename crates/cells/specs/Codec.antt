@@ -17,7 +17,7 @@ pub data Reading : Type 0 where
 pub record Codec : Type 0 where
   pub wordLen : ℕ
   pub alphabet : ℕ
-  pub found : ℕ
+  pub foundBound : ℕ
   pub messageLen : ℕ
   pub placed : List ℕ → Bool
   pub spoilt : List ℕ → ℕ → Bool
@@ -27,7 +27,7 @@ pub record Codec : Type 0 where
 -- a word that can be found
 pub record Word (c : Codec) (w : List ℕ) : Type 0 where
   pub complete : length w ≡ c .wordLen
-  pub symbols : allBelow (c .found) w ≡ true
+  pub symbols : allBelow (c .foundBound) w ≡ true
 
 -- a placement and a message give a word that differs from w only inside the placement's bursts
 pub record LeadsTo (c : Codec) (w starts ms : List ℕ) : Type 0 where

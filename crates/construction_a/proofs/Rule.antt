@@ -48,13 +48,20 @@ rows p m B =
     let e : 0 * m ≡ 0 = omega arith in
     rw e at (sum-rows p m 0 (λ x. bit (B x)))
 
+-- of m B-blocks all lie in one part where it has m of them
+pub chosen-by : (p m : ℕ) (B : ℕ → Bool) → count (p * m) 0 B ≡ m
+    → chosen p m B ≡ cond (ltb (partWith p m B m) p) (whole (next p (partWith p m B m))) (cond (ltb (partWith p m B 0) p) (whole (partWith p m B 0)) oneEach)
+unfolding chosen
+chosen-by p m B all = rw all
+
 -- what the rule goes by: a part with no B-block such that each other part, but for the one before it, has a block that is not B; or one B-block in each part
 module _ (p m : ℕ) (B : ℕ → Bool) (hp : 3 ≤ p) (hm : 0 < m) (hmp : m ≤ p) (all : count (p * m) 0 B ≡ m) (P : Chosen → Type 0) where
   pub by-chosen : ((a : ℕ) → a < p → count m 0 (row m B a) ≡ 0 → ((x : ℕ) → x < p → x ≢ a → next p x ≢ a → count m 0 (row m B x) < m) → P (whole a))
       → (p ≡ m → ((x : ℕ) → x < p → count m 0 (row m B x) ≡ 1) → P oneEach) → P (chosen p m B)
-  unfolding chosen partCount partWith
+  unfolding partCount partWith
   by-chosen in-whole in-oneEach =
-      by-le (suc i) p (λ t. P (cond t (whole (next p i)) (cond (ltb f p) (whole f) oneEach)))
+      rw (chosen-by p m B all)
+      (by-le (suc i) p (λ t. P (cond t (whole (next p i)) (cond (ltb f p) (whole f) oneEach)))
       (λ l.
       let e = eqb-true (C i) m (first-true p 0 (λ x. eqb (C x) m) (omega arith)) in
       let g : (x : ℕ) → x < p → x ≢ i → C x ≡ 0 =
@@ -68,7 +75,7 @@ module _ (p m : ℕ) (B : ℕ → Bool) (hp : 3 ≤ p) (hm : 0 < m) (hmp : m ≤
       let some : (x : ℕ) → 0 ≤ x → x < 0 + p → 1 ≤ C x =
       λ x _ g. let q : C x ≢ 0 = eqb-false (C x) 0 (first-false p 0 x (λ x. eqb (C x) 0) (omega arith) (omega arith)) in omega arith in
       in-oneEach (omega (arith, total, sum-ones p 0 C some))
-      (λ x g. omega (arith, total, some x (omega arith) (omega arith), sum-each p 0 x C some (omega arith) (omega arith)))))
+      (λ x g. omega (arith, total, some x (omega arith) (omega arith), sum-each p 0 x C some (omega arith) (omega arith))))))
     where
       C : ℕ → ℕ
       C x = count m 0 (row m B x)

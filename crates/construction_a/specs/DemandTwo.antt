@@ -12,14 +12,13 @@ use Rattle.cells.specs.Codec.{Codec, Word, LeadsTo, WritesWords, Exact, refused
 use Rattle.construction_a.specs.Figures.{Params, inRange, fits, isPlacement, parts, placementCount, messageLen}
 use Rattle.construction_a.specs.Writing.{placementOf, word}
 use Rattle.construction_a.specs.Reading.{looksFixed, indexFound, written, agrees, read}
-use Rattle.construction_a.specs.Outcomes.{foundBound}
 
 abbrev pub constructionA : Params → Codec
 constructionA f =
     record {
       wordLen = f .n;
       alphabet = f .q;
-      found = foundBound f;
+      foundBound = f .q;
       messageLen = messageLen f;
       placed = isPlacement f;
       spoilt = inBurst (f .b);

@@ -33,7 +33,7 @@ unfoldable pub inRange : Params → Bool
 inRange f =
     leb 3 (f .n) && leb (f .n) maxWord && leb 2 (f .q) && leb (f .q) maxAlphabet && leb 1 (f .m) && leb (f .m) maxBursts && leb 1 (f .b)
 
--- "A placement is m disjoint runs of exactly b consecutive positions, given by ascending starts."
+-- "A placement is m disjoint runs of exactly b consecutive positions, given by ascending starts .."
 unfoldable pub isPlacement : Params → List ℕ → Bool
 isPlacement f ss = eqb (length ss) (f .m) && apart (f .b) (f .n) 0 ss
 

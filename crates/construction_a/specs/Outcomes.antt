@@ -32,6 +32,11 @@ pub data FiguresOut : Type 0 where
   figured : ℕ → ℕ → ℕ → FiguresOut
   unserved : ℕ → FiguresOut
 
+-- 0 or the refusal
+abbrev pub figuresNumber : FiguresOut → ℕ
+figuresNumber (figured t r k) = served
+figuresNumber (unserved a) = a
+
 unfoldable pub figuresOut : Params → FiguresOut
 figuresOut f =
     must (inRange f) (unserved invalid)
@@ -86,6 +91,11 @@ pub data WordAnswer : Type 0 where
   rankIs : ℕ → WordAnswer
   refusal : ℕ → WordAnswer
 
+-- 0 or the refusal
+abbrev pub answerNumber : WordAnswer → ℕ
+answerNumber (rankIs v) = served
+answerNumber (refusal a) = a
+
 pub record Decoded : Type 0 where
   pub answer : WordAnswer
   pub placement : Held
@@ -98,14 +108,10 @@ abbrev pub decodeAs : Params → List ℕ → Reading → Decoded
 decodeAs f out (accepted ss ms) = record { answer = rankIs (rank f ss); placement = held ss; message = ms }
 decodeAs f out (refused a) = unread out a
 
--- "4: a symbol of q or more": a found symbol is below this bound, a written one below q
-abbrev pub foundBound : Params → ℕ
-foundBound f = f .q
-
 unfoldable pub decodeOut : Params → List ℕ → List ℕ → Decoded
 decodeOut f w out =
     must (inRange f) (unread out invalid)
     (must (fits f) (unread out unfit)
     (must (eqb (length w) (f .n) && eqb (length out) (messageLen f)) (unread out wrongLength)
-    (must (allBelow (foundBound f) w) (unread out badSymbol)
+    (must (allBelow (f .q) w) (unread out badSymbol)
     (decodeAs f out (read f w)))))

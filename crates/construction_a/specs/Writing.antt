@@ -54,11 +54,13 @@ pub data Chosen : Type 0 where
   oneEach : Chosen
 
 -- "all B in one part i: every block of part i+1, part 0 after the last; some part has no B, and B lie in more than one part: every block
--- of the first such part; each part has one B .." There are m B-blocks (`BurstBlocks` of specs/Ranking) and m blocks in a part: all B lie in
--- one part exactly where it has m of them, and where no part has none each has one.
+-- of the first such part; each part has one B ..": all B lie in one part where it has as many as the word; that each part
+-- has one where neither is so is said by `BurstBlocks` of specs/Ranking
 unfoldable pub chosen : ℕ → ℕ → (ℕ → Bool) → Chosen
 chosen p m B =
-    cond (ltb (partWith p m B m) p) (whole (next p (partWith p m B m))) (cond (ltb (partWith p m B 0) p) (whole (partWith p m B 0)) oneEach)
+    let filled = partWith p m B (count (p * m) 0 B) in
+    let bare = partWith p m B 0 in
+    cond (ltb filled p) (whole (next p filled)) (cond (ltb bare p) (whole bare) oneEach)
 
 -- ".., at block j: block j+1 of that part, block 0 after the last"
 unfoldable pub beside : ℕ → (ℕ → Bool) → ℕ → ℕ

@@ -14,7 +14,7 @@ use Rattle.combinatorics.proofs.Cases.{by-eq, by-bool, leb-holds, leb-fails, eq
 use Rattle.cells.specs.Cells.{message, pick}
 use Rattle.cells.specs.Codec.{Reading, accepted, refused}
 use Rattle.construction_a.specs.Figures.{Params, inRange, fits, isPlacement, parts, placementCount, messageLen}
-use Rattle.construction_a.specs.Outcomes.{Held, held, unserved, figuresOut, foundBound, rankIs, refusal, Decoded, unread, decodeAs, decodeOut}
+use Rattle.construction_a.specs.Outcomes.{Held, held, unserved, figuresOut, rankIs, refusal, Decoded, unread, decodeAs, decodeOut}
 use Rattle.construction_a.specs.Reading.{looksFixed, indexFound, written, agrees, readRank, read}
 use Rattle.construction_a.specs.Writing.{plan, placementOf}
 use Rattle.construction_a.proofs.DemandTwo.{demand-two}
@@ -38,7 +38,7 @@ module _ (f : Params) (w out : List ℕ) where
   decode-unfit a e =
       refused-alike f a (unread out)
       (must (eqb (length w) (f .n) && eqb (length out) (messageLen f)) (unread out wrongLength)
-      (must (allBelow (foundBound f) w) (unread out badSymbol)
+      (must (allBelow (f .q) w) (unread out badSymbol)
       (decodeAs f out (read f w)))) e
 
   module _ (range : inRange f ≡ true) (fit : fits f ≡ true) where

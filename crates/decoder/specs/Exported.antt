@@ -3,10 +3,10 @@ use mathlib.Core.List.{List, [], _∷_}
 use Prim.Native.Nat.{ℕ, _*_, _/_, _%_}
 use lib.Dec.{eqb}
 use lib.ListN.{length}
-use Rattle.refusals.specs.Refusals.{must, served, invalid, unfit, wrongLength}
+use Rattle.refusals.specs.Refusals.{must, invalid, unfit, wrongLength}
 use Rattle.cells.specs.Bytes.{byteValues}
 use Rattle.construction_a.specs.Figures.{Params, inRange, fits}
-use Rattle.construction_a.specs.Outcomes.{Held, inUse, FiguresOut, figured, unserved, figuresOut, WordAnswer, rankIs, refusal, Decoded, decodeOut}
+use Rattle.construction_a.specs.Outcomes.{Held, inUse, FiguresOut, figured, unserved, figuresOut, WordAnswer, rankIs, refusal, answerNumber, Decoded, decodeOut}
 
 -- "two lent byte buffers, for k message symbols and for m starts ..; the answer is 0 or the refusal"
 pub record Exported : Type 0 where
@@ -24,8 +24,8 @@ startBytes (s ∷ ss) = s / byteValues ∷ s % byteValues ∷ startBytes ss
 
 -- what the word reader answers, with its placement as bytes; a refusal leaves the starts alone, as it does the message
 abbrev pub answered : List ℕ → WordAnswer → Held → List ℕ → Exported
-answered bytes (rankIs v) at ms = lentAs served ms (startBytes (inUse at))
-answered bytes (refusal a) at ms = lentAs a ms bytes
+answered bytes (rankIs v) at ms = lentAs (answerNumber (rankIs v)) ms (startBytes (inUse at))
+answered bytes (refusal a) at ms = lentAs (answerNumber (refusal a)) ms bytes
 
 abbrev pub exportedAs : List ℕ → Decoded → Exported
 exportedAs bytes d = answered bytes (d .answer) (d .placement) (d .message)

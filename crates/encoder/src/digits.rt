@@ -25,7 +25,7 @@ pub fn spelled(q: u64, m: usize, tail: usize, value: u64) -> [u8; MAX_DIGITS]
     digits
 }
 
-// How many digits place i has: q − 1 for a lead place, whose digits are stored plus 1, and q for a plain one.
+// How many values the digit of place i has: q − 1 for a lead place, whose digit is stored plus 1, and q for a plain one.
 fn radix_at(q: u64, tail: usize, i: usize) -> u64
     requires { ⌜ (2 ≤ q) × (tail < maxDigits) ⌝ }
     ensures { λ r. ⌜ r ≡ radix q (placeAt tail i) ⌝ }

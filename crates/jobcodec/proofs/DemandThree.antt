@@ -5,28 +5,29 @@ use mathlib.Core.List.{List, []}
 use mathlib.Core.Option.{Option, none, some}
 use Prim.Native.Nat.{ℕ, _≤_}
 use native.Mathlib.Omega.{arith}
+use lib.Dec.{eqb}
 use lib.ListN.{length}
-use Rattle.refusals.specs.Refusals.{served, jobCancelled, notOpen, badPayload}
-use Rattle.combinatorics.specs.Lists.{any}
-use Rattle.combinatorics.proofs.Cases.{eqb-same}
+use Rattle.refusals.specs.Refusals.{served, invalid, unfit, wrongLength, badSymbol, jobCancelled, notOpen, badPayload}
+use Rattle.combinatorics.specs.Lists.{any, allBelow}
+use Rattle.combinatorics.proofs.Cases.{by-bool, eqb-same, eqb-true}
 use Rattle.combinatorics.proofs.Lists.{both}
 use Rattle.cells.specs.Bytes.{payloadLen}
 use Rattle.cells.specs.Codec.{Reading, accepted, refused, Codec, Word, Exact}
 use Rattle.cells.proofs.Codec.{one-pair}
-use Rattle.construction_a.specs.Figures.{Params, inRange, fits}
+use Rattle.construction_a.specs.Figures.{Params, inRange, fits, messageLen}
 use Rattle.construction_a.specs.DemandTwo.{constructionA, Listed, no-pattern, too-large, disagreeing}
 use Rattle.construction_a.proofs.Figures.{ranged}
 use Rattle.construction_a.proofs.DemandTwo.{demand-two}
 use Rattle.jobs.specs.declared.Entry.{Entry}
 use Rattle.jobs.specs.Jobs.{Kind, opening, cancelling, finishing, Call}
-use Rattle.jobs.specs.Table.{emptyTable, answersFrom, tableFrom}
+use Rattle.jobs.specs.Table.{emptyTable, twice, answersFrom, tableFrom}
 use Rattle.jobs.specs.Ledger.{newest, statusAfter, status, ledgerFrom, acceptedBy}
 use Rattle.jobs.specs.Simulation.{Agrees, Follows}
 use Rattle.jobs.proofs.Simulates.{simulation-from-empty, accepted-by}
 use Rattle.payloads.specs.Payload.{carriesJob, jobNumber, messageOf, payloadIn, spellsPayload}
 use Rattle.jobcodec.specs.JobWrite.{whereOpen}
 use Rattle.jobcodec.specs.JobRead.{JobRead, handOut, withhold, jobIn, jobReading, jobReadOut}
-use Rattle.jobcodec.specs.DemandThree.{Gives, OnlyPair, BothFacts, isRefusal, HandsOut, Claim, DemandThree}
+use Rattle.jobcodec.specs.DemandThree.{Gives, OnlyPair, BothFacts, isRefusal, isWordRefusal, HandsOut, Presented, Claim, DemandThree}
 use Rattle.jobcodec.proofs.Examples.{figures, wordWith, buffer, opened, computed}
 use Rattle.payloads.proofs.Payload.{payload-back, payload-passes, payload-is, message-is}
 
@@ -63,15 +64,16 @@ not-served a r e = absurd (true≢false (sym r ∙ ap isRefusal e))
 
 module _ (c : Codec) (h : List Call) (w out : List ℕ) where
   -- no pair gives the word
-  none-gives : ((starts y : List ℕ) → Gives c w starts y → ⊥) → (a : ℕ) → isRefusal a ≡ true → HandsOut c h w out (withhold out a)
-  none-gives no-pair a r =
+  none-gives : ((starts y : List ℕ) → Gives c w starts y → ⊥) → (a : ℕ) → isRefusal a ≡ true → isWordRefusal a ≡ true → HandsOut c h w out (withhold out a)
+  none-gives no-pair a r s =
       record {
         exactly = (not-served a r, λ u. absurd (no-pair (u .0) (u .1) (u .2 .only .gives)));
         hands = λ starts y u. absurd (no-pair starts y (u .only .gives));
         otherwise = λ _. (a, r, refl);
+        no-pair = λ _. (a, s, refl);
         after-cancelling = λ starts y u _. absurd (no-pair starts y (u .gives));
         after-finishing = λ starts y u _. absurd (no-pair starts y (u .gives));
-        never-called = λ starts y u _. absurd (no-pair starts y (u .gives));
+        none-accepted = λ starts y u _. absurd (no-pair starts y (u .gives));
       }
 
   -- one pair does, and the table stands for the calls: the newest of them on its number decides
@@ -105,19 +107,20 @@ module _ (c : Codec) (h : List Call) (w out : List ℕ) where
             λ u. ap (λ (x : JobRead). x .answer) (handed (u .0) (u .1) (u .2)),
           );
           hands = handed;
+          no-pair = λ none. absurd (none starts y (only .gives));
           otherwise = λ not-both. decided last refl (λ u. absurd (not-both starts y u)) (λ a i d. (a, i, d));
           after-cancelling = λ starts′ y′ u e. by-newest (some cancelling) (same-newest starts′ y′ (some cancelling) (u .gives) e);
           after-finishing = λ starts′ y′ u e. by-newest (some finishing) (same-newest starts′ y′ (some finishing) (u .gives) e);
-          never-called = λ starts′ y′ u e. by-newest none (same-newest starts′ y′ none (u .gives) e);
+          none-accepted = λ starts′ y′ u e. by-newest none (same-newest starts′ y′ none (u .gives) e);
         }
 
 -- ---- The job reading, under any exact codec whose refusals are document 01's
 
-module _ (c : Codec) (exact : Exact c) (two : 2 ≤ c .alphabet) (listed : (w : List ℕ) (a : ℕ) → c .decode w ≡ refused a → isRefusal a ≡ true)
+module _ (c : Codec) (exact : Exact c) (two : 2 ≤ c .alphabet) (listed : (w : List ℕ) (a : ℕ) → c .decode w ≡ refused a → (isRefusal a ≡ true) × (isWordRefusal a ≡ true))
     (es : List Entry) (h : List Call) (g : Agrees es h) (w out : List ℕ) (found : Word c w) where
   spelled : (starts ms : List ℕ) (b : Bool) → c .decode w ≡ accepted starts ms → spellsPayload (c .alphabet) (c .messageLen) ms ≡ b
       → HandsOut c h w out (jobIn (c .alphabet) (c .messageLen) es out (accepted starts ms))
-  unfolding isRefusal any
+  unfolding isRefusal isWordRefusal any
   spelled starts ms true e t =
       let y = payloadIn (c .alphabet) (c .messageLen) ms in
       rw (t, g .same (jobNumber y))
@@ -132,7 +135,7 @@ module _ (c : Codec) (exact : Exact c) (two : 2 ≤ c .alphabet) (listed : (w : 
       let e′ = read-pair c exact two w found starts′ y′ u in
       let m : messageOf q k y′ ≡ ms = cc in
       true≢false (sym (payload-passes q k two y′ (u .whole)) ∙ ap (spellsPayload q k) m ∙ t))
-      badPayload refl)
+      badPayload refl refl)
 
   by-reading : (d : Reading) → c .decode w ≡ d → HandsOut c h w out (jobIn (c .alphabet) (c .messageLen) es out d)
   by-reading (accepted starts ms) e = spelled starts ms (spellsPayload (c .alphabet) (c .messageLen) ms) e refl
@@ -142,7 +145,7 @@ module _ (c : Codec) (exact : Exact c) (two : 2 ≤ c .alphabet) (listed : (w : 
       let e′ = read-pair c exact two w found starts y u in
       let z : _≡_ {A = ℕ} 0 1 = cc in
       omega arith)
-      a (listed w a e)
+      a (listed w a e .0) (listed w a e .1)
 
   pub reading-hands-out : carriesJob (c .alphabet) (c .messageLen) ≡ true → length out ≡ payloadLen (c .alphabet) (c .messageLen)
       → HandsOut c h w out (jobReading c es w out)
@@ -153,11 +156,31 @@ module _ (c : Codec) (exact : Exact c) (two : 2 ≤ c .alphabet) (listed : (w : 
 
 -- ---- Construction A
 
-listed-refusal : (f : Params) (w : List ℕ) (a : ℕ) → Listed f w a → isRefusal a ≡ true
-unfolding isRefusal any
-listed-refusal f w a (no-pattern _) = refl
-listed-refusal f w a (too-large _ _ _) = refl
-listed-refusal f w a (disagreeing _ _ _ _) = refl
+listed-refusal : (f : Params) (w : List ℕ) (a : ℕ) → Listed f w a → (isRefusal a ≡ true) × (isWordRefusal a ≡ true)
+unfolding isRefusal isWordRefusal any
+listed-refusal f w a (no-pattern _) = (refl, refl)
+listed-refusal f w a (too-large _ _ _) = (refl, refl)
+listed-refusal f w a (disagreeing _ _ _ _) = (refl, refl)
+
+-- a reading that the claim is not about fails one of the tests before the word is read
+turn-away : (f : Params) (es : List Entry) (w out : List ℕ) → twice es ≡ false → (Presented (inRange f && fits f) (constructionA f) w out → ⊥)
+    → (a : ℕ) × (isRefusal a ≡ true) × (jobReadOut f es w out ≡ withhold out a)
+unfolding jobReadOut jobReading isRefusal any
+turn-away f es w out once unpresented =
+    let K = payloadLen (f .q) (messageLen f) in
+    by-bool (inRange f)
+    (λ i. by-bool (fits f)
+    (λ d. by-bool (carriesJob (f .q) (messageLen f))
+    (λ v. by-bool (eqb (length w) (f .n))
+    (λ n. by-bool (eqb (length out) K)
+    (λ l. by-bool (allBelow (f .q) w)
+    (λ s. absurd (unpresented (record { figures = rw (i, d); carries = v; found = record { complete = eqb-true (length w) (f .n) n; symbols = s }; lent = eqb-true (length out) K l })))
+    (λ s. (badSymbol, refl, rw (i, once, d, v, n, l, s))))
+    (λ l. (wrongLength, refl, rw (i, once, d, v, n, l))))
+    (λ n. (wrongLength, refl, rw (i, once, d, v, n))))
+    (λ v. (badPayload, refl, rw (i, once, d, v))))
+    (λ d. (unfit, refl, rw (i, once, d))))
+    (λ i. (invalid, refl, rw i))
 
 -- of what was seen of a list of calls, after whatever calls, and a job reading under the table after it
 pub follows-claim : (f : Params) (before calls : List Call) (answers : List ℕ) (es : List Entry) (w out : List ℕ) → Follows before calls answers es
@@ -172,6 +195,7 @@ follows-claim f before calls answers es w out follows =
           rw (follows .judged, accepted-by before calls, fit .0, fit .1, follows .agrees .once)
           (reading-hands-out (constructionA f) (two .exactly) (ranged f (fit .0) .q-least) (λ w a e. listed-refusal f w a (two .listed w a .0 e))
           es (ledgerFrom before calls) (follows .agrees) w out (p .found) (p .carries) (p .lent));
+      turned-away = turn-away f es w out (follows .agrees .once);
     }
 
 pub demand-three : DemandThree

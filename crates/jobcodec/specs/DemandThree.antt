@@ -3,12 +3,12 @@
 use mathlib.Core.Path.{_≡_}
 use mathlib.Core.Logic.{_↔_}
 use mathlib.Core.Bool.{Bool, true, _&&_}
-use mathlib.Core.List.{List, []}
+use mathlib.Core.List.{List, [], _∷_}
 use mathlib.Core.Option.{none, some}
 use Prim.Native.Nat.{ℕ}
 use lib.Dec.{eqb}
 use lib.ListN.{length}
-use Rattle.refusals.specs.Refusals.{served, jobCancelled, notOpen, refusals}
+use Rattle.refusals.specs.Refusals.{served, noPattern, valueTooLarge, disagrees, badPayload, jobCancelled, notOpen, refusals}
 use Rattle.combinatorics.specs.Lists.{any}
 use Rattle.cells.specs.Bytes.{payloadLen}
 use Rattle.cells.specs.Codec.{Codec, Word, LeadsTo}
@@ -35,34 +35,40 @@ pub record OnlyPair (c : Codec) (w starts payload : List ℕ) : Type 0 where
 
 -- ---- Both facts, by the accepted calls, newest first: the newest on the payload's number is an opening
 
-pub record BothFacts (c : Codec) (calls : List Call) (w starts payload : List ℕ) : Type 0 where
+pub record BothFacts (c : Codec) (ledger : List Call) (w starts payload : List ℕ) : Type 0 where
   pub only : OnlyPair c w starts payload
-  pub opened : newest calls (jobNumber payload) ≡ some opening
+  pub opened : newest ledger (jobNumber payload) ≡ some opening
 
 -- a number of document 01's lists
 unfoldable pub isRefusal : ℕ → Bool
 isRefusal a = any (eqb a) refusals
 
+-- 7, 8, 9 or 10: what a word is refused with that no pair gives
+unfoldable pub isWordRefusal : ℕ → Bool
+isWordRefusal a = any (eqb a) (noPattern ∷ valueTooLarge ∷ disagrees ∷ badPayload ∷ [])
+
 -- what a job reading of w after those calls is to be
-pub record HandsOut (c : Codec) (calls : List Call) (w out : List ℕ) (r : JobRead) : Type 0 where
+pub record HandsOut (c : Codec) (ledger : List Call) (w out : List ℕ) (r : JobRead) : Type 0 where
   -- the job is handed out exactly when both facts hold
-  pub exactly : (r .answer ≡ served) ↔ ((starts : List ℕ) × (payload : List ℕ) × BothFacts c calls w starts payload)
+  pub exactly : (r .answer ≡ served) ↔ ((starts : List ℕ) × (payload : List ℕ) × BothFacts c ledger w starts payload)
   -- and it is that payload
-  pub hands : (starts payload : List ℕ) → BothFacts c calls w starts payload → r ≡ handOut payload
+  pub hands : (starts payload : List ℕ) → BothFacts c ledger w starts payload → r ≡ handOut payload
   -- otherwise it is refused, and the lent buffer keeps what it held
-  pub otherwise : ((starts payload : List ℕ) → BothFacts c calls w starts payload → ⊥) → (a : ℕ) × (isRefusal a ≡ true) × (r ≡ withhold out a)
+  pub otherwise : ((starts payload : List ℕ) → BothFacts c ledger w starts payload → ⊥) → (a : ℕ) × (isRefusal a ≡ true) × (r ≡ withhold out a)
+  -- where the first fact fails, with 7, 8, 9 or 10; which of them, the word alone says (`jobReadOut`)
+  pub no-pair : ((starts payload : List ℕ) → Gives c w starts payload → ⊥) → (a : ℕ) × (isWordRefusal a ≡ true) × (r ≡ withhold out a)
   -- "Where only the second fact fails, the refusal is 12 after a cancellation, 14 after a finishing or no accepted call."
-  pub after-cancelling : (starts payload : List ℕ) → OnlyPair c w starts payload → newest calls (jobNumber payload) ≡ some cancelling
+  pub after-cancelling : (starts payload : List ℕ) → OnlyPair c w starts payload → newest ledger (jobNumber payload) ≡ some cancelling
       → r ≡ withhold out jobCancelled
-  pub after-finishing : (starts payload : List ℕ) → OnlyPair c w starts payload → newest calls (jobNumber payload) ≡ some finishing
+  pub after-finishing : (starts payload : List ℕ) → OnlyPair c w starts payload → newest ledger (jobNumber payload) ≡ some finishing
       → r ≡ withhold out notOpen
-  pub never-called : (starts payload : List ℕ) → OnlyPair c w starts payload → newest calls (jobNumber payload) ≡ none
+  pub none-accepted : (starts payload : List ℕ) → OnlyPair c w starts payload → newest ledger (jobNumber payload) ≡ none
       → r ≡ withhold out notOpen
 
 -- ---- The claim
 
--- "A strip is complete at n symbols; buffers fit where refusal 3 doesn't apply": figures that fit and carry a job, a word of the length and
--- symbols that can be found, and a buffer for the payload
+-- what the claim is about: figures that fit; a payload of 5 bytes or more ("10: K below 5" otherwise); "A strip is complete at n symbols", "each a
+-- byte below q"; "buffers fit where refusal 3 doesn't apply"
 pub record Presented (fit : Bool) (c : Codec) (w out : List ℕ) : Type 0 where
   pub figures : fit ≡ true
   pub carries : carriesJob (c .alphabet) (c .messageLen) ≡ true
@@ -75,6 +81,8 @@ pub record Claim (fit : Bool) (c : Codec) (before calls : List Call) (w out answ
   -- "Each call answers as the ledger does, 0 for accepted."
   pub judged : answers ≡ verdictsFrom before calls
   pub reading : Presented fit c w out → HandsOut c (acceptedBy calls answers before) w out r
+  -- and nothing is handed out of anything else
+  pub turned-away : (Presented fit c w out → ⊥) → (a : ℕ) × (isRefusal a ≡ true) × (r ≡ withhold out a)
 
 -- the claim for Construction A, "in a ledger that begins with every number unknown"
 abbrev pub ClaimA : Params → List Call → List ℕ → List ℕ → List ℕ → JobRead → Type 0

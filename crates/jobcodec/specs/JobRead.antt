@@ -44,7 +44,7 @@ jobReading c es w out =
     let k = c .messageLen in
     must (carriesJob q k) (withhold out badPayload)
     (must (eqb (length w) (c .wordLen) && eqb (length out) (payloadLen q k)) (withhold out wrongLength)
-    (must (allBelow (c .found) w) (withhold out badSymbol)
+    (must (allBelow (c .foundBound) w) (withhold out badSymbol)
     (jobIn q k es out (c .decode w))))
 
 -- ---- Under Construction A: "job read 1 2, 10 for K, 3 4 7 8 9, 10, 12 14"

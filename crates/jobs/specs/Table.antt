@@ -1,4 +1,4 @@
--- The job table, over the list of its entries, slot by slot. Assumes nothing.
+-- The job table (document 01's book), over the list of its entries, slot by slot (its places). Assumes nothing.
 use mathlib.Core.Bool.{Bool, true, false, not, cond, _||_}
 use mathlib.Core.List.{List, [], _∷_}
 use Prim.Native.Nat.{ℕ, _+_}

@@ -1,4 +1,4 @@
-// The job table, by value, and the replay of a list of calls on it. Assumes nothing.
+// The job table (document 01's book), by value, and the replay of a list of calls on it. Assumes nothing.
 ghost use mathlib.Core.Path.{_≡_};
 ghost use mathlib.Core.List.{[]};
 ghost use Prim.Native.Nat.{_+_};

@@ -5,9 +5,9 @@ use mathlib.Core.List.{List}
 use Prim.Native.Nat.{ℕ}
 use lib.ListN.{length}
 use Rattle.combinatorics.specs.Lists.{allBelow}
+use Rattle.cells.specs.Codec.{accepted}
 use Rattle.construction_a.specs.Figures.{Params, inRange, fits, isPlacement, messageLen}
-use Rattle.construction_a.specs.Outcomes.{Held, inUse, held, rankIs, Decoded}
-use Rattle.construction_a.specs.Writing.{rank}
+use Rattle.construction_a.specs.Outcomes.{Held, inUse, Decoded, decodeAs}
 
 -- figures that fit, a placement, a message, any symbols of the alphabet as damage, and room for the word and for what is read
 pub record Writable (f : Params) (at : Held) (ms ds w out : List ℕ) : Type 0 where
@@ -24,4 +24,4 @@ pub record Writable (f : Params) (at : Held) (ms ds w out : List ℕ) : Type 0 w
 
 -- accepted, with the rank and the starts of the placement, and the message that was written
 abbrev pub readBack : Params → List ℕ → List ℕ → Decoded
-readBack f ss ms = record { answer = rankIs (rank f ss); placement = held ss; message = ms }
+readBack f ss ms = decodeAs f ms (accepted ss ms)

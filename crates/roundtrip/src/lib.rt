@@ -1,6 +1,6 @@
 // Writing, damage inside the bursts and reading back, as one function on lent buffers. Assumes nothing.
 ghost use mathlib.Core.Path.{_≡_};
-ghost use Prim.Native.Nat.{_≤_};
+ghost use Prim.Native.Nat.{_^_, _≤_, _<_};
 ghost use Rattle.combinatorics.specs.Bursts.{inBurst};
 ghost use Rattle.construction_a.specs.Figures.{maxBursts};
 ghost use Rattle.construction_a.specs.Writing.{word as wordOf};
@@ -13,7 +13,8 @@ use decoder::Decoded;
 use params::Params;
 use placements::Placement;
 
-// Writes the word of a placement and a message, puts other symbols of the alphabet into its bursts, and reads what is then found.
+// Demand 2 run as code: writes the word of a placement and a message, puts any symbols of the alphabet into its bursts, and reads what is then
+// found. No entry point: what it asks for is what `encode` serves, so that the answer of `encode` is 0.
 pub fn round_trip(
     figures: Params,
     at: Placement,
@@ -65,7 +66,7 @@ fn in_burst(at: Placement, b: u32, x: u64) -> bool
 
 // Whether the burst from `start` on has the position.
 fn has(start: u64, b: u32, x: u64) -> bool
-    requires { ⌜ start ≤ 65535 ⌝ }
+    requires { ⌜ start < 2 ^ 16 ⌝ }
     ensures { λ r. ⌜ r ≡ holds b start x ⌝ }
 {
     if x < start {

@@ -5,6 +5,7 @@ use native.Mathlib.Omega.{arith}
 use borrow.Author.Needs.{needs}
 use Rattle.placements.specs.Bridge.{startsIn}
 use Rattle.params.specs.Given.{figuresOf}
+use Rattle.construction_a.proofs.Ranking.{burst-blocks-are}
 use Rattle.blocks.proofs.BlockSets.{kind-is}
 use Rattle.params.proofs.Fitting.{served, blocks-fit}
 use Rattle.blocks.proofs.kinds_of.Statement.{statement}
@@ -19,7 +20,13 @@ with-index-requires c κs =
     let l = s .args .layout in
     let ok = served l (s .pre .layout) in
     let z = blocks-fit l (s .pre .layout) in
-    (ok .some, z, omega (arith, le-mul-of-pos-right (l .parts) (ok .some)), omega (arith, ok .range .m-most))
+    let all = burst-blocks-are (figuresOf l) ok (startsIn (s .args .at)) (s .pre .placed) .as-many in (
+      ok .some,
+      z,
+      omega (arith, le-mul-of-pos-right (l .parts) (ok .some)),
+      omega (arith, ok .range .m-most),
+      rw (c .burst-kinds .ensures .set, s .pre .layout .laid .parts-is) all,
+    )
 
 returns : tie.Need-returns
 returns c =
