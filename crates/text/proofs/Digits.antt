@@ -1,4 +1,4 @@
--- Laws of digits as text: how many there are, and one more of them. Assumes nothing.
+-- Laws of numbers and bytes as text: how many digits there are, the library's digits, and hex byte by byte. Assumes nothing.
 use mathlib.Core.Path.{_≡_, refl, sym, ap, _∙_}
 use mathlib.Core.List.{List, [], _∷_, _++_, map, map-append, flatMap, append-assoc, append-nil}
 use Prim.Native.Nat.{ℕ, zero, suc, _+_, _-_, _*_, _/_, _%_, _^_, _≤_, _<_}
@@ -6,12 +6,12 @@ use native.Mathlib.Nat.{div-lt-iff-lt-mul, mod-lt, pow-zero, pow-suc, pow-le-pow
 use native.Mathlib.Numerals.{add-one}
 use native.Mathlib.Omega.{arith}
 use lib.Dec.{ltb}
-use lib.ListN.{length, getD, take, replicate, length-append, length-map, length-replicate, replicate-append-replicate}
+use lib.ListN.{length, getD, take, replicate, length-map, length-replicate, replicate-append-replicate}
 use lib.Seq.{length-take-le, take-all, take-suc}
 use Rattle.io.specs.Digits.{digits, Fewest}
-use Rattle.combinatorics.proofs.Cases.{by-le, by-eq, leb-holds, leb-fails}
-use Rattle.combinatorics.proofs.Stretch.{first-is, first-most, first-within, length-flat}
 use Rattle.combinatorics.specs.Stretch.{first}
+use Rattle.combinatorics.proofs.Cases.{by-le, leb-holds, leb-fails}
+use Rattle.combinatorics.proofs.Stretch.{first-is, first-most, first-within, length-flat}
 use Rattle.cells.specs.Digits.{plain, span, spell}
 use Rattle.cells.proofs.Digits.{span-plain, spell-snoc, length-spell}
 use Rattle.text.specs.Text.{zeroChar, decimalLen, decimal, hexByte, hex, overwrite}
@@ -25,7 +25,7 @@ length-decimal v =
     let ds = spell 10 (replicate (decimalLen v) plain) v in
     length-map ds (λ d. zeroChar + d) ∙ length-spell 10 (replicate (decimalLen v) plain) v ∙ length-replicate (decimalLen v) plain
 
--- digits that hold a number are no fewer than it takes
+-- no more digits than hold it
 pub decimal-most : (v k : ℕ) → 1 ≤ k → v < 10 ^ k → length (decimal v) ≤ k
 unfolding decimalLen
 decimal-most v k h l =

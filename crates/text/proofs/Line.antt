@@ -78,6 +78,12 @@ put-then at s t before line next behind end h p e n =
       behind-is = n ∙ omega (arith, length-append s t);
     }
 
+-- what is put together from the start of a line on is the text
+pub put-line : (text before line : List ℕ) (behind : ℕ) → Put 0 text before line behind → take behind line ≡ text
+put-line text before line behind p =
+    let n : behind ≡ length text = p .behind-is ∙ omega arith in
+    rw (n, p .put) (line-take text before)
+
 -- as a loop goes, byte by byte
 module _ (at : ℕ) (text before line : List ℕ) (i : ℕ) where
   pub text-room : i < length text → at + length text ≤ length before → Put at (take i text) before line (at + i) → at + i < length line

@@ -1,9 +1,7 @@
 -- `put_decimal` meets its contract: the library's digits are the number's. Assumes nothing.
 use mathlib.Core.Path.{_≡_, _∙_}
-use mathlib.Core.List.{List}
-use Prim.Native.Nat.{ℕ, _+_, _≤_}
 use borrow.Author.Needs.{needs}
-use lib.ListN.{length, take}
+use lib.ListN.{take}
 use Rattle.text.specs.Text.{decimal}
 use Rattle.text.proofs.Digits.{digits-decimal}
 use Rattle.text.proofs.put_decimal.Statement.{statement}

@@ -3,7 +3,7 @@ use mathlib.Core.List.{[], _∷_}
 use native.Mathlib.Omega.{arith}
 use borrow.Author.Needs.{needs}
 use Rattle.text.specs.Text.{hexByte}
-use Rattle.text.proofs.Line.{Put, put-none, put-then}
+use Rattle.text.proofs.Line.{put-none, put-then}
 use Rattle.text.proofs.put_hex_byte.Statement.{statement}
 use Rattle.text.proofs.put_hex_byte.Tie as tie
 
