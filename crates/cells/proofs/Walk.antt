@@ -7,7 +7,8 @@ use native.Mathlib.Nat.{zero-add}
 use native.Mathlib.Omega.{arith}
 use lib.ListN.{length, getD, take, drop, replicate, length-drop}
 use lib.Seq.{drop-nil, take-all}
-use Rattle.combinatorics.specs.Stretch.{sum, bit, count, keepIf, tabulate}
+use Rattle.combinatorics.specs.Stretch.{sum, bit, count, tabulate}
+use Rattle.combinatorics.proofs.Stretch.{keep-append}
 use Rattle.cells.specs.Cells.{Cell, burst, fixed, digit, message, is, weave, pick, content, Enough}
 
 -- how many cells of a list are of a kind
@@ -48,11 +49,15 @@ unfolding tabulate
 tabulate-same zero k f a h = refl
 tabulate-same {A} (suc n) k f a h = ap₂ {C = List A} _∷_ (h k (omega arith) (omega arith)) (tabulate-same n (suc k) f a (λ x l g. h x (omega arith) (omega arith)))
 
--- one more stretch, of cells that are all of one kind
-pub plan-stretch : (x c : ℕ) (kd : ℕ → Cell) (kind : Cell) → ((y : ℕ) → x ≤ y → y < x + c → kd y ≡ kind) → tabulate (x + c) 0 kd ≡ tabulate x 0 kd ++ replicate c kind
-plan-stretch x c kd kind h =
+-- a plan up to a later position, and one more stretch whose cells are all of one kind
+plan-on : (x to : ℕ) (kd : ℕ → Cell) → x ≤ to → tabulate to 0 kd ≡ tabulate x 0 kd ++ tabulate (to - x) x kd
+plan-on x to kd l =
+    let e : x + (to - x) ≡ to = omega arith in
     let z : 0 + x ≡ x = omega arith in
-    tabulate-append x c 0 kd ∙ ap (λ (r : List Cell). tabulate x 0 kd ++ r) (rw z (tabulate-same c x kd kind h))
+    rw (e, z) at (tabulate-append x (to - x) 0 kd)
+
+pub plan-stretch : (x to : ℕ) (kd : ℕ → Cell) (kind : Cell) → x ≤ to → ((y : ℕ) → x ≤ y → y < to → kd y ≡ kind) → tabulate to 0 kd ≡ tabulate x 0 kd ++ replicate (to - x) kind
+plan-stretch x to kd kind l h = plan-on x to kd l ∙ ap (λ (r : List Cell). tabulate x 0 kd ++ r) (tabulate-same (to - x) x kd kind (λ y a b. h y a (omega arith)))
 
 -- ---- Weaving
 
@@ -100,10 +105,6 @@ weave-stretch kind cs n ds ms h =
 
 -- ---- Taking apart
 
-keep-append : (b : Bool) (x : ℕ) (r s : List ℕ) → keepIf b x (r ++ s) ≡ keepIf b x r ++ s
-keep-append true x r s = refl
-keep-append false x r s = refl
-
 pub pick-append : (kind : Cell) (cs es : List Cell) (w : List ℕ) → pick kind (cs ++ es) w ≡ pick kind cs w ++ pick kind es (drop (length cs) w)
 unfolding pick
 pick-append kind [] es w = refl
@@ -126,6 +127,10 @@ pub tally-count : (kind : Cell) (n k : ℕ) (kd : ℕ → Cell) → tally kind (
 unfolding tally tabulate sum
 tally-count kind zero k kd = refl
 tally-count kind (suc n) k kd = omega (arith, tally-count kind n (suc k) kd)
+
+-- the cells of a kind before a position are among all of them
+pub tally-most : (kind : Cell) (x n : ℕ) (kd : ℕ → Cell) → x ≤ n → tally kind (tabulate x 0 kd) ≤ tally kind (tabulate n 0 kd)
+tally-most kind x n kd l = rw (plan-on x n kd l) (omega (arith, tally-append kind (tabulate x 0 kd) (tabulate (n - x) x kd)))
 
 -- a part that goes to the end is what is left
 pub rest-is : (n : ℕ) (xs : List ℕ) → take (length xs - n) (drop n xs) ≡ drop n xs

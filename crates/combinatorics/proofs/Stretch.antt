@@ -228,9 +228,9 @@ unfolding members sum
 length-members zero k w = refl
 length-members (suc n) k w = by-bool (w k) (λ t. rw t (omega (arith, length-members n (suc k) w))) (λ t. rw t (omega (arith, length-members n (suc k) w)))
 
-keepIf-append : (b : Bool) (x : ℕ) (r s : List ℕ) → keepIf b x (r ++ s) ≡ keepIf b x r ++ s
-keepIf-append true x r s = refl
-keepIf-append false x r s = refl
+pub keep-append : (b : Bool) (x : ℕ) (r s : List ℕ) → keepIf b x (r ++ s) ≡ keepIf b x r ++ s
+keep-append true x r s = refl
+keep-append false x r s = refl
 
 pub members-append : (a b k : ℕ) (w : ℕ → Bool) → members (a + b) k w ≡ members a k w ++ members b (k + a) w
 unfolding members
@@ -241,7 +241,7 @@ members-append zero b k w =
 members-append (suc a) b k w =
     let e : suc a + b ≡ suc (a + b) = omega arith in
     let g : k + suc a ≡ suc k + a = omega arith in
-    rw (e, g, members-append a b (suc k) w) (keepIf-append (w k) k (members a (suc k) w) (members b (suc k + a) w))
+    rw (e, g, members-append a b (suc k) w) (keep-append (w k) k (members a (suc k) w) (members b (suc k + a) w))
 
 -- c in a row, from a on, and no others
 pub members-run : (n k a c : ℕ) (w : ℕ → Bool) → k ≤ a → a + c ≤ k + n → ((x : ℕ) → a ≤ x → x < a + c → w x ≡ true)
@@ -342,7 +342,7 @@ unfolding flatMap
 flat-map f n s [] = refl
 flat-map f n s (k ∷ ks) = rw (map-append, flat-map f n s ks, tabulate-map f n (s k))
 
--- ---- As a loop goes: a search that has come to i without finding, and a count that has come to i
+-- ---- As a loop goes: a search or a test that has come to i without finding, and a count that has come to i
 
 pub first-start : (n : ℕ) (w : ℕ → Bool) → first (n - 0) 0 w ≡ first n 0 w
 first-start n w =
@@ -364,6 +364,29 @@ first-on n i w h t =
 pub first-over : (n i : ℕ) (w : ℕ → Bool) → n ≤ i → first (n - i) i w ≡ i
 unfolding first
 first-over n i w h =
+    let e : n - i ≡ 0 = omega arith in
+    rw e
+
+pub has-start : (n : ℕ) (w : ℕ → Bool) → has (n - 0) 0 w ≡ has n 0 w
+has-start n w =
+    let e : n - 0 ≡ n = omega arith in
+    rw e
+
+pub has-here : (n i : ℕ) (w : ℕ → Bool) → i < n → w i ≡ true → has (n - i) i w ≡ true
+unfolding has
+has-here n i w h t =
+    let e : n - i ≡ suc (n - suc i) = omega arith in
+    rw (e, t)
+
+pub has-on : (n i : ℕ) (w : ℕ → Bool) → i < n → w i ≡ false → has (n - i) i w ≡ has (n - (i + 1)) (i + 1) w
+unfolding has
+has-on n i w h t =
+    let e : n - i ≡ suc (n - suc i) = omega arith in
+    rw (e, t, add-one i)
+
+pub has-over : (n i : ℕ) (w : ℕ → Bool) → n ≤ i → has (n - i) i w ≡ false
+unfolding has
+has-over n i w h =
     let e : n - i ≡ 0 = omega arith in
     rw e
 

@@ -85,32 +85,6 @@ module _ (n : ℕ) (S : ℕ → Bool) (ks : List ℕ) where
         let e : n - i ≡ 0 = omega arith in
         rw e (by-eq met (length ks) (λ t. sameList [] (drop met ks) ≡ t) (λ d. rw (drop-of-length-le ks {i = met} (omega arith))) (λ d. rw (drop-cons ks met 0 (omega arith))))
 
--- ---- Whether any block fails: what is left
-
-module _ (n i : ℕ) (S : ℕ → Bool) where
-  pub has-start : has (n - 0) 0 S ≡ has n 0 S
-  has-start =
-      let e : n - 0 ≡ n = omega arith in
-      rw e
-
-  pub has-here : i < n → S i ≡ true → has (n - i) i S ≡ true
-  unfolding has
-  has-here h t =
-      let e : n - i ≡ suc (n - suc i) = omega arith in
-      rw (e, t)
-
-  pub has-on : i < n → S i ≡ false → has (n - i) i S ≡ has (n - (i + 1)) (i + 1) S
-  unfolding has
-  has-on h t =
-      let e : n - i ≡ suc (n - suc i) = omega arith in
-      rw (e, t, add-one i)
-
-  pub has-over : n ≤ i → has (n - i) i S ≡ false
-  unfolding has
-  has-over h =
-      let e : n - i ≡ 0 = omega arith in
-      rw e
-
 -- ---- By the kinds of a placement's blocks
 
 module _ (f : Params) (ss kinds : List ℕ) (is : KindsOf f ss kinds) where

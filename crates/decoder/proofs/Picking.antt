@@ -1,5 +1,5 @@
 -- Laws of taking a message out of a word stretch by stretch. Assumes nothing.
-use mathlib.Core.Path.{_≡_, refl, sym, ap, _∙_, subst}
+use mathlib.Core.Path.{_≡_, refl, sym, ap, _∙_}
 use mathlib.Core.Logic.{_≢_}
 use mathlib.Core.Bool.{true, false}
 use mathlib.Core.List.{List, _++_, append-nil, append-assoc}
@@ -11,7 +11,7 @@ use borrow.Rule.Slice.PartMut.{putMid, post-is}
 use Rattle.combinatorics.specs.Stretch.{tabulate}
 use Rattle.combinatorics.proofs.Stretch.{length-tabulate}
 use Rattle.cells.specs.Cells.{Cell, message, is, pick}
-use Rattle.cells.proofs.Walk.{tally, tally-append, tally-same, tally-other, plan-stretch, tabulate-append, pick-append, pick-same, pick-other}
+use Rattle.cells.proofs.Walk.{tally, tally-append, tally-same, tally-other, tally-most, plan-stretch, pick-append, pick-same, pick-other}
 use Rattle.stretches.specs.Walk.{cellNamed}
 
 -- the message cells before x are taken out of w
@@ -32,21 +32,10 @@ module _ (n k : ℕ) (kd : ℕ → Cell) (w : List ℕ) (whole : length w ≡ n)
   unfolding tabulate pick tally
   taken-start out e = record { made = refl; count = refl; size = e }
 
-  -- the message cells before a position are among all of them
-  tally-most : (to : ℕ) → to ≤ n → tally message (tabulate to 0 kd) ≤ k
-  tally-most to h =
-      let e : to + (n - to) ≡ n = omega arith in
-      let p : tabulate n 0 kd ≡ tabulate to 0 kd ++ tabulate (n - to) (0 + to) kd =
-      subst (λ (z : ℕ). tabulate z 0 kd ≡ tabulate to 0 kd ++ tabulate (n - to) (0 + to) kd) e (tabulate-append to (n - to) 0 kd) in
-      omega (arith, all, ap (tally message) p, tally-append message (tabulate to 0 kd) (tabulate (n - to) (0 + to) kd))
-
   module _ (x to kind taken : ℕ) (out : List ℕ) (s : Taken k kd w x out taken) (l : x ≤ to) (h : to ≤ n)
       (same : (y : ℕ) → x ≤ y → y < to → kd y ≡ cellNamed kind) where
     longer : tabulate to 0 kd ≡ tabulate x 0 kd ++ replicate (to - x) (cellNamed kind)
-    longer =
-        let e : x + (to - x) ≡ to = omega arith in
-        subst (λ (z : ℕ). tabulate z 0 kd ≡ tabulate x 0 kd ++ replicate (to - x) (cellNamed kind)) e
-        (plan-stretch x (to - x) kd (cellNamed kind) (λ y a b. same y a (omega arith)))
+    longer = plan-stretch x to kd (cellNamed kind) l same
 
     picked : pick message (tabulate to 0 kd) w ≡ pick message (tabulate x 0 kd) w ++ pick message (replicate (to - x) (cellNamed kind)) (drop x w)
     picked =
@@ -57,7 +46,7 @@ module _ (n k : ℕ) (kd : ℕ → Cell) (w : List ℕ) (whole : length w ≡ n)
     pub taken-room : kind ≡ 3 → taken + (to - x) ≤ k
     taken-room e =
         let c : is message (cellNamed kind) ≡ true = ap (λ (z : ℕ). is message (cellNamed z)) e in
-        omega (arith, s .count, ap (tally message) longer, tally-append message (tabulate x 0 kd) (replicate (to - x) (cellNamed kind)), tally-same message (cellNamed kind) (to - x) c, tally-most to h)
+        omega (arith, s .count, ap (tally message) longer, tally-append message (tabulate x 0 kd) (replicate (to - x) (cellNamed kind)), tally-same message (cellNamed kind) (to - x) c, tally-most message to n kd h, all)
 
     -- a stretch of other cells gives nothing
     pub taken-other : kind ≤ 3 → kind ≢ 3 → Taken k kd w to out taken

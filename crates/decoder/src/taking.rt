@@ -1,6 +1,5 @@
 // Taking the message out of a word: every symbol is stored once, straight from the word, stretch by stretch. Assumes nothing.
 ghost use mathlib.Core.Path.{_≡_};
-ghost use lib.ListN.{length};
 ghost use Rattle.cells.specs.Cells;
 ghost use Rattle.cells.specs.Cells.{pick};
 ghost use Rattle.construction_a.specs.Writing.{plan};
@@ -31,21 +30,9 @@ pub fn take_message(
         let to = next.at;
         if stretch.kind == stretches::MESSAGE_CELL {
             let end = taken + (to - from);
-            copy(&mut message[taken..end], &word[from..to]);
+            symbols::copy_prefix(&mut message[taken..end], &word[from..]);
             taken = end;
         }
         here = next;
-    }
-}
-
-// One stretch of symbols.
-fn copy(stretch: &mut [u8], symbols: &[u8])
-    requires { ⌜ length (now stretch) ≡ length (now symbols) ⌝ }
-    ensures { λ _. ⌜ now (stretch .exit) ≡ now (symbols .entry) ⌝ }
-{
-    let mut i: usize = 0;
-    while i < stretch.len() {
-        stretch[i] = symbols[i];
-        i += 1;
     }
 }

@@ -1,7 +1,7 @@
 -- Laws of filling a word stretch by stretch. Assumes nothing.
-use mathlib.Core.Path.{_≡_, refl, sym, ap, _∙_, subst}
+use mathlib.Core.Path.{_≡_, refl, sym, ap, _∙_}
 use mathlib.Core.Logic.{_≢_}
-use mathlib.Core.Bool.{cond}
+use mathlib.Core.Bool.{true, cond}
 use mathlib.Core.List.{List, _++_, append-assoc}
 use Prim.Native.Nat.{ℕ, zero, suc, _+_, _-_, _*_, _≤_, _<_}
 use native.Mathlib.Omega.{arith}
@@ -13,7 +13,7 @@ use Rattle.combinatorics.proofs.Cases.{eqb-other}
 use Rattle.combinatorics.specs.Stretch.{tabulate}
 use Rattle.combinatorics.proofs.Stretch.{count-le}
 use Rattle.cells.specs.Cells.{Cell, burst, fixed, digit, message, is, weave, content, Enough}
-use Rattle.cells.proofs.Walk.{tally, tally-append, tally-same, tally-other, tally-count, rest-is, plan-stretch, tabulate-append, weave-stretch}
+use Rattle.cells.proofs.Walk.{tally, tally-append, tally-same, tally-other, tally-count, tally-most, rest-is, plan-stretch, weave-stretch}
 use Rattle.combinatorics.proofs.Bursts.{Placed}
 use Rattle.construction_a.specs.Figures.{Params, indexTail, messageLen}
 use Rattle.construction_a.specs.Writing.{kindAt}
@@ -77,9 +77,8 @@ module _ (n : ℕ) (kd : ℕ → Cell) (ds ms : List ℕ) where
   filled-turn x to kind spelled sent out s l h same few enough =
       let K = cellNamed kind in
       let c = to - x in
-      let e : x + c ≡ to = omega arith in
       let cs = tabulate x 0 kd in
-      let p : tabulate to 0 kd ≡ cs ++ replicate c K = subst (λ (z : ℕ). tabulate z 0 kd ≡ cs ++ replicate c K) e (plan-stretch x c kd K (λ y a b. same y a (omega arith))) in
+      let p : tabulate to 0 kd ≡ cs ++ replicate c K = plan-stretch x to kd K l same in
       let body = content K c (drop spelled ds) (drop sent ms) in
       let size : length (take x out ++ body) ≡ to =
       length-append (take x out) body ∙ omega (arith, length-take-le x out (omega (arith, s .size)), length-content K c (drop spelled ds) (drop sent ms) enough) in
@@ -96,31 +95,27 @@ module _ (n : ℕ) (kd : ℕ → Cell) (ds ms : List ℕ) where
   pub filled-done : (spelled sent : ℕ) (out : List ℕ) → Filled n kd ds ms n out spelled sent → out ≡ weave (tabulate n 0 kd) ds ms
   filled-done spelled sent out s = sym (take-all n out (omega (arith, s .size))) ∙ s .made
 
-  -- the cells of a kind before a position are among all of them
-  pub tally-most : (kind : Cell) (to : ℕ) → to ≤ n → tally kind (tabulate to 0 kd) ≤ tally kind (tabulate n 0 kd)
-  tally-most kind to h =
-      let e : to + (n - to) ≡ n = omega arith in
-      let p : tabulate n 0 kd ≡ tabulate to 0 kd ++ tabulate (n - to) (0 + to) kd =
-      subst (λ (z : ℕ). tabulate z 0 kd ≡ tabulate to 0 kd ++ tabulate (n - to) (0 + to) kd) e (tabulate-append to (n - to) 0 kd) in
-      rw p (omega (arith, tally-append kind (tabulate to 0 kd) (tabulate (n - to) (0 + to) kd)))
-
   -- no more digits or symbols are asked for than there are cells for them
   pub enough : (x to kind : ℕ) → x ≤ to → to ≤ n → ((y : ℕ) → x ≤ y → y < to → kd y ≡ cellNamed kind)
       → tally digit (tabulate n 0 kd) ≤ length ds → tally message (tabulate n 0 kd) ≤ length ms
       → Enough (cellNamed kind) (to - x) (drop (tally digit (tabulate x 0 kd)) ds) (drop (tally message (tabulate x 0 kd)) ms)
-  enough x to kind l h same d m =
-      go (cellNamed kind) (subst (λ (z : ℕ). tabulate z 0 kd ≡ tabulate x 0 kd ++ replicate (to - x) (cellNamed kind)) e (plan-stretch x (to - x) kd (cellNamed kind) (λ y a b. same y a (omega arith))))
+  enough x to kind l h same d m = go (cellNamed kind) (plan-stretch x to kd (cellNamed kind) l same)
     where
-      e : x + (to - x) ≡ to
-      e = omega arith
+      left : (K : Cell) (xs : List ℕ) → is K K ≡ true → tabulate to 0 kd ≡ tabulate x 0 kd ++ replicate (to - x) K → tally K (tabulate n 0 kd) ≤ length xs
+          → to - x ≤ length (drop (tally K (tabulate x 0 kd)) xs)
+      left K xs i p e =
+          omega (arith, length-drop (tally K (tabulate x 0 kd)) xs, tally-most K to n kd h, ap (tally K) p, tally-append K (tabulate x 0 kd) (replicate (to - x) K), tally-same K K (to - x) i)
 
       go : (K : Cell) → tabulate to 0 kd ≡ tabulate x 0 kd ++ replicate (to - x) K → Enough K (to - x) (drop (tally digit (tabulate x 0 kd)) ds) (drop (tally message (tabulate x 0 kd)) ms)
       go burst p = tt
       go fixed p = tt
-      go digit p =
-          omega (arith, length-drop (tally digit (tabulate x 0 kd)) ds, tally-most digit to h, ap (tally digit) p, tally-append digit (tabulate x 0 kd) (replicate (to - x) digit), tally-same digit digit (to - x) refl)
-      go message p =
-          omega (arith, length-drop (tally message (tabulate x 0 kd)) ms, tally-most message to h, ap (tally message) p, tally-append message (tabulate x 0 kd) (replicate (to - x) message), tally-same message message (to - x) refl)
+      go digit p = left digit ds refl p d
+      go message p = left message ms refl p m
+
+  -- so many of a kind are taken, no more than there are in all
+  pub so-far-most : (x spelled sent : ℕ) (out : List ℕ) → Filled n kd ds ms x out spelled sent → x ≤ n
+      → tally digit (tabulate n 0 kd) ≤ length ds → tally message (tabulate n 0 kd) ≤ length ms → (spelled ≤ length ds) × (sent ≤ length ms)
+  so-far-most x spelled sent out s l d m = (omega (arith, s .digits, tally-most digit x n kd l), omega (arith, s .message, tally-most message x n kd l))
 
   -- and no more than the cells so far
   pub spelled-most : (x spelled sent : ℕ) (out : List ℕ) → Filled n kd ds ms x out spelled sent → (spelled ≤ x) × (sent ≤ x)
@@ -131,34 +126,29 @@ module _ (n : ℕ) (kd : ℕ → Cell) (ds ms : List ℕ) where
 
   -- ---- A turn, as the code makes it: a part of the word is filled from the rest of the digits and of the message
 
-  pub part-size : (x to : ℕ) (out : List ℕ) → length out ≡ n → x ≤ to → to ≤ n → length (take (to - x) (drop x out)) ≡ to - x
-  part-size x to out e l h = length-take-le (to - x) (drop x out) (omega (arith, length-drop x out))
+  module _ (x to kind spelled sent : ℕ) (out : List ℕ) (s : Filled n kd ds ms x out spelled sent) (l : x ≤ to) (h : to ≤ n)
+      (same : (y : ℕ) → x ≤ y → y < to → kd y ≡ cellNamed kind) (d : tally digit (tabulate n 0 kd) ≤ length ds) (m : tally message (tabulate n 0 kd) ≤ length ms) where
+    part-size : length (take (to - x) (drop x out)) ≡ to - x
+    part-size = length-take-le (to - x) (drop x out) (omega (arith, length-drop x out, s .size))
 
-  pub part-enough : (x to kind spelled sent : ℕ) (out : List ℕ) → Filled n kd ds ms x out spelled sent → x ≤ to → to ≤ n
-      → ((y : ℕ) → x ≤ y → y < to → kd y ≡ cellNamed kind)
-      → tally digit (tabulate n 0 kd) ≤ length ds → tally message (tabulate n 0 kd) ≤ length ms
-      → Enough (cellNamed kind) (to - x) (drop spelled ds) (drop sent ms)
-  part-enough x to kind spelled sent out s l h same d m = rw (s .digits, s .message) (enough x to kind l h same d m)
+    some : Enough (cellNamed kind) (to - x) (drop spelled ds) (drop sent ms)
+    some = rw (s .digits, s .message) (enough x to kind l h same d m)
 
-  pub part-asks : (x to kind spelled sent : ℕ) (out : List ℕ) → Filled n kd ds ms x out spelled sent → x ≤ to → to ≤ n
-      → Enough (cellNamed kind) (to - x) (drop spelled ds) (drop sent ms)
-      → Enough (cellNamed kind) (length (take (to - x) (drop x out))) (take (length ds - spelled) (drop spelled ds)) (take (length ms - sent) (drop sent ms))
-  part-asks x to kind spelled sent out s l h some = rw (part-size x to out (s .size) l h, rest-is spelled ds, rest-is sent ms) some
+    pub part-asks : Enough (cellNamed kind) (length (take (to - x) (drop x out))) (take (length ds - spelled) (drop spelled ds)) (take (length ms - sent) (drop sent ms))
+    part-asks = rw (part-size, rest-is spelled ds, rest-is sent ms) some
 
-  pub part-turn : (x to kind spelled sent spelled′ sent′ : ℕ) (out part : List ℕ) → Filled n kd ds ms x out spelled sent → x ≤ to → to ≤ n
-      → ((y : ℕ) → x ≤ y → y < to → kd y ≡ cellNamed kind) → kind ≤ 3
-      → Enough (cellNamed kind) (to - x) (drop spelled ds) (drop sent ms)
-      → part ≡ content (cellNamed kind) (length (take (to - x) (drop x out))) (take (length ds - spelled) (drop spelled ds)) (take (length ms - sent) (drop sent ms))
-      → spelled′ ≡ spelled + cond (eqb kind 2) (to - x) 0 → sent′ ≡ sent + cond (eqb kind 3) (to - x) 0
-      → Filled n kd ds ms to (putMid x (to - x) out part) spelled′ sent′
-  part-turn x to kind spelled sent spelled′ sent′ out part s l h same few some p a b =
-      let body = content (cellNamed kind) (to - x) (drop spelled ds) (drop sent ms) in
-      let q : part ≡ body = rw (← part-size x to out (s .size) l h, ← rest-is spelled ds, ← rest-is sent ms) p in
-      let word : putMid x (to - x) out part ≡ take x out ++ body ++ drop to out =
-      ap (λ (r : List ℕ). take x out ++ (r ++ drop (to - x) (drop x out))) q
-      ∙ ap (λ (r : List ℕ). take x out ++ (body ++ r)) (post-is x to out l)
-      ∙ sym (append-assoc (take x out) body (drop to out)) in
-      rw (word, a, b) (filled-turn x to kind spelled sent out s l h same few some)
+    pub part-turn : (spelled′ sent′ : ℕ) (part : List ℕ) → kind ≤ 3
+        → part ≡ content (cellNamed kind) (length (take (to - x) (drop x out))) (take (length ds - spelled) (drop spelled ds)) (take (length ms - sent) (drop sent ms))
+        → spelled′ ≡ spelled + cond (eqb kind 2) (to - x) 0 → sent′ ≡ sent + cond (eqb kind 3) (to - x) 0
+        → Filled n kd ds ms to (putMid x (to - x) out part) spelled′ sent′
+    part-turn spelled′ sent′ part few p a b =
+        let body = content (cellNamed kind) (to - x) (drop spelled ds) (drop sent ms) in
+        let q : part ≡ body = rw (← part-size, ← rest-is spelled ds, ← rest-is sent ms) p in
+        let word : putMid x (to - x) out part ≡ take x out ++ body ++ drop to out =
+        ap (λ (r : List ℕ). take x out ++ (r ++ drop (to - x) (drop x out))) q
+        ∙ ap (λ (r : List ℕ). take x out ++ (body ++ r)) (post-is x to out l)
+        ∙ sym (append-assoc (take x out) body (drop to out)) in
+        rw (word, a, b) (filled-turn x to kind spelled sent out s l h same few some)
 
 -- ---- How many digits and symbols a placement's word takes
 

@@ -3,7 +3,7 @@ ghost use mathlib.Core.Path.{_≡_};
 ghost use mathlib.Core.Bool.{cond};
 ghost use Prim.Native.Nat.{_+_, _≤_};
 ghost use lib.Dec.{eqb};
-ghost use lib.ListN.{length, take, replicate};
+ghost use lib.ListN.{length};
 ghost use Rattle.cells.specs.Cells.{weave, content, Enough};
 ghost use Rattle.construction_a.specs.Figures.{maxWord};
 ghost use Rattle.construction_a.specs.Writing.{plan, word as wordOf};
@@ -66,33 +66,11 @@ fn fill_stretch(stretch: &mut [u8], kind: u8, digits: &[u8], message: &[u8])
     ensures { λ _. ⌜ now (stretch .exit) ≡ content (cellNamed kind) (length (now (stretch .entry))) (now (digits .entry)) (now (message .entry)) ⌝ }
 {
     if kind <= stretches::FIXED_CELL {
-        clear(stretch);
+        symbols::clear(stretch);
     } else if kind == stretches::DIGIT_CELL {
-        copy_next(stretch, digits);
+        symbols::copy_prefix(stretch, digits);
     } else {
-        copy_next(stretch, message);
-    }
-}
-
-// As many symbols as the stretch has.
-fn copy_next(stretch: &mut [u8], symbols: &[u8])
-    requires { ⌜ length (now stretch) ≤ length (now symbols) ⌝ }
-    ensures { λ _. ⌜ now (stretch .exit) ≡ take (length (now (stretch .entry))) (now (symbols .entry)) ⌝ }
-{
-    let mut i: usize = 0;
-    while i < stretch.len() {
-        stretch[i] = symbols[i];
-        i += 1;
-    }
-}
-
-fn clear(stretch: &mut [u8])
-    ensures { λ _. ⌜ now (stretch .exit) ≡ replicate (length (now (stretch .entry))) 0 ⌝ }
-{
-    let mut i: usize = 0;
-    while i < stretch.len() {
-        stretch[i] = 0;
-        i += 1;
+        symbols::copy_prefix(stretch, message);
     }
 }
 

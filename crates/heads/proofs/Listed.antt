@@ -19,7 +19,7 @@ use Rattle.heads.specs.declared.pattern.Candidates.{Candidates}
 use Rattle.heads.specs.declared.pattern.IndexBlocks.{IndexBlocks}
 use Rattle.params.specs.Given.{maxBlocks}
 use Rattle.heads.specs.Looks.{fixedLook, looksIn}
-use Rattle.heads.specs.Patterns.{Parted, heldOf, numbered, indexIn}
+use Rattle.heads.specs.Patterns.{Parted, candidatesOf, numbered, indexIn}
 
 -- a part's blocks are among the blocks of the word
 pub part-fits : (p m i : ℕ) → Parted p m → i < p → i * m + m ≤ maxBlocks
@@ -28,7 +28,7 @@ part-fits p m i h l =
 
 -- ---- The candidates of a list
 
-module _ (c : Candidates) (xs : List ℕ) (e : c ≡ heldOf xs) where
+module _ (c : Candidates) (xs : List ℕ) (e : c ≡ candidatesOf xs) where
   pub count-is : c .count ≡ length xs
   count-is = ap (λ (y : Candidates). y .count) e
 
@@ -40,25 +40,25 @@ module _ (c : Candidates) (xs : List ℕ) (e : c ≡ heldOf xs) where
 
   -- one more
   module _ (x : ℕ) where
-    pub held-first : c .count ≡ 0 → record { count = 1; first = x; second = 0 } ≡ heldOf (xs ++ (x ∷ []))
-    held-first h = go xs (sym count-is ∙ h)
+    pub candidates-first : c .count ≡ 0 → record { count = 1; first = x; second = 0 } ≡ candidatesOf (xs ++ (x ∷ []))
+    candidates-first h = go xs (sym count-is ∙ h)
       where
-        go : (ys : List ℕ) → length ys ≡ 0 → record { count = 1; first = x; second = 0 } ≡ heldOf (ys ++ (x ∷ []))
+        go : (ys : List ℕ) → length ys ≡ 0 → record { count = 1; first = x; second = 0 } ≡ candidatesOf (ys ++ (x ∷ []))
         go [] z = refl
         go (y ∷ ys) z = absurd (omega arith)
 
-    pub held-second : c .count ≡ 1 → record { count = 2; first = c .first; second = x } ≡ heldOf (xs ++ (x ∷ []))
-    held-second h = rw first-is (go xs (sym count-is ∙ h))
+    pub candidates-second : c .count ≡ 1 → record { count = 2; first = c .first; second = x } ≡ candidatesOf (xs ++ (x ∷ []))
+    candidates-second h = rw first-is (go xs (sym count-is ∙ h))
       where
-        go : (ys : List ℕ) → length ys ≡ 1 → record { count = 2; first = getD ys 0 0; second = x } ≡ heldOf (ys ++ (x ∷ []))
+        go : (ys : List ℕ) → length ys ≡ 1 → record { count = 2; first = getD ys 0 0; second = x } ≡ candidatesOf (ys ++ (x ∷ []))
         go [] z = absurd (omega arith)
         go (y ∷ []) z = refl
         go (y ∷ z ∷ zs) u = absurd (omega arith)
 
-    pub held-more : c .count ≢ 0 → c .count ≢ 1 → record { count = c .count + 1; first = c .first; second = c .second } ≡ heldOf (xs ++ (x ∷ []))
-    held-more f g = rw (count-is, first-is, second-is) (go xs (λ z. f (count-is ∙ z)) (λ z. g (count-is ∙ z)))
+    pub candidates-more : c .count ≢ 0 → c .count ≢ 1 → record { count = c .count + 1; first = c .first; second = c .second } ≡ candidatesOf (xs ++ (x ∷ []))
+    candidates-more f g = rw (count-is, first-is, second-is) (go xs (λ z. f (count-is ∙ z)) (λ z. g (count-is ∙ z)))
       where
-        go : (ys : List ℕ) → length ys ≢ 0 → length ys ≢ 1 → record { count = length ys + 1; first = getD ys 0 0; second = getD ys 1 0 } ≡ heldOf (ys ++ (x ∷ []))
+        go : (ys : List ℕ) → length ys ≢ 0 → length ys ≢ 1 → record { count = length ys + 1; first = getD ys 0 0; second = getD ys 1 0 } ≡ candidatesOf (ys ++ (x ∷ []))
         go [] u v = absurd (u refl)
         go (y ∷ []) u v = absurd (v refl)
         go (y ∷ z ∷ zs) u v =
@@ -66,19 +66,19 @@ module _ (c : Candidates) (xs : List ℕ) (e : c ≡ heldOf xs) where
             rw n
 
 -- the numbers of a set below i
-module _ (c : Candidates) (i : ℕ) (w : ℕ → Bool) (e : c ≡ heldOf (members i 0 w)) where
-  pub held-few : c .count ≤ i
-  held-few = omega (arith, count-is c (members i 0 w) e, length-members i 0 w, count-le i 0 w)
+module _ (c : Candidates) (i : ℕ) (w : ℕ → Bool) (e : c ≡ candidatesOf (members i 0 w)) where
+  pub candidates-few : c .count ≤ i
+  candidates-few = omega (arith, count-is c (members i 0 w) e, length-members i 0 w, count-le i 0 w)
 
-  pub held-below : 0 < i → (c .first < i) × (c .second < i)
-  held-below h =
+  pub candidates-below : 0 < i → (c .first < i) × (c .second < i)
+  candidates-below h =
       (omega (arith, ap (λ (y : Candidates). y .first) e, members-most i 0 0 w (omega arith)), omega (arith, ap (λ (y : Candidates). y .second) e, members-most i 0 1 w (omega arith)))
 
-  pub held-out : w i ≡ false → c ≡ heldOf (members (i + 1) 0 w)
-  held-out t = rw (members-on i w, t, append-nil (members i 0 w)) e
+  pub candidates-out : w i ≡ false → c ≡ candidatesOf (members (i + 1) 0 w)
+  candidates-out t = rw (members-on i w, t, append-nil (members i 0 w)) e
 
-pub held-in : (i : ℕ) (w : ℕ → Bool) → w i ≡ true → heldOf (members i 0 w ++ (i ∷ [])) ≡ heldOf (members (i + 1) 0 w)
-held-in i w t = rw (members-on i w, t)
+pub candidates-in : (i : ℕ) (w : ℕ → Bool) → w i ≡ true → candidatesOf (members i 0 w ++ (i ∷ [])) ≡ candidatesOf (members (i + 1) 0 w)
+candidates-in i w t = rw (members-on i w, t)
 
 -- ---- The later of two
 
@@ -90,7 +90,7 @@ pub numbered-out : (n i : ℕ) → n ≤ i → numbered n i ≡ none
 unfolding numbered
 numbered-out n i h = rw (leb-fails (suc i) n (omega arith))
 
-module _ (n : ℕ) (c : Candidates) (xs : List ℕ) (e : c ≡ heldOf xs) where
+module _ (n : ℕ) (c : Candidates) (xs : List ℕ) (e : c ≡ candidatesOf xs) where
   pub later-alone : c .first < n → c .count ≡ 1 → numbered n (c .first) ≡ later n xs
   unfolding later
   later-alone l h = numbered-in n (c .first) l ∙ rw (first-is c xs e) (go xs (sym (count-is c xs e) ∙ h))

@@ -19,8 +19,8 @@ pub record Parted (p m : ℕ) : Type 0 where
   pub alike : 2 < m → p ≡ m
 
 -- the candidates of a list
-abbrev pub heldOf : List ℕ → Candidates
-heldOf xs = record { count = length xs; first = getD xs 0 0; second = getD xs 1 0 }
+abbrev pub candidatesOf : List ℕ → Candidates
+candidatesOf xs = record { count = length xs; first = getD xs 0 0; second = getD xs 1 0 }
 
 -- a number below n, or none
 unfoldable pub numbered : ℕ → ℕ → Option ℕ

@@ -10,7 +10,7 @@ ghost use Rattle.construction_a.specs.Reading.{looksFixed, later, bareParts, op
 ghost use Rattle.params.specs.Given.{figuresOf, maxBlocks};
 ghost use Rattle.heads.specs.Given.{Finding};
 ghost use Rattle.heads.specs.Looks.{looksIn};
-ghost use Rattle.heads.specs.Patterns.{Parted, heldOf, numbered, indexIn};
+ghost use Rattle.heads.specs.Patterns.{Parted, candidatesOf, numbered, indexIn};
 use crate::looks::LOOKS_FIXED;
 use crate::looks::looks_of;
 use params::Layout;
@@ -99,7 +99,7 @@ fn one_each(looks: [u8; Layout::MAX_BLOCKS], parts: usize, m: usize) -> IndexBlo
 // The parts without a block that looks fixed: all their blocks are open.
 fn bare_parts(looks: [u8; Layout::MAX_BLOCKS], parts: usize, m: usize) -> Candidates
     requires { ⌜ Parted parts m ⌝ }
-    ensures { λ r. ⌜ r ≡ heldOf (bareParts parts m (looksIn looks)) ⌝ }
+    ensures { λ r. ⌜ r ≡ candidatesOf (bareParts parts m (looksIn looks)) ⌝ }
 {
     let mut bare = Candidates::none();
     let mut i: usize = 0;
@@ -116,7 +116,7 @@ fn bare_parts(looks: [u8; Layout::MAX_BLOCKS], parts: usize, m: usize) -> Candid
 // The blocks of a part that don't look fixed, counted within the part.
 fn open_blocks(looks: [u8; Layout::MAX_BLOCKS], m: usize, part: usize) -> Candidates
     requires { ⌜ part * m + m ≤ maxBlocks ⌝ }
-    ensures { λ r. ⌜ r ≡ heldOf (openBlocks m (looksIn looks) part) ⌝ }
+    ensures { λ r. ⌜ r ≡ candidatesOf (openBlocks m (looksIn looks) part) ⌝ }
 {
     let from = part * m;
     let mut shown = Candidates::none();
@@ -144,7 +144,7 @@ impl IndexBlocks {
 
 impl Candidates {
     fn none() -> Candidates
-        ensures { λ r. ⌜ r ≡ heldOf [] ⌝ }
+        ensures { λ r. ⌜ r ≡ candidatesOf [] ⌝ }
     {
         Candidates {
             count: 0,
@@ -156,7 +156,7 @@ impl Candidates {
     // One candidate more, behind the others.
     fn with_next(self, x: usize) -> Candidates
         requires { ⌜ self .count < maxBlocks ⌝ }
-        ensures { λ r. ⌜ ((xs : List ℕ) → self ≡ heldOf xs → r ≡ heldOf (xs ++ (x ∷ []))) ⌝ }
+        ensures { λ r. ⌜ ((xs : List ℕ) → self ≡ candidatesOf xs → r ≡ candidatesOf (xs ++ (x ∷ []))) ⌝ }
     {
         if self.count == 0 {
             return Candidates {
@@ -182,7 +182,7 @@ impl Candidates {
     // Of numbers below n the one candidate, or the later of two neighbours, which for the first and the last is the first; n or more where there is none.
     fn later(self, n: usize) -> usize
         requires { ⌜ (self .first < n) × (self .second < n) ⌝ }
-        ensures { λ r. ⌜ ((xs : List ℕ) → self ≡ heldOf xs → numbered n r ≡ later n xs) ⌝ }
+        ensures { λ r. ⌜ ((xs : List ℕ) → self ≡ candidatesOf xs → numbered n r ≡ later n xs) ⌝ }
     {
         if self.count == 1 {
             return self.first;

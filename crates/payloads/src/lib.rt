@@ -26,7 +26,7 @@ pub fn spell_payload(q: u64, width: usize, payload: &[u8], message: &mut [u8])
         i += 1;
     }
     let spelled = i * width;
-    clear(&mut message[spelled..]);
+    symbols::clear(&mut message[spelled..]);
 }
 
 // One byte, most significant symbol first, made from the right by quotient and remainder.
@@ -40,17 +40,6 @@ fn spell_byte(q: u64, byte: u8, symbols: &mut [u8])
         i -= 1;
         symbols[i] = (left % q) as u8;
         left = left / q;
-    }
-}
-
-// The leftovers of a message.
-fn clear(symbols: &mut [u8])
-    ensures { λ _. ⌜ now (symbols .exit) ≡ replicate (length (now (symbols .entry))) 0 ⌝ }
-{
-    let mut i: usize = 0;
-    while i < symbols.len() {
-        symbols[i] = 0;
-        i += 1;
     }
 }
 

@@ -62,7 +62,7 @@ module _ (f : Params) (ok : Served f) (ss : List ℕ) (h : Placed (f .b) (f .n) 
 
   -- ---- Where the walk goes on
 
-  pub come-start : (w : Walk) → w .at ≡ 0 → w .block ≡ 0 → w .head ≡ 0 → w .burst ≡ 0 → w .edge ≡ headOf f 1 → Come f ss 0 w
+  pub come-start : (w : Walk) → w .at ≡ 0 → w .block ≡ 0 → w .head ≡ 0 → w .passed ≡ 0 → w .edge ≡ headOf f 1 → Come f ss 0 w
   come-start w a k hd i ed =
       record {
         at-is = a;
@@ -75,7 +75,7 @@ module _ (f : Params) (ok : Served f) (ss : List ℕ) (h : Placed (f .b) (f .n) 
               from = omega arith;
               to = omega (arith, up 0, first-head);
               counted = omega arith;
-              passed = λ j g. absurd (omega arith);
+              behind = λ j g. absurd (omega arith);
               ahead = λ g. omega (arith, ok .long);
               clear = inl (a ∙ sym hd);
             };
@@ -83,33 +83,33 @@ module _ (f : Params) (ok : Served f) (ss : List ℕ) (h : Placed (f .b) (f .n) 
 
   module _ (w : Walk) (x : ℕ) (g : Moving f ss w x) where
     i : ℕ
-    i = w .burst
+    i = w .passed
 
     counted-on : passedBy f ss i x ≤ length ss
     unfolding passedBy i
     counted-on =
-        by-le (suc (w .burst)) (length ss) (λ t. cond (t && leb (getD ss (w .burst) 0 + f .b) x) (suc (w .burst)) (w .burst) ≤ length ss)
-        (λ l. by-le (getD ss (w .burst) 0 + f .b) x (λ t. cond t (suc (w .burst)) (w .burst) ≤ length ss) (λ _. l) (λ _. omega arith)) (λ l. g .walking .counted)
+        by-le (suc (w .passed)) (length ss) (λ t. cond (t && leb (getD ss (w .passed) 0 + f .b) x) (suc (w .passed)) (w .passed) ≤ length ss)
+        (λ l. by-le (getD ss (w .passed) 0 + f .b) x (λ t. cond t (suc (w .passed)) (w .passed) ≤ length ss) (λ _. l) (λ _. omega arith)) (λ l. g .walking .counted)
 
-    passed-on : (j : ℕ) → j < passedBy f ss i x → getD ss j 0 + f .b ≤ x
+    behind-on : (j : ℕ) → j < passedBy f ss i x → getD ss j 0 + f .b ≤ x
     unfolding passedBy i
-    passed-on j =
-        let old : j < w .burst → getD ss j 0 + f .b ≤ x = λ l. omega (arith, g .walking .passed j l, g .onward) in
-        by-le (suc (w .burst)) (length ss) (λ t. j < cond (t && leb (getD ss (w .burst) 0 + f .b) x) (suc (w .burst)) (w .burst) → getD ss j 0 + f .b ≤ x)
-        (λ l. by-le (getD ss (w .burst) 0 + f .b) x (λ t. j < cond t (suc (w .burst)) (w .burst) → getD ss j 0 + f .b ≤ x)
-        (λ k q. by-le (suc j) (w .burst) (λ _. getD ss j 0 + f .b ≤ x) old (λ r. let d : j ≡ w .burst = omega arith in rw d k)) (λ _. old)) (λ _. old)
+    behind-on j =
+        let old : j < w .passed → getD ss j 0 + f .b ≤ x = λ l. omega (arith, g .walking .behind j l, g .onward) in
+        by-le (suc (w .passed)) (length ss) (λ t. j < cond (t && leb (getD ss (w .passed) 0 + f .b) x) (suc (w .passed)) (w .passed) → getD ss j 0 + f .b ≤ x)
+        (λ l. by-le (getD ss (w .passed) 0 + f .b) x (λ t. j < cond t (suc (w .passed)) (w .passed) → getD ss j 0 + f .b ≤ x)
+        (λ k q. by-le (suc j) (w .passed) (λ _. getD ss j 0 + f .b ≤ x) old (λ r. let d : j ≡ w .passed = omega arith in rw d k)) (λ _. old)) (λ _. old)
 
     ahead-on : passedBy f ss i x < length ss → x < getD ss (passedBy f ss i x) 0 + f .b
     unfolding passedBy i
     ahead-on =
-        by-le (suc (w .burst)) (length ss)
-        (λ t. cond (t && leb (getD ss (w .burst) 0 + f .b) x) (suc (w .burst)) (w .burst) < length ss
-        → x < getD ss (cond (t && leb (getD ss (w .burst) 0 + f .b) x) (suc (w .burst)) (w .burst)) 0 + f .b)
-        (λ l. by-le (getD ss (w .burst) 0 + f .b) x (λ t. cond t (suc (w .burst)) (w .burst) < length ss → x < getD ss (cond t (suc (w .burst)) (w .burst)) 0 + f .b)
-        (λ k q. omega (arith, g .burst-end l, placed-step (f .b) (f .n) 0 (w .burst) ss h q, ok .long)) (λ k _. k)) (λ l q. absurd (omega arith))
+        by-le (suc (w .passed)) (length ss)
+        (λ t. cond (t && leb (getD ss (w .passed) 0 + f .b) x) (suc (w .passed)) (w .passed) < length ss
+        → x < getD ss (cond (t && leb (getD ss (w .passed) 0 + f .b) x) (suc (w .passed)) (w .passed)) 0 + f .b)
+        (λ l. by-le (getD ss (w .passed) 0 + f .b) x (λ t. cond t (suc (w .passed)) (w .passed) < length ss → x < getD ss (cond t (suc (w .passed)) (w .passed)) 0 + f .b)
+        (λ k q. omega (arith, g .burst-end l, placed-step (f .b) (f .n) 0 (w .passed) ss h q, ok .long)) (λ k _. k)) (λ l q. absurd (omega arith))
 
     -- within the block
-    pub come-same : (v : Walk) → v .at ≡ x → v .block ≡ w .block → v .head ≡ w .head → v .edge ≡ w .edge → v .burst ≡ passedBy f ss (w .burst) x → x < w .edge → Come f ss x v
+    pub come-same : (v : Walk) → v .at ≡ x → v .block ≡ w .block → v .head ≡ w .head → v .edge ≡ w .edge → v .passed ≡ passedBy f ss (w .passed) x → x < w .edge → Come f ss x v
     unfolding i
     come-same v a k hd ed b l =
         let s = g .walking in
@@ -124,7 +124,7 @@ module _ (f : Params) (ok : Served f) (ss : List ℕ) (h : Placed (f .b) (f .n) 
                 from = omega (arith, s .from, g .onward);
                 to = omega arith;
                 counted = rw b counted-on;
-                passed = rw (b, a) passed-on;
+                behind = rw (b, a) behind-on;
                 ahead = rw (b, a) ahead-on;
                 clear = inr (rw (hd, k, a) (g .heads l));
               };
@@ -132,7 +132,7 @@ module _ (f : Params) (ok : Served f) (ss : List ℕ) (h : Placed (f .b) (f .n) 
 
     -- at the next block
     pub come-next : (v : Walk) → v .at ≡ x → v .block ≡ suc (w .block) → v .head ≡ x → (suc (w .block) < blocks f → v .edge ≡ headOf f (suc (suc (w .block))))
-        → v .burst ≡ passedBy f ss (w .burst) x → w .edge ≤ x → Come f ss x v
+        → v .passed ≡ passedBy f ss (w .passed) x → w .edge ≤ x → Come f ss x v
     unfolding i
     come-next v a k hd ed b l =
         let s = g .walking in
@@ -152,7 +152,7 @@ module _ (f : Params) (ok : Served f) (ss : List ℕ) (h : Placed (f .b) (f .n) 
                 from = omega arith;
                 to = omega (arith, ed below, up (suc (w .block)));
                 counted = rw b counted-on;
-                passed = rw (b, a) passed-on;
+                behind = rw (b, a) behind-on;
                 ahead = rw (b, a) ahead-on;
                 clear = inl (a ∙ sym hd);
               };
@@ -166,28 +166,28 @@ module _ (f : Params) (ok : Served f) (ss : List ℕ) (h : Placed (f .b) (f .n) 
     at-kind y a b = kind-is f ok ss (w .block) y (s .block-in) (omega (arith, s .head-is, s .from)) (omega (arith, s .edge-is))
 
     -- a position before the next burst
-    free-at : (y : ℕ) → w .at ≤ y → y < nextStart f ss (w .burst) → y < f .n → inBurst (f .b) ss y ≡ false
+    free-at : (y : ℕ) → w .at ≤ y → y < nextStart f ss (w .passed) → y < f .n → inBurst (f .b) ss y ≡ false
     unfolding nextStart
     free-at y a b n =
         burst-free (f .b) y ss (λ j l u v.
-        by-le (suc j) (w .burst) (λ _. ⊥) (λ q. omega (arith, s .passed j q))
-        (λ q. let r : w .burst < length ss = omega arith in
-        omega (arith, placed-grows (f .b) (f .n) 0 (w .burst) j ss h (omega arith) l, rw (leb-holds (suc (w .burst)) (length ss) r) at b)))
+        by-le (suc j) (w .passed) (λ _. ⊥) (λ q. omega (arith, s .behind j q))
+        (λ q. let r : w .passed < length ss = omega arith in
+        omega (arith, placed-grows (f .b) (f .n) 0 (w .passed) j ss h (omega arith) l, rw (leb-holds (suc (w .passed)) (length ss) r) at b)))
 
     -- where there is a next burst, its start is the number's
-    start-at : w .burst < length ss → nextStart f ss (w .burst) ≡ getD ss (w .burst) 0
+    start-at : w .passed < length ss → nextStart f ss (w .passed) ≡ getD ss (w .passed) 0
     unfolding nextStart
-    start-at l = rw (leb-holds (suc (w .burst)) (length ss) l)
+    start-at l = rw (leb-holds (suc (w .passed)) (length ss) l)
 
-    has-next : nextStart f ss (w .burst) ≤ w .at → w .burst < length ss
+    has-next : nextStart f ss (w .passed) ≤ w .at → w .passed < length ss
     unfolding nextStart
     has-next =
-        by-le (suc (w .burst)) (length ss) (λ t. cond t (getD ss (w .burst) 0) (f .n) ≤ w .at → w .burst < length ss) (λ l _. l) (λ _ q. absurd (omega (arith, s .inside)))
+        by-le (suc (w .passed)) (length ss) (λ t. cond t (getD ss (w .passed) 0) (f .n) ≤ w .at → w .passed < length ss) (λ l _. l) (λ _ q. absurd (omega (arith, s .inside)))
 
-    pub start-most : nextStart f ss (w .burst) ≤ f .n
+    pub start-most : nextStart f ss (w .passed) ≤ f .n
     unfolding nextStart
     start-most =
-        by-le (suc (w .burst)) (length ss) (λ t. cond t (getD ss (w .burst) 0) (f .n) ≤ f .n) (λ l. omega (arith, placed-at (f .b) (f .n) 0 (w .burst) ss h l)) (λ _. omega arith)
+        by-le (suc (w .passed)) (length ss) (λ t. cond t (getD ss (w .passed) 0) (f .n) ≤ f .n) (λ l. omega (arith, placed-at (f .b) (f .n) 0 (w .passed) ss h l)) (λ _. omega arith)
 
     pub edge-most : w .edge ≤ f .n
     edge-most =
@@ -207,27 +207,27 @@ module _ (f : Params) (ok : Served f) (ss : List ℕ) (h : Placed (f .b) (f .n) 
 
     -- ---- In a burst
 
-    module _ (l : nextStart f ss (w .burst) ≤ w .at) where
+    module _ (l : nextStart f ss (w .passed) ≤ w .at) where
       -- a block in which the burst ends has no head cells
-      ends-here : nextStart f ss (w .burst) + f .b < w .edge → headCells f ss (w .block) ≡ 0
+      ends-here : nextStart f ss (w .passed) + f .b < w .edge → headCells f ss (w .block) ≡ 0
       unfolding headCells
       ends-here q =
           let n = has-next l in
           let z = start-at n in
-          let last = getD ss (w .burst) 0 + f .b - 1 in
+          let last = getD ss (w .passed) 0 + f .b - 1 in
           let d : blockOf f last ≡ w .block =
           top-only (headOf f) (block-rises (f .n) (parts f) (f .m) (ok .some))
-          (block-with (f .n) (parts f) (f .m) last some-parts (ok .some) (omega (arith, placed-at (f .b) (f .n) 0 (w .burst) ss h n, ok .long)))
+          (block-with (f .n) (parts f) (f .m) last some-parts (ok .some) (omega (arith, placed-at (f .b) (f .n) 0 (w .passed) ss h n, ok .long)))
           (record { below = s .block-in; reach = omega (arith, s .head-is, s .from, s .ahead n); past = omega (arith, s .edge-is, ok .long) }) in
           let b : isBurst f ss (w .block) ≡ true =
-          subst (λ (y : ℕ). isBurst f ss y ≡ true) d (each-at (λ y. isBurst f ss y ≡ true) (λ x. blockOf f (x + f .b - 1)) ss (w .burst) (ends-burst f ok ss) n) in
+          subst (λ (y : ℕ). isBurst f ss y ≡ true) d (each-at (λ y. isBurst f ss y ≡ true) (λ x. blockOf f (x + f .b - 1)) ss (w .passed) (ends-burst f ok ss) n) in
           by-bool (isIndex f ss (w .block)) (λ t. absurd (true≢false (sym b ∙ index-not-burst f ok ss h e (w .block) (s .block-in) t))) (λ t. rw (t, b))
 
-      pub burst-moves : Moving f ss w (min (nextStart f ss (w .burst) + f .b) (w .edge))
+      pub burst-moves : Moving f ss w (min (nextStart f ss (w .passed) + f .b) (w .edge))
       burst-moves =
           let n = has-next l in
           let z = start-at n in
-          let a : w .at < getD ss (w .burst) 0 + f .b = s .ahead n in
+          let a : w .at < getD ss (w .passed) 0 + f .b = s .ahead n in
           record {
             walking = s;
             onward = omega (arith, s .to);
@@ -236,17 +236,17 @@ module _ (f : Params) (ok : Served f) (ss : List ℕ) (h : Placed (f .b) (f .n) 
             heads = λ q. omega (arith, ends-here (omega arith), s .from);
           }
 
-      pub burst-same : (y : ℕ) → w .at ≤ y → y < min (nextStart f ss (w .burst) + f .b) (w .edge) → kindAt f ss y ≡ burst
+      pub burst-same : (y : ℕ) → w .at ≤ y → y < min (nextStart f ss (w .passed) + f .b) (w .edge) → kindAt f ss y ≡ burst
       unfolding cellOf
       burst-same y a b =
           let n = has-next l in
           let z = start-at n in
           at-kind y a (omega arith)
-          ∙ rw (burst-at (f .b) y (w .burst) ss n (omega arith) (omega arith))
+          ∙ rw (burst-at (f .b) y (w .passed) ss n (omega arith) (omega arith))
 
     -- ---- At a block's head
 
-    module _ (l : w .at < nextStart f ss (w .burst)) (hd : w .at ≡ w .head) where
+    module _ (l : w .at < nextStart f ss (w .passed)) (hd : w .at ≡ w .head) where
       -- no burst touches the first 1 + r positions of a block that is none of theirs
       head-free : isBurst f ss (w .block) ≡ false → (y : ℕ) → w .at ≤ y → y < w .at + suc (indexTail f) → inBurst (f .b) ss y ≡ false
       head-free b y a c = head-clear f ok ss h (w .block) y b (omega (arith, s .head-is)) (omega (arith, s .head-is))
@@ -282,9 +282,9 @@ module _ (f : Params) (ok : Served f) (ss : List ℕ) (h : Placed (f .b) (f .n) 
             onward = omega arith;
             edge = omega (arith, head-edge);
             burst-end = λ n.
-                by-le (w .at + suc (indexTail f)) (getD ss (w .burst) 0) (λ _. w .at + indexTail f + 1 ≤ getD ss (w .burst) 0 + f .b) (λ q. omega (arith, ok .long))
-                (λ q. let x = getD ss (w .burst) 0 in
-                absurd (true≢false (sym (burst-at (f .b) x (w .burst) ss n (omega arith) (omega (arith, ok .long))) ∙ head-free (not-burst i) x (omega (arith, start-at n)) (omega arith))));
+                by-le (w .at + suc (indexTail f)) (getD ss (w .passed) 0) (λ _. w .at + indexTail f + 1 ≤ getD ss (w .passed) 0 + f .b) (λ q. omega (arith, ok .long))
+                (λ q. let x = getD ss (w .passed) 0 in
+                absurd (true≢false (sym (burst-at (f .b) x (w .passed) ss n (omega arith) (omega (arith, ok .long))) ∙ head-free (not-burst i) x (omega (arith, start-at n)) (omega arith))));
             heads = λ q. rw i (omega arith);
           }
 
@@ -296,13 +296,13 @@ module _ (f : Params) (ok : Served f) (ss : List ℕ) (h : Placed (f .b) (f .n) 
 
     -- ---- In the message
 
-    module _ (l : w .at < nextStart f ss (w .burst)) (past : w .at ≡ w .head → (isIndex f ss (w .block) ≡ false) × (isBurst f ss (w .block) ≡ true)) where
+    module _ (l : w .at < nextStart f ss (w .passed)) (past : w .at ≡ w .head → (isIndex f ss (w .block) ≡ false) × (isBurst f ss (w .block) ≡ true)) where
       -- the head cells lie behind
       heads-behind : w .head + headCells f ss (w .block) ≤ w .at
       unfolding headCells
       heads-behind = ⊎-elim (λ d. let p = past d in rw (p .0, p .1) (omega arith)) (λ d. d) (s .clear)
 
-      pub message-moves : Moving f ss w (min (nextStart f ss (w .burst)) (w .edge))
+      pub message-moves : Moving f ss w (min (nextStart f ss (w .passed)) (w .edge))
       message-moves =
           record {
             walking = s;
@@ -312,7 +312,7 @@ module _ (f : Params) (ok : Served f) (ss : List ℕ) (h : Placed (f .b) (f .n) 
             heads = λ q. omega (arith, heads-behind);
           }
 
-      pub message-same : (y : ℕ) → w .at ≤ y → y < min (nextStart f ss (w .burst)) (w .edge) → kindAt f ss y ≡ message
+      pub message-same : (y : ℕ) → w .at ≤ y → y < min (nextStart f ss (w .passed)) (w .edge) → kindAt f ss y ≡ message
       unfolding cellOf headCells
       message-same y a c =
           let b = heads-behind in

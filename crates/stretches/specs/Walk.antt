@@ -28,9 +28,9 @@ pub record Walking (f : Params) (ss : List ℕ) (w : Walk) : Type 0 where
   pub edge-is : w .edge ≡ headOf f (suc (w .block))
   pub from : w .head ≤ w .at
   pub to : w .at < w .edge
-  pub counted : w .burst ≤ length ss
-  pub passed : (j : ℕ) → j < w .burst → getD ss j 0 + f .b ≤ w .at
-  pub ahead : w .burst < length ss → w .at < getD ss (w .burst) 0 + f .b
+  pub counted : w .passed ≤ length ss
+  pub behind : (j : ℕ) → j < w .passed → getD ss j 0 + f .b ≤ w .at
+  pub ahead : w .passed < length ss → w .at < getD ss (w .passed) 0 + f .b
   pub clear : (w .at ≡ w .head) ⊎ (w .head + headCells f ss (w .block) ≤ w .at)
 
 -- the walk has come to position x, and goes on where the word does
@@ -59,5 +59,5 @@ pub record Moving (f : Params) (ss : List ℕ) (w : Walk) (x : ℕ) : Type 0 whe
   pub walking : Walking f ss w
   pub onward : w .at < x
   pub edge : x ≤ w .edge
-  pub burst-end : w .burst < length ss → x ≤ getD ss (w .burst) 0 + f .b
+  pub burst-end : w .passed < length ss → x ≤ getD ss (w .passed) 0 + f .b
   pub heads : x < w .edge → w .head + headCells f ss (w .block) ≤ x

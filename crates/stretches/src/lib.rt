@@ -26,7 +26,7 @@ pub struct Walk {
     pub block: usize,
     pub head: usize,
     pub edge: usize,
-    pub burst: usize,
+    pub passed: usize,
 }
 
 // A stretch of cells of one kind, and the walk where it ends.
@@ -45,7 +45,7 @@ pub fn next_stretch(
     requires { ⌜ Placing layout at × KindsOf (figuresOf layout) (startsIn at) (now kinds) × Walking (figuresOf layout) (startsIn at) walk ⌝ }
     ensures { λ r. ⌜ Stretches (figuresOf layout) (startsIn at) walk r ⌝ }
 {
-    let stop = next_start(layout, at, walk.burst);
+    let stop = next_start(layout, at, walk.passed);
     if stop <= walk.at {
         return Stretch {
             kind: BURST_CELL,
@@ -83,7 +83,7 @@ pub fn walk_from_start(layout: Layout, at: Placement) -> Walk
         block: 0,
         head: 0,
         edge: layout.block_head(1),
-        burst: 0,
+        passed: 0,
     }
 }
 
@@ -104,14 +104,14 @@ fn moved(layout: Layout, at: Placement, walk: Walk, to: usize) -> Walk
     requires { ⌜ Placing layout at × Moving (figuresOf layout) (startsIn at) walk to ⌝ }
     ensures { λ r. ⌜ Come (figuresOf layout) (startsIn at) to r ⌝ }
 {
-    let burst = passed(layout, at, walk.burst, to);
+    let passed = passed_at(layout, at, walk.passed, to);
     if to < walk.edge {
         return Walk {
             at: to,
             block: walk.block,
             head: walk.head,
             edge: walk.edge,
-            burst,
+            passed,
         };
     }
     let block = walk.block + 1;
@@ -120,12 +120,12 @@ fn moved(layout: Layout, at: Placement, walk: Walk, to: usize) -> Walk
         block,
         head: to,
         edge: edge_of(layout, block),
-        burst,
+        passed,
     }
 }
 
 // How many bursts lie wholly before a position, where all before this number do and none behind it does.
-fn passed(layout: Layout, at: Placement, burst: usize, to: usize) -> usize
+fn passed_at(layout: Layout, at: Placement, burst: usize, to: usize) -> usize
     requires { ⌜ Placing layout at ⌝ }
     ensures { λ r. ⌜ r ≡ passedBy (figuresOf layout) (startsIn at) burst to ⌝ }
 {

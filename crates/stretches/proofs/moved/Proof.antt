@@ -11,8 +11,8 @@ use Rattle.stretches.proofs.Walking.{come-same, come-next}
 use Rattle.stretches.proofs.moved.Statement.{statement}
 use Rattle.stretches.proofs.moved.Tie as tie
 
-passed-requires : tie.Need-passed-requires
-passed-requires c κs = search needs
+passed-at-requires : tie.Need-passed-at-requires
+passed-at-requires c κs = search needs
 
 returns : tie.Need-returns
 returns c =
@@ -21,7 +21,7 @@ returns c =
     let at = s .args .at in
     let g = s .pre .0 in
     come-same (figuresOf l) (served l (g .layout)) (startsIn at) (starts-placed l at g) (starts-count l at g) (s .args .walk) (s .args .to) (s .pre .1) _ refl refl refl refl
-    (c .before .before .passed .ensures) (c .if1 .taken)
+    (c .before .before .passed-at .ensures) (c .if1 .taken)
 
 add-block : tie.Need-add-block
 add-block c =
@@ -41,7 +41,7 @@ returns-2 c =
     let g = s .pre .0 in
     let one = add-one (s .args .walk .block) in
     come-next (figuresOf l) (served l (g .layout)) (startsIn at) (starts-placed l at g) (starts-count l at g) (s .args .walk) (s .args .to) (s .pre .1) _ refl one refl
-    (rw one at (c .edge-of .ensures)) (c .before .before .before .before .passed .ensures) (c .before .before .if1 .left)
+    (rw one at (c .edge-of .ensures)) (c .before .before .before .before .passed-at .ensures) (c .before .before .if1 .left)
 
 pub moved-spec : {M : Type 1} → statement M
-moved-spec = tie.close (tie.spec passed-requires returns add-block edge-of-requires returns-2)
+moved-spec = tie.close (tie.spec passed-at-requires returns add-block edge-of-requires returns-2)

@@ -88,8 +88,8 @@ returns : tie.Need-returns
 returns c =
     let s = c .before .before .before .before .before .before in
     let z = c .before .before .before .before .before .next-start .ensures in
-    let l : nextStart (f s) (ss s) (w s .burst) ≤ w s .at = omega arith in
-    let d : c .before .least .result ≡ min (nextStart (f s) (ss s) (w s .burst) + f s .b) (w s .edge) = rw (← z) (c .before .least .ensures) in
+    let l : nextStart (f s) (ss s) (w s .passed) ≤ w s .at = omega arith in
+    let d : c .before .least .result ≡ min (nextStart (f s) (ss s) (w s .passed) + f s .b) (w s .edge) = rw (← z) (c .before .least .ensures) in
     stretched (f s) (ok s) (ss s) (placed s) (count s) (w s) (s .pre .2) (c .before .least .result) 0 (c .moved .result) (omega arith) (rw d (burst-moves (f s) (ok s) (ss s) (placed s) (count s) (w s) (s .pre .2) l)) (rw d (burst-same (f s) (ok s) (ss s) (placed s) (count s) (w s) (s .pre .2) l)) (c .moved .ensures)
 
 element-copy-out-if3 : tie.Need-element-copy-out-if3
@@ -109,7 +109,7 @@ returns-2 : tie.Need-returns-2
 returns-2 c =
     let s = c .before .before .before .before .before .before .before .before .before in
     let z = c .before .before .before .before .before .before .before .before .next-start .ensures in
-    let l : w s .at < nextStart (f s) (ss s) (w s .burst) = omega arith in
+    let l : w s .at < nextStart (f s) (ss s) (w s .passed) = omega arith in
     let h = c .before .before .before .before .if2 .taken in
     let k = fixed-kind (isIndex (f s) (ss s) (w s .block)) (isBurst (f s) (ss s) (w s .block)) (sym (kind-at s) ∙ c .before .before .if3 .taken) in
     stretched (f s) (ok s) (ss s) (placed s) (count s) (w s) (s .pre .2) (w s .at + 1) 1 (c .moved2 .result) (omega arith) (fixed-moves (f s) (ok s) (ss s) (placed s) (count s) (w s) (s .pre .2) l h (k .0) (k .1)) (fixed-same (f s) (ok s) (ss s) (placed s) (count s) (w s) (s .pre .2) l h (k .0) (k .1)) (c .moved2 .ensures)
@@ -138,7 +138,7 @@ returns-3 : tie.Need-returns-3
 returns-3 c =
     let s = c .before .before .before .before .before .before .before .before .before .before .before .before in
     let z = c .before .before .before .before .before .before .before .before .before .before .before .next-start .ensures in
-    let l : w s .at < nextStart (f s) (ss s) (w s .burst) = omega (arith, c .before .before .before .before .before .before .before .before .before .if1 .left) in
+    let l : w s .at < nextStart (f s) (ss s) (w s .passed) = omega (arith, c .before .before .before .before .before .before .before .before .before .if1 .left) in
     let h = c .before .before .before .before .before .before .before .if2 .taken in
     let k = index-kind (isIndex (f s) (ss s) (w s .block)) (isBurst (f s) (ss s) (w s .block)) (sym (kind-at s) ∙ c .before .before .before .if4 .taken) in
     stretched (f s) (ok s) (ss s) (placed s) (count s) (w s) (s .pre .2) (w s .at + indexTail (f s) + 1) 2 (c .moved3 .result) (omega arith) (digit-moves (f s) (ok s) (ss s) (placed s) (count s) (w s) (s .pre .2) l h k) (digit-same (f s) (ok s) (ss s) (placed s) (count s) (w s) (s .pre .2) l h k) (rw (s .pre .0 .layout .laid .tail-is) at (c .moved3 .ensures))
@@ -156,8 +156,8 @@ returns-4 : tie.Need-returns-4
 returns-4 c =
     let s = c .before .before .before .before .before .before .before in
     let z = c .before .before .before .before .before .before .next-start .ensures in
-    let l : w s .at < nextStart (f s) (ss s) (w s .burst) = omega arith in
-    let d : c .before .least2 .result ≡ min (nextStart (f s) (ss s) (w s .burst)) (w s .edge) = rw (← z) (c .before .least2 .ensures) in
+    let l : w s .at < nextStart (f s) (ss s) (w s .passed) = omega arith in
+    let d : c .before .least2 .result ≡ min (nextStart (f s) (ss s) (w s .passed)) (w s .edge) = rw (← z) (c .before .least2 .ensures) in
     stretched (f s) (ok s) (ss s) (placed s) (count s) (w s) (s .pre .2) (c .before .least2 .result) 3 (c .moved4 .result) (omega arith) (rw d (message-moves (f s) (ok s) (ss s) (placed s) (count s) (w s) (s .pre .2) l (past (c .before .before)))) (rw d (message-same (f s) (ok s) (ss s) (placed s) (count s) (w s) (s .pre .2) l (past (c .before .before)))) (c .moved4 .ensures)
 
 pub next-stretch-spec : {M : Type 1} → statement M

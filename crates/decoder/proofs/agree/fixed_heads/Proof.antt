@@ -8,6 +8,7 @@ use borrow.Author.Needs.{needs}
 use borrow.Author.Tests.{not-true, not-false}
 use lib.ListN.{length}
 use Rattle.combinatorics.specs.Stretch.{has}
+use Rattle.combinatorics.proofs.Stretch.{has-start, has-here, has-on, has-over}
 use Rattle.cells.specs.Cut.{blockHead}
 use Rattle.construction_a.specs.Figures.{blocks as blocksOf}
 use Rattle.construction_a.specs.Reading.{looksFixed}
@@ -17,7 +18,7 @@ use Rattle.params.specs.Given.{figuresOf}
 use Rattle.blocks.specs.Blocks.{fixedKind}
 use Rattle.heads.proofs.Looking.{part-length, stretch-looks}
 use Rattle.decoder.specs.Reader.{ofKind}
-use Rattle.decoder.proofs.Agreeing.{marked, unmarked, has-start, has-here, has-on, has-over}
+use Rattle.decoder.proofs.Agreeing.{marked, unmarked}
 use Rattle.decoder.proofs.agree.fixed_heads.Statement.{statement}
 use Rattle.decoder.proofs.agree.fixed_heads.Tie as tie
 
@@ -47,7 +48,7 @@ mul-blocks : tie.Need-mul-blocks Inv-loop μ-loop
 mul-blocks c = omega (arith, bound (c .before .before .args .layout) (c .before .before .pre .layout))
 
 loop-holds : tie.Need-loop-holds Inv-loop μ-loop
-loop-holds c = (omega arith, refl, has-start (c .before .before .args .layout .parts * c .before .before .args .layout .m) 0 (Off (c .before .before)))
+loop-holds c = (omega arith, refl, has-start (c .before .before .args .layout .parts * c .before .before .args .layout .m) (Off (c .before .before)))
 
 element-copy-out-if1 : tie.Need-element-copy-out-if1 Inv-loop μ-loop
 element-copy-out-if1 c = omega (arith, bound (c .before .before .before .before .args .layout) (c .before .before .before .before .pre .layout))

@@ -2,11 +2,11 @@
 use mathlib.Core.Path.{_≡_, sym, _∙_, subst}
 use Prim.Native.Nat.{ℕ, _+_, _-_, _≤_}
 use native.Mathlib.Omega.{arith}
-use lib.ListN.{length, drop, length-drop}
+use lib.ListN.{length, take, drop, length-drop}
 use lib.Seq.{length-take-le}
 use Rattle.combinatorics.specs.Stretch.{tabulate}
 use Rattle.cells.specs.Cells.{Cell, message as messageCell}
-use Rattle.cells.proofs.Walk.{tally, tally-count}
+use Rattle.cells.proofs.Walk.{tally, tally-count, rest-is}
 use Rattle.construction_a.specs.Figures.{Params, messageLen}
 use Rattle.construction_a.specs.Writing.{kindAt, plan}
 use Rattle.construction_a.proofs.Figures.{Served}
@@ -61,6 +61,16 @@ room c =
     let kind = c .before .before .before .next-stretch .result .kind in
     omega (arith, t .inv .2 .size, taken-room (s .args .layout .n) (messageLen (f s)) (kd s) (s .args .word .now) (whole s) (all s) (t .here .at) to kind (t .taken) (t .message) (t .inv .2) (omega (arith, st .onward)) (st .within) (st .same) (c .if2 .taken))
 
+-- and that stretch of the buffer is as long
+part-size : (c : tie.Then2 Inv-loop μ-loop)
+    → let t = c .before .before .before .before .before .before .before .loop in
+    let to = c .before .before .before .next-stretch .result .next .at in
+    length (take (t .taken + (to - t .here .at) - t .taken) (drop (t .taken) (t .message))) ≡ to - t .here .at
+part-size c =
+    let t = c .before .before .before .before .before .before .before .loop in
+    let to = c .before .before .before .next-stretch .result .next .at in
+    length-take-le (t .taken + (to - t .here .at) - t .taken) (drop (t .taken) (t .message)) (omega (arith, length-drop (t .taken) (t .message), room c)) ∙ omega arith
+
 walk-from-start-requires : tie.Need-walk-from-start-requires Inv-loop μ-loop
 walk-from-start-requires c κs = c .before .before .pre .0 .placing
 
@@ -88,35 +98,30 @@ add-end : tie.Need-add-end Inv-loop μ-loop
 unfolding messageLen
 add-end c = omega (arith, room c, c .before .before .before .before .before .before .before .loop .inv .2 .size, ok (c .before .before .before .before .before .before .before .before .before .before .before) .range .n-most)
 
-sub-copy : tie.Need-sub-copy Inv-loop μ-loop
-sub-copy c = omega (arith, room c)
+sub-copy-prefix : tie.Need-sub-copy-prefix Inv-loop μ-loop
+sub-copy-prefix c = omega (arith, room c)
 
-part-copy-start : tie.Need-part-copy-start Inv-loop μ-loop
-part-copy-start c = omega (arith, room c)
+part-copy-prefix-start : tie.Need-part-copy-prefix-start Inv-loop μ-loop
+part-copy-prefix-start c = omega (arith, room c)
 
-part-copy-end : tie.Need-part-copy-end Inv-loop μ-loop
-part-copy-end c = omega (arith, room c)
+part-copy-prefix-end : tie.Need-part-copy-prefix-end Inv-loop μ-loop
+part-copy-prefix-end c = omega (arith, room c)
 
-sub-copy-2 : tie.Need-sub-copy-2 Inv-loop μ-loop
-sub-copy-2 c = omega (arith, c .before .before .before .before .next-stretch .ensures .onward)
+sub-copy-prefix-2 : tie.Need-sub-copy-prefix-2 Inv-loop μ-loop
+sub-copy-prefix-2 c = omega (arith, whole (c .before .before .before .before .before .before .before .before .before .before .before .before))
 
-part-copy-start-2 : tie.Need-part-copy-start-2 Inv-loop μ-loop
-part-copy-start-2 c = omega (arith, c .before .before .before .before .next-stretch .ensures .onward)
+part-copy-prefix-start-2 : tie.Need-part-copy-prefix-start-2 Inv-loop μ-loop
+part-copy-prefix-start-2 c = omega (arith, whole (c .before .before .before .before .before .before .before .before .before .before .before .before))
 
-part-copy-end-2 : tie.Need-part-copy-end-2 Inv-loop μ-loop
-part-copy-end-2 c = omega (arith, c .before .before .before .before .next-stretch .ensures .within, whole (c .before .before .before .before .before .before .before .before .before .before .before .before))
+part-copy-prefix-end-2 : tie.Need-part-copy-prefix-end-2 Inv-loop μ-loop
+part-copy-prefix-end-2 c = omega arith
 
-copy-requires : tie.Need-copy-requires Inv-loop μ-loop
-copy-requires c κs =
+copy-prefix-requires : tie.Need-copy-prefix-requires Inv-loop μ-loop
+copy-prefix-requires c κs =
     let s = c .before .before .before .before .before .before .before .before .before .before .before .before .before in
     let t = c .before .before .before .before .before .before .before .before .before .loop in
-    let st = c .before .before .before .before .before .next-stretch .ensures in
-    let to = c .before .before .before .before .before .next-stretch .result .next .at in
-    let kind = c .before .before .before .before .before .next-stretch .result .kind in
     let w = s .args .word .now in
-    let n : t .taken + (to - t .here .at) - t .taken ≡ to - t .here .at = omega arith in
-    rw n (length-take-le (to - t .here .at) (drop (t .taken) (t .message)) (omega (arith, length-drop (t .taken) (t .message), room (c .before .before)))
-    ∙ sym (length-take-le (to - t .here .at) (drop (t .here .at) w) (omega (arith, length-drop (t .here .at) w, st .within, whole s))))
+    rw (part-size (c .before .before), rest-is (t .here .at) w) (omega (arith, length-drop (t .here .at) w, c .before .before .before .before .before .next-stretch .ensures .within, whole s))
 
 loop-less : tie.Need-loop-less Inv-loop μ-loop
 loop-less c = omega (arith, c .before .before .before .before .before .before .before .before .next-stretch .ensures .onward, c .before .before .before .before .before .before .before .before .next-stretch .ensures .within)
@@ -132,7 +137,7 @@ loop-again c =
     let end = t .taken + (to - x) in (
       st .within,
       st .come,
-      rw (c .before .before .copy .ensures)
+      rw (c .before .before .copy-prefix .ensures, part-size (c .before .before .before .before .before), rest-is x (s .args .word .now))
           (taken-turn (s .args .layout .n) (messageLen (f s)) (kd s) (s .args .word .now) (whole s) (all s) x to kind (t .taken) (t .message) (t .inv .2) (omega (arith, st .onward)) (st .within) (st .same) (c .before .before .before .before .before .if2 .taken) end (omega arith)),
     )
 
@@ -171,13 +176,13 @@ take-message-spec =
     next-stretch-requires
     sub-end
     add-end
-    sub-copy
-    part-copy-start
-    part-copy-end
-    sub-copy-2
-    part-copy-start-2
-    part-copy-end-2
-    copy-requires
+    sub-copy-prefix
+    part-copy-prefix-start
+    part-copy-prefix-end
+    sub-copy-prefix-2
+    part-copy-prefix-start-2
+    part-copy-prefix-end-2
+    copy-prefix-requires
     loop-less
     loop-again
     loop-less-2

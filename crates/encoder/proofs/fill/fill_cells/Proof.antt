@@ -1,6 +1,6 @@
 -- `fill_cells` meets its contract: the cells before the walk are filled. Assumes nothing.
 use mathlib.Core.Path.{_≡_, sym, _∙_, subst}
-use Prim.Native.Nat.{ℕ, _-_, _≤_}
+use Prim.Native.Nat.{ℕ, _+_, _-_, _≤_}
 use native.Mathlib.Omega.{arith}
 use borrow.Author.Needs.{needs}
 use lib.ListN.{length}
@@ -15,7 +15,7 @@ use Rattle.params.specs.Given.{figuresOf}
 use Rattle.stretches.specs.Walk.{Come}
 use Rattle.params.proofs.Fitting.{served}
 use Rattle.placements.proofs.Placing.{starts-placed, starts-count}
-use Rattle.encoder.proofs.Filling.{Filled, filled-start, filled-done, spelled-most, part-enough, part-asks, part-turn, tally-most, digits-all, messages-all}
+use Rattle.encoder.proofs.Filling.{Filled, filled-start, filled-done, so-far-most, spelled-most, part-asks, part-turn, digits-all, messages-all}
 use Rattle.encoder.proofs.fill.fill_cells.Statement.{statement}
 use Rattle.encoder.proofs.fill.fill_cells.Tie as tie
 
@@ -47,8 +47,25 @@ all-message : (s : Start) → tally messageCell (tabulate (s .args .layout .n) 0
 all-message s =
     omega (arith, s .pre .0 .sent, messages-all (f s) (ok s) (startsIn (s .args .at)) (starts-placed (s .args .layout) (s .args .at) (s .pre .0 .placing)) (starts-count (s .args .layout) (s .args .at) (s .pre .0 .placing)))
 
-short : (s : Start) → s .args .layout .n ≤ maxWord
-short s = ok s .range .n-most
+-- so many digits, and so much of the message, are stored
+so-far : (c : tie.Then1 Inv-loop μ-loop) → (c .before .before .before .loop .spelled ≤ length (c .before .before .before .before .before .before .before .before .args .digits .now)) × (c .before .before .before .loop .sent ≤ length (c .before .before .before .before .before .before .before .before .args .message .now))
+so-far c =
+    let s = c .before .before .before .before .before .before .before .before in
+    let l = c .before .before .before .loop in
+    so-far-most (s .args .layout .n) (kd s) (s .args .digits .now) (s .args .message .now) (l .here .at) (l .spelled) (l .sent) (l .word) (l .inv .2) (l .inv .0) (all-digits s) (all-message s)
+
+-- and a stretch more stays below the largest word
+room : (c : tie.After-next-stretch Inv-loop μ-loop)
+    → let l = c .before .before .before .before .loop in
+    let len = c .next-stretch .result .next .at - l .here .at in
+    (l .spelled + len ≤ maxWord) × (l .sent + len ≤ maxWord)
+room c =
+    let s = c .before .before .before .before .before .before .before .before .before in
+    let l = c .before .before .before .before .loop in
+    let st = c .next-stretch .ensures in
+    let most = spelled-most (s .args .layout .n) (kd s) (s .args .digits .now) (s .args .message .now) (l .here .at) (l .spelled) (l .sent) (l .word) (l .inv .2) in
+    let n-most = ok s .range .n-most in
+    (omega (arith, st .onward, st .within, n-most, most .0), omega (arith, st .onward, st .within, n-most, most .1))
 
 walk-from-start-requires : tie.Need-walk-from-start-requires Inv-loop μ-loop
 walk-from-start-requires c κs = c .before .before .before .pre .0 .placing
@@ -79,47 +96,19 @@ part-fill-stretch-end : tie.Need-part-fill-stretch-end Inv-loop μ-loop
 part-fill-stretch-end c = omega (arith, c .before .next-stretch .ensures .within, c .before .before .before .before .before .loop .inv .2 .size)
 
 sub-fill-stretch-2 : tie.Need-sub-fill-stretch-2 Inv-loop μ-loop
-sub-fill-stretch-2 c =
-    let s = c .before .before .before .before .before .before .before .before .before .before .before in
-    let l = c .before .before .before .before .before .before .loop in
-    let st = c .before .before .next-stretch .ensures in
-    let n = s .args .layout .n in
-    let ds = s .args .digits .now in
-    let ms = s .args .message .now in
-    omega (arith, l .inv .2 .digits, tally-most n (kd s) ds ms digit (l .here .at) (l .inv .0), all-digits s)
+sub-fill-stretch-2 c = so-far (c .before .before .before) .0
 
 part-fill-stretch-start-2 : tie.Need-part-fill-stretch-start-2 Inv-loop μ-loop
-part-fill-stretch-start-2 c =
-    let s = c .before .before .before .before .before .before .before .before .before .before .before in
-    let l = c .before .before .before .before .before .before .loop in
-    let st = c .before .before .next-stretch .ensures in
-    let n = s .args .layout .n in
-    let ds = s .args .digits .now in
-    let ms = s .args .message .now in
-    omega (arith, l .inv .2 .digits, tally-most n (kd s) ds ms digit (l .here .at) (l .inv .0), all-digits s)
+part-fill-stretch-start-2 c = so-far (c .before .before .before) .0
 
 part-fill-stretch-end-2 : tie.Need-part-fill-stretch-end-2 Inv-loop μ-loop
 part-fill-stretch-end-2 c = search needs
 
 sub-fill-stretch-3 : tie.Need-sub-fill-stretch-3 Inv-loop μ-loop
-sub-fill-stretch-3 c =
-    let s = c .before .before .before .before .before .before .before .before .before .before .before .before in
-    let l = c .before .before .before .before .before .before .before .loop in
-    let st = c .before .before .before .next-stretch .ensures in
-    let n = s .args .layout .n in
-    let ds = s .args .digits .now in
-    let ms = s .args .message .now in
-    omega (arith, l .inv .2 .message, tally-most n (kd s) ds ms messageCell (l .here .at) (l .inv .0), all-message s)
+sub-fill-stretch-3 c = so-far (c .before .before .before .before) .1
 
 part-fill-stretch-start-3 : tie.Need-part-fill-stretch-start-3 Inv-loop μ-loop
-part-fill-stretch-start-3 c =
-    let s = c .before .before .before .before .before .before .before .before .before .before .before .before in
-    let l = c .before .before .before .before .before .before .before .loop in
-    let st = c .before .before .before .next-stretch .ensures in
-    let n = s .args .layout .n in
-    let ds = s .args .digits .now in
-    let ms = s .args .message .now in
-    omega (arith, l .inv .2 .message, tally-most n (kd s) ds ms messageCell (l .here .at) (l .inv .0), all-message s)
+part-fill-stretch-start-3 c = so-far (c .before .before .before .before) .1
 
 part-fill-stretch-end-3 : tie.Need-part-fill-stretch-end-3 Inv-loop μ-loop
 part-fill-stretch-end-3 c = search needs
@@ -129,39 +118,20 @@ fill-stretch-requires c κs =
     let s = c .before .before .before .before .before .before .before .before .before .before .before .before .before in
     let l = c .before .before .before .before .before .before .before .before .loop in
     let st = c .before .before .before .before .next-stretch .ensures in
-    let n = s .args .layout .n in
-    let ds = s .args .digits .now in
-    let ms = s .args .message .now in
-    let to = c .before .before .before .before .next-stretch .result .next .at in
-    let kind = c .before .before .before .before .next-stretch .result .kind in
-    let some = part-enough n (kd s) ds ms (l .here .at) to kind (l .spelled) (l .sent) (l .word) (l .inv .2) (omega (arith, st .onward)) (st .within) (st .same) (all-digits s) (all-message s) in
-    part-asks n (kd s) ds ms (l .here .at) to kind (l .spelled) (l .sent) (l .word) (l .inv .2) (omega (arith, st .onward)) (st .within) some
+    let stretch = c .before .before .before .before .next-stretch .result in
+    part-asks (s .args .layout .n) (kd s) (s .args .digits .now) (s .args .message .now) (l .here .at) (stretch .next .at) (stretch .kind) (l .spelled) (l .sent) (l .word) (l .inv .2) (omega (arith, st .onward)) (st .within) (st .same) (all-digits s) (all-message s)
 
 sub-taken : tie.Need-sub-taken Inv-loop μ-loop
 sub-taken c = omega (arith, c .before .before .before .before .before .before .before .next-stretch .ensures .onward)
 
 taken-requires : tie.Need-taken-requires Inv-loop μ-loop
-taken-requires c κs =
-    let s = c .before .before .before .before .before .before .before .before .before .before .before .before .before .before .before .before in
-    let l = c .before .before .before .before .before .before .before .before .before .before .before .loop in
-    let st = c .before .before .before .before .before .before .before .next-stretch .ensures in
-    let n = s .args .layout .n in
-    let ds = s .args .digits .now in
-    let ms = s .args .message .now in
-    omega (arith, st .onward, st .within, short s, spelled-most n (kd s) ds ms (l .here .at) (l .spelled) (l .sent) (l .word) (l .inv .2) .0)
+taken-requires c κs = room (c .before .before .before .before .before .before .before) .0
 
 sub-taken-2 : tie.Need-sub-taken-2 Inv-loop μ-loop
 sub-taken-2 c = omega (arith, c .before .before .before .before .before .before .before .before .next-stretch .ensures .onward)
 
 taken-requires-2 : tie.Need-taken-requires-2 Inv-loop μ-loop
-taken-requires-2 c κs =
-    let s = c .before .before .before .before .before .before .before .before .before .before .before .before .before .before .before .before .before in
-    let l = c .before .before .before .before .before .before .before .before .before .before .before .before .loop in
-    let st = c .before .before .before .before .before .before .before .before .next-stretch .ensures in
-    let n = s .args .layout .n in
-    let ds = s .args .digits .now in
-    let ms = s .args .message .now in
-    omega (arith, st .onward, st .within, short s, spelled-most n (kd s) ds ms (l .here .at) (l .spelled) (l .sent) (l .word) (l .inv .2) .1)
+taken-requires-2 c κs = room (c .before .before .before .before .before .before .before .before) .1
 
 loop-less : tie.Need-loop-less Inv-loop μ-loop
 loop-less c = omega (arith, c .before .before .before .before .before .before .before .before .before .next-stretch .ensures .onward, c .before .before .before .before .before .before .before .before .before .next-stretch .ensures .within)
@@ -171,16 +141,11 @@ loop-again c =
     let s = c .before .before .before .before .before .before .before .before .before .before .before .before .before .before .before .before .before .before in
     let l = c .before .before .before .before .before .before .before .before .before .before .before .before .before .loop in
     let st = c .before .before .before .before .before .before .before .before .before .next-stretch .ensures in
-    let n = s .args .layout .n in
-    let ds = s .args .digits .now in
-    let ms = s .args .message .now in
-    let to = c .before .before .before .before .before .before .before .before .before .next-stretch .result .next .at in
-    let kind = c .before .before .before .before .before .before .before .before .before .next-stretch .result .kind in
-    let some = part-enough n (kd s) ds ms (l .here .at) to kind (l .spelled) (l .sent) (l .word) (l .inv .2) (omega (arith, st .onward)) (st .within) (st .same) (all-digits s) (all-message s) in (
+    let stretch = c .before .before .before .before .before .before .before .before .before .next-stretch .result in (
       st .within,
       st .come,
-      part-turn n (kd s) ds ms (l .here .at) to kind (l .spelled) (l .sent) (c .before .taken .result) (c .taken2 .result) (l .word) (c .before .before .before .before .fill-stretch .last .0) (l .inv .2) (omega (arith, st .onward)) (st .within) (st .same) (st .named) some
-          (c .before .before .before .before .fill-stretch .ensures) (c .before .taken .ensures) (c .taken2 .ensures),
+      part-turn (s .args .layout .n) (kd s) (s .args .digits .now) (s .args .message .now) (l .here .at) (stretch .next .at) (stretch .kind) (l .spelled) (l .sent) (l .word) (l .inv .2) (omega (arith, st .onward)) (st .within) (st .same) (all-digits s) (all-message s)
+          (c .before .taken .result) (c .taken2 .result) (c .before .before .before .before .fill-stretch .last .0) (st .named) (c .before .before .before .before .fill-stretch .ensures) (c .before .taken .ensures) (c .taken2 .ensures),
     )
 
 same-length : tie.Need-same-length Inv-loop μ-loop

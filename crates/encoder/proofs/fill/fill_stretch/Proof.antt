@@ -11,14 +11,14 @@ use Rattle.encoder.proofs.fill.fill_stretch.Tie as tie
 clear-requires : tie.Need-clear-requires
 clear-requires c κs = search needs
 
-copy-next-requires : tie.Need-copy-next-requires
-copy-next-requires c κs =
+copy-prefix-requires : tie.Need-copy-prefix-requires
+copy-prefix-requires c κs =
     let s = c .before .before .before .before .before .before in
     let a = s .args in
     subst (λ (k : Cell). Enough k (length (a .stretch .now)) (a .digits .now) (a .message .now)) (is-digit (a .kind) (c .before .if2 .taken)) (s .pre)
 
-copy-next-requires-2 : tie.Need-copy-next-requires-2
-copy-next-requires-2 c κs =
+copy-prefix-requires-2 : tie.Need-copy-prefix-requires-2
+copy-prefix-requires-2 c κs =
     let s = c .before .before .before .before .before .before in
     let a = s .args in
     subst (λ (k : Cell). Enough k (length (a .stretch .now)) (a .digits .now) (a .message .now)) (is-message (a .kind) (omega arith) (c .before .if2 .left)) (s .pre)
@@ -37,7 +37,7 @@ same-length-2 c = search needs
 returns-2 : tie.Need-returns-2
 returns-2 c =
     let a = c .before .before .before .before .before .before .before .before .before .args in
-    c .before .before .copy-next .ensures
+    c .before .before .copy-prefix .ensures
     ∙ sym (ap (λ (k : Cell). content k (length (a .stretch .now)) (a .digits .now) (a .message .now)) (is-digit (a .kind) (c .before .before .before .before .if2 .taken)))
 
 same-length-3 : tie.Need-same-length-3
@@ -46,7 +46,7 @@ same-length-3 c = search needs
 returns-3 : tie.Need-returns-3
 returns-3 c =
     let a = c .before .before .before .before .before .before .before .before .before .args in
-    c .before .before .copy-next2 .ensures
+    c .before .before .copy-prefix2 .ensures
     ∙ sym (ap (λ (k : Cell). content k (length (a .stretch .now)) (a .digits .now) (a .message .now)) (is-message (a .kind) (omega arith) (c .before .before .before .before .if2 .left)))
 
 pub fill-stretch-spec : {M : Type 1} → statement M
@@ -54,8 +54,8 @@ fill-stretch-spec =
     tie.close
     (tie.spec
     clear-requires
-    copy-next-requires
-    copy-next-requires-2
+    copy-prefix-requires
+    copy-prefix-requires-2
     same-length
     returns
     same-length-2

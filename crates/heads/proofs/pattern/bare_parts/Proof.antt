@@ -11,13 +11,13 @@ use Rattle.combinatorics.proofs.Cases.{eqb-same, eqb-other}
 use Rattle.construction_a.specs.Writing.{row}
 use Rattle.construction_a.specs.Reading.{openBlocks, bareParts}
 use Rattle.heads.specs.Looks.{looksIn}
-use Rattle.heads.specs.Patterns.{heldOf}
-use Rattle.heads.proofs.Listed.{part-fits, held-few, held-in, held-out, count-is, bare-is}
+use Rattle.heads.specs.Patterns.{candidatesOf}
+use Rattle.heads.proofs.Listed.{part-fits, candidates-few, candidates-in, candidates-out, count-is, bare-is}
 use Rattle.heads.proofs.pattern.bare_parts.Statement.{statement}
 use Rattle.heads.proofs.pattern.bare_parts.Tie as tie
 
 abbrev Inv-loop : tie.InvT-loop
-Inv-loop looks parts m bare₀ i₀ bare i = (i ≤ parts) × (bare ≡ heldOf (members i 0 (λ x. not (has m 0 (row m (looksIn looks) x)))))
+Inv-loop looks parts m bare₀ i₀ bare i = (i ≤ parts) × (bare ≡ candidatesOf (members i 0 (λ x. not (has m 0 (row m (looksIn looks) x)))))
 
 abbrev μ-loop : tie.MeasureT-loop
 μ-loop looks parts m bare₀ i₀ bare i = parts - i
@@ -38,7 +38,7 @@ with-next-requires : tie.Need-with-next-requires Inv-loop μ-loop
 with-next-requires c κs =
     let t = c .before .before .before .before .loop in
     let a = c .before .before .before .before .before .before .args in
-    omega (arith, held-few (t .bare) (t .i) (λ x. not (has (a .m) 0 (row (a .m) (looksIn (a .looks)) x))) (t .inv .1), c .before .before .before .before .before .before .pre .few-parts)
+    omega (arith, candidates-few (t .bare) (t .i) (λ x. not (has (a .m) 0 (row (a .m) (looksIn (a .looks)) x))) (t .inv .1), c .before .before .before .before .before .before .pre .few-parts)
 
 add-i : tie.Need-add-i Inv-loop μ-loop
 add-i c = search needs
@@ -55,8 +55,8 @@ loop-again c =
     let shown = openBlocks (a .m) looks (t .i) in
     let n = count-is (c .before .before .open-blocks .result) shown (c .before .before .open-blocks .ensures) in
     ⊎-elim
-    (λ u. (omega arith, u .2 ∙ u .1 .ensures (members (t .i) 0 w) (t .inv .1) ∙ held-in (t .i) w (bare-is (a .m) (t .i) looks ∙ eqb-same (length shown) (a .m) (sym n ∙ u .0 .taken))))
-    (λ u. (omega arith, u .1 ∙ held-out (t .bare) (t .i) w (t .inv .1) (bare-is (a .m) (t .i) looks ∙ eqb-other (length shown) (a .m) (λ z. u .0 .left (n ∙ z)))))
+    (λ u. (omega arith, u .2 ∙ u .1 .ensures (members (t .i) 0 w) (t .inv .1) ∙ candidates-in (t .i) w (bare-is (a .m) (t .i) looks ∙ eqb-same (length shown) (a .m) (sym n ∙ u .0 .taken))))
+    (λ u. (omega arith, u .1 ∙ candidates-out (t .bare) (t .i) w (t .inv .1) (bare-is (a .m) (t .i) looks ∙ eqb-other (length shown) (a .m) (λ z. u .0 .left (n ∙ z)))))
     (c .if1 .came)
 
 returns : tie.Need-returns Inv-loop μ-loop
@@ -65,7 +65,7 @@ returns c =
     let t = c .before .loop in
     let a = c .before .before .before .args in
     let e : t .i ≡ a .parts = omega arith in
-    t .inv .1 ∙ ap (λ (y : ℕ). heldOf (members y 0 (λ x. not (has (a .m) 0 (row (a .m) (looksIn (a .looks)) x))))) e
+    t .inv .1 ∙ ap (λ (y : ℕ). candidatesOf (members y 0 (λ x. not (has (a .m) 0 (row (a .m) (looksIn (a .looks)) x))))) e
 
 pub bare-parts-spec : {M : Type 1} → statement M
 bare-parts-spec =

@@ -13,7 +13,7 @@ use Rattle.construction_a.specs.Writing.{row}
 use Rattle.construction_a.specs.Reading.{openBlocks, indexInPart}
 use Rattle.construction_a.proofs.Pattern.{collect-tabulate}
 use Rattle.heads.specs.Looks.{looksIn}
-use Rattle.heads.proofs.Listed.{part-fits, held-below, in-part, in-part-none, collect-none, index-none, index-some}
+use Rattle.heads.proofs.Listed.{part-fits, candidates-below, in-part, in-part-none, collect-none, index-none, index-some}
 use Rattle.heads.proofs.pattern.one_each.Statement.{statement}
 use Rattle.heads.proofs.pattern.one_each.Tie as tie
 
@@ -35,7 +35,7 @@ later-requires : tie.Need-later-requires Inv-loop μ-loop
 unfolding openBlocks
 later-requires c κs =
     let s = c .before .before .before in
-    held-below (c .open-blocks .result) (s .args .m) (λ j. not (row (s .args .m) (looksIn (s .args .looks)) (c .before .before .loop .i) j)) (c .open-blocks .ensures) (s .pre .some-blocks)
+    candidates-below (c .open-blocks .result) (s .args .m) (λ j. not (row (s .args .m) (looksIn (s .args .looks)) (c .before .before .loop .i) j)) (c .open-blocks .ensures) (s .pre .some-blocks)
 
 none-requires : tie.Need-none-requires Inv-loop μ-loop
 none-requires c κs = search needs

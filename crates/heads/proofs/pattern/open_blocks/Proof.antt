@@ -9,13 +9,13 @@ use Rattle.combinatorics.specs.Stretch.{members}
 use Rattle.construction_a.specs.Writing.{row}
 use Rattle.construction_a.specs.Reading.{openBlocks}
 use Rattle.heads.specs.Looks.{looksIn}
-use Rattle.heads.specs.Patterns.{heldOf}
-use Rattle.heads.proofs.Listed.{held-few, held-in, held-out, look-fixed, look-open}
+use Rattle.heads.specs.Patterns.{candidatesOf}
+use Rattle.heads.proofs.Listed.{candidates-few, candidates-in, candidates-out, look-fixed, look-open}
 use Rattle.heads.proofs.pattern.open_blocks.Statement.{statement}
 use Rattle.heads.proofs.pattern.open_blocks.Tie as tie
 
 abbrev Inv-loop : tie.InvT-loop
-Inv-loop m part looks from shown₀ j₀ shown j = (j ≤ m) × (from ≡ part * m) × (shown ≡ heldOf (members j 0 (λ x. not (row m (looksIn looks) part x))))
+Inv-loop m part looks from shown₀ j₀ shown j = (j ≤ m) × (from ≡ part * m) × (shown ≡ candidatesOf (members j 0 (λ x. not (row m (looksIn looks) part x))))
 
 abbrev μ-loop : tie.MeasureT-loop
 μ-loop m part looks from shown₀ j₀ shown j = m - j
@@ -40,7 +40,7 @@ with-next-requires : tie.Need-with-next-requires Inv-loop μ-loop
 with-next-requires c κs =
     let t = c .before .before .loop in
     let a = c .before .before .before .before .args in
-    omega (arith, held-few (t .shown) (t .j) (λ x. not (row (a .m) (looksIn (a .t1)) (a .part) x)) (t .inv .2))
+    omega (arith, candidates-few (t .shown) (t .j) (λ x. not (row (a .m) (looksIn (a .t1)) (a .part) x)) (t .inv .2))
 
 add-j : tie.Need-add-j Inv-loop μ-loop
 add-j c = search needs
@@ -54,8 +54,8 @@ loop-again c =
     let a = c .before .before .before .before .args in
     let w : ℕ → Bool = λ x. not (row (a .m) (looksIn (a .t1)) (a .part) x) in
     ⊎-elim
-    (λ u. (omega arith, refl, u .2 ∙ u .1 .ensures (members (t .j) 0 w) (t .inv .2) ∙ held-in (t .j) w (look-open (a .t1) (a .part * a .m + t .j) (u .0 .taken))))
-    (λ u. (omega arith, refl, u .1 ∙ held-out (t .shown) (t .j) w (t .inv .2) (look-fixed (a .t1) (a .part * a .m + t .j) (u .0 .left))))
+    (λ u. (omega arith, refl, u .2 ∙ u .1 .ensures (members (t .j) 0 w) (t .inv .2) ∙ candidates-in (t .j) w (look-open (a .t1) (a .part * a .m + t .j) (u .0 .taken))))
+    (λ u. (omega arith, refl, u .1 ∙ candidates-out (t .shown) (t .j) w (t .inv .2) (look-fixed (a .t1) (a .part * a .m + t .j) (u .0 .left))))
     (c .if1 .came)
 
 returns : tie.Need-returns Inv-loop μ-loop
@@ -64,7 +64,7 @@ returns c =
     let t = c .before .loop in
     let a = c .before .before .before .args in
     let e : t .j ≡ a .m = omega arith in
-    t .inv .2 ∙ ap (λ (y : ℕ). heldOf (members y 0 (λ x. not (row (a .m) (looksIn (a .t1)) (a .part) x)))) e
+    t .inv .2 ∙ ap (λ (y : ℕ). candidatesOf (members y 0 (λ x. not (row (a .m) (looksIn (a .t1)) (a .part) x)))) e
 
 pub open-blocks-spec : {M : Type 1} → statement M
 open-blocks-spec =

@@ -6,8 +6,8 @@ use borrow.Author.Needs.{needs}
 use lib.ListN.{length, take, replicate, length-set, length-replicate, getD-replicate}
 use lib.Seq.{take-all}
 use Rattle.combinatorics.proofs.Lists.{fill-turn, fill-done}
-use Rattle.payloads.proofs.clear.Statement.{statement}
-use Rattle.payloads.proofs.clear.Tie as tie
+use Rattle.symbols.proofs.clear.Statement.{statement}
+use Rattle.symbols.proofs.clear.Tie as tie
 
 abbrev Inv-loop : tie.InvT-loop
 Inv-loop symbols₀ i₀ symbols i = (i ≤ length symbols₀) × (length symbols ≡ length symbols₀) × (take i symbols ≡ take i (replicate (length symbols₀) 0))

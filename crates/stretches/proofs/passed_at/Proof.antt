@@ -1,11 +1,11 @@
--- `passed` meets its contract. Assumes nothing.
+-- `passed_at` meets its contract. Assumes nothing.
 use mathlib.Core.Path.{sym}
 use native.Mathlib.Omega.{arith}
 use borrow.Author.Needs.{needs}
 use Rattle.placements.proofs.Placing.{start-in}
 use Rattle.stretches.proofs.Walking.{passed-none, passed-yes, passed-no, few}
-use Rattle.stretches.proofs.passed.Statement.{statement}
-use Rattle.stretches.proofs.passed.Tie as tie
+use Rattle.stretches.proofs.passed_at.Statement.{statement}
+use Rattle.stretches.proofs.passed_at.Tie as tie
 
 returns : tie.Need-returns
 returns c = let s = c .before .before in sym (passed-none (s .args .layout) (s .args .t2) (s .pre) (s .args .burst) (s .args .to) (c .if1 .taken))
@@ -31,8 +31,8 @@ returns-2 c = let s = c .before .before .before .before .before in sym (passed-y
 returns-3 : tie.Need-returns-3
 returns-3 c = let s = c .before .before .before .before .before in sym (passed-no (s .args .layout) (s .args .t2) (s .pre) (s .args .burst) (s .args .to) (omega arith) (c .if2 .left))
 
-pub passed-spec : {M : Type 1} → statement M
-passed-spec =
+pub passed-at-spec : {M : Type 1} → statement M
+passed-at-spec =
     tie.close
     (tie.spec
     returns
