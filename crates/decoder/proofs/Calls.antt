@@ -22,7 +22,7 @@ use Rattle.construction_a.proofs.Figures.{Served, placed-starts}
 use Rattle.construction_a.proofs.Outcomes.{refused-alike}
 use Rattle.construction_a.proofs.Ranking.{rank-bijection}
 use Rattle.params.specs.declared.Layout.{Layout}
-use Rattle.params.specs.declared.Figures.the-variants.{Fit}
+use Rattle.params.specs.declared.LayoutAnswer.the-variants.{Fit}
 use Rattle.params.specs.Given.{figuresOf, Fitting}
 use Rattle.params.proofs.Fitting.{served}
 use Rattle.placements.specs.declared.Placement.{Placement}

@@ -8,8 +8,8 @@ ghost use Rattle.placements.specs.Bridge.{startsIn};
 ghost use Rattle.decoder.specs.Exported.{lentAs, startBytes, exportedOut, messageLenOut};
 use crate::WordAnswer;
 use crate::decode_fitting;
-use params::Figures;
 use params::Layout;
+use params::LayoutAnswer;
 use params::Params;
 use params::bytes::BYTE_VALUES;
 use placements::Placement;
@@ -34,8 +34,8 @@ pub extern "C" fn burgzemi_decode(
 {
     let answer = Params::figures(n, q, m, b);
     match answer {
-        Figures::Refused(number) => number,
-        Figures::Fit(layout) => decode_bytes(layout, word, message, starts),
+        LayoutAnswer::Refused(number) => number,
+        LayoutAnswer::Fit(layout) => decode_bytes(layout, word, message, starts),
     }
 }
 
@@ -46,8 +46,8 @@ pub extern "C" fn burgzemi_message_len(n: u32, q: u32, m: u32, b: u32) -> u32
 {
     let answer = Params::figures(n, q, m, b);
     match answer {
-        Figures::Refused(_) => NO_LENGTH,
-        Figures::Fit(layout) => layout.message_len as u32,
+        LayoutAnswer::Refused(_) => NO_LENGTH,
+        LayoutAnswer::Fit(layout) => layout.message_len as u32,
     }
 }
 

@@ -10,8 +10,8 @@ ghost use Rattle.params.specs.Given.{figuresOf, Fitting};
 ghost use Rattle.decoder.specs.Answer.{decodedAs};
 ghost use Rattle.decoder.specs.DemandTwo.{DecodesExactly};
 ghost use Rattle.decoder.specs.Reader.{Lent, Ranked};
-use params::Figures;
 use params::Layout;
+use params::LayoutAnswer;
 use params::Params;
 use placements::Placement;
 use refusals::Refusal;
@@ -40,8 +40,8 @@ pub fn decode(figures: Params, word: &[u8], message: &mut [u8]) -> Decoded
 {
     let answer = Params::figures(figures.n, figures.q, figures.m, figures.b);
     match answer {
-        Figures::Refused(number) => unread(number),
-        Figures::Fit(layout) => decode_fitting(layout, word, message),
+        LayoutAnswer::Refused(number) => unread(number),
+        LayoutAnswer::Fit(layout) => decode_fitting(layout, word, message),
     }
 }
 

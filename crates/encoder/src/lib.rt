@@ -4,8 +4,8 @@ ghost use Rattle.construction_a.specs.Outcomes.{encodeOut};
 ghost use Rattle.params.specs.Bridge.{given};
 ghost use Rattle.params.specs.Given.{figuresOf, Fitting};
 ghost use Rattle.placements.specs.Bridge.{heldAs};
-use params::Figures;
 use params::Layout;
+use params::LayoutAnswer;
 use params::Params;
 use placements::Placement;
 use refusals::Refusal;
@@ -20,8 +20,8 @@ pub fn encode(figures: Params, at: Placement, message: &[u8], word: &mut [u8]) -
 {
     let answer = Params::figures(figures.n, figures.q, figures.m, figures.b);
     match answer {
-        Figures::Refused(number) => number,
-        Figures::Fit(layout) => encode_fitting(layout, at, message, word),
+        LayoutAnswer::Refused(number) => number,
+        LayoutAnswer::Fit(layout) => encode_fitting(layout, at, message, word),
     }
 }
 

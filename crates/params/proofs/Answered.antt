@@ -9,18 +9,18 @@ use Rattle.construction_a.specs.Outcomes.{unserved, figuresOut}
 use Rattle.construction_a.proofs.Figures.{Served, parts-few}
 use Rattle.construction_a.proofs.Outcomes.{figured-served}
 use Rattle.params.specs.declared.Layout.{Layout}
-use Rattle.params.specs.declared.Figures.{Figures}
-use Rattle.params.specs.declared.Figures.the-variants.{Fit, Refused}
+use Rattle.params.specs.declared.LayoutAnswer.{LayoutAnswer}
+use Rattle.params.specs.declared.LayoutAnswer.the-variants.{Fit, Refused}
 use Rattle.params.specs.Answer.{figuredAs, LaidOut, LaidIn}
 use Rattle.params.specs.Blocks.{HasHead}
 
 -- of an answer that was taken apart: a layout's figures can be served, and it is theirs
-pub fit-learnt : (f : Params) (r : Figures) (l : Layout) → r ≡ Fit l → figuredAs r ≡ figuresOut f → LaidIn f r → Served f × LaidOut f l
+pub fit-learnt : (f : Params) (r : LayoutAnswer) (l : Layout) → r ≡ Fit l → figuredAs r ≡ figuresOut f → LaidIn f r → Served f × LaidOut f l
 fit-learnt f r l e answer layout =
     (figured-served f (l .«placement_count») (l .«index_tail») (l .«message_len») (sym answer ∙ ap figuredAs e), subst (LaidIn f) e layout)
 
 -- and a refusal is that of the figures alone
-pub refused-learnt : (f : Params) (r : Figures) (a : ℕ) → r ≡ Refused a → figuredAs r ≡ figuresOut f → figuresOut f ≡ unserved a
+pub refused-learnt : (f : Params) (r : LayoutAnswer) (a : ℕ) → r ≡ Refused a → figuredAs r ≡ figuresOut f → figuresOut f ≡ unserved a
 refused-learnt f r a e answer = sym answer ∙ ap figuredAs e
 
 -- the layout's numbers, as facts that arithmetic can use

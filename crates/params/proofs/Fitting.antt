@@ -10,8 +10,8 @@ use Rattle.construction_a.specs.Outcomes.{figuresOut}
 use Rattle.construction_a.proofs.Figures.{Served, serve}
 use Rattle.construction_a.proofs.Outcomes.{figured-fits}
 use Rattle.params.specs.declared.Layout.{Layout}
-use Rattle.params.specs.declared.Figures.{Figures}
-use Rattle.params.specs.declared.Figures.the-variants.{Fit}
+use Rattle.params.specs.declared.LayoutAnswer.{LayoutAnswer}
+use Rattle.params.specs.declared.LayoutAnswer.the-variants.{Fit}
 use Rattle.params.specs.Answer.{figuredAs, LaidOut, LaidIn}
 use Rattle.params.specs.Given.{maxBlocks, figuresOf, Fitting}
 use Rattle.params.proofs.Answered.{Bounds, bounds}
@@ -20,7 +20,7 @@ same-figures : {f : Params} {n q m b : ℕ} → n ≡ f .n → q ≡ f .q → m 
 same-figures e₁ e₂ e₃ e₄ = rw (e₁, e₂, e₃, e₄)
 
 -- of an answer that was taken apart: the layout's figures are the caller's, and they fit
-pub layout-fits : (f : Params) (r : Figures) (l : Layout) → r ≡ Fit l → figuredAs r ≡ figuresOut f → LaidIn f r → (figuresOf l ≡ f) × Fitting l
+pub layout-fits : (f : Params) (r : LayoutAnswer) (l : Layout) → r ≡ Fit l → figuredAs r ≡ figuresOut f → LaidIn f r → (figuresOf l ≡ f) × Fitting l
 layout-fits f r l e answer layout =
     let is : LaidOut f l = subst (LaidIn f) e layout in
     let same : figuresOf l ≡ f = same-figures (is .n-is) (is .q-is) (is .m-is) (is .b-is) in

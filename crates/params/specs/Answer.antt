@@ -3,11 +3,11 @@ use mathlib.Core.Path.{_≡_}
 use Rattle.construction_a.specs.Figures.{Params, parts, blockMin, placementCount, indexTail, messageLen}
 use Rattle.construction_a.specs.Outcomes.{FiguresOut, figured, unserved}
 use Rattle.params.specs.declared.Layout.{Layout}
-use Rattle.params.specs.declared.Figures.{Figures}
-use Rattle.params.specs.declared.Figures.the-variants.{Fit, Refused}
+use Rattle.params.specs.declared.LayoutAnswer.{LayoutAnswer}
+use Rattle.params.specs.declared.LayoutAnswer.the-variants.{Fit, Refused}
 
 -- T, r and k of figures that fit, or the refusal's number
-abbrev pub figuredAs : Figures → FiguresOut
+abbrev pub figuredAs : LayoutAnswer → FiguresOut
 figuredAs (Fit l) = figured (l .«placement_count») (l .«index_tail») (l .«message_len»)
 figuredAs (Refused a) = unserved a
 
@@ -24,6 +24,6 @@ pub record LaidOut (f : Params) (l : Layout) : Type 0 where
   pub len-is : l .«message_len» ≡ messageLen f
 
 -- a layout that is answered is that of the figures
-abbrev pub LaidIn : Params → Figures → Type 0
+abbrev pub LaidIn : Params → LayoutAnswer → Type 0
 LaidIn f (Fit l) = LaidOut f l
 LaidIn f (Refused a) = Unit {0}

@@ -38,7 +38,7 @@ pub struct Layout {
 }
 
 // What "figures alone" answers.
-pub enum Figures {
+pub enum LayoutAnswer {
     Fit(Layout),
     Refused(u8),
 }
@@ -61,16 +61,16 @@ impl Params {
     pub const MIN_PARTS: u32 = 3;
 
     // The layout that the figures give, whatever numbers come. Refusals in order: 1 for a figure out of range, 2 for figures that don't fit.
-    pub fn figures(n: u32, q: u32, m: u32, b: u32) -> Figures
+    pub fn figures(n: u32, q: u32, m: u32, b: u32) -> LayoutAnswer
         ensures answer { λ r. ⌜ figuredAs r ≡ figuresOut (params n q m b) ⌝ }
         ensures layout { λ r. ⌜ LaidIn (params n q m b) r ⌝ }
     {
         let given = Params { n, q, m, b };
         if !given.in_range() {
-            return Figures::Refused(Refusal::INVALID);
+            return LayoutAnswer::Refused(Refusal::INVALID);
         }
         if (n as u64) < (m as u64) * (b as u64) {
-            return Figures::Refused(Refusal::UNFIT);
+            return LayoutAnswer::Refused(Refusal::UNFIT);
         }
         given.laid_out()
     }
@@ -104,7 +104,7 @@ impl Params {
     }
 
     // The layout of figures in range whose bursts a word can hold. Refusal: 2.
-    fn laid_out(self) -> Figures
+    fn laid_out(self) -> LayoutAnswer
         requires { ⌜ (inRange (given self) ≡ true) × (self .m * self .b ≤ self .n) ⌝ }
         ensures answer { λ r. ⌜ figuredAs r ≡ figuresOut (given self) ⌝ }
         ensures layout { λ r. ⌜ LaidIn (given self) r ⌝ }
@@ -118,13 +118,13 @@ impl Params {
         let placement_count = binomials::choose((n - m * b + m) as u64, m as u64);
         let index_tail = tail::least_tail(q, m, placement_count, block_min);
         if block_min <= index_tail {
-            return Figures::Refused(Refusal::UNFIT);
+            return LayoutAnswer::Refused(Refusal::UNFIT);
         }
         if block_min - index_tail < b {
-            return Figures::Refused(Refusal::UNFIT);
+            return LayoutAnswer::Refused(Refusal::UNFIT);
         }
         let message_len = n - m * (b + parts + index_tail - 1);
-        Figures::Fit(Layout {
+        LayoutAnswer::Fit(Layout {
             n,
             q,
             m,

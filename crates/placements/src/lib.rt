@@ -10,10 +10,10 @@ ghost use Rattle.combinatorics.specs.Rank.{ways};
 ghost use Rattle.combinatorics.specs.Stretch.{top, lastEnd};
 ghost use Rattle.binomials.specs.Limits.{maxThings, maxChosen};
 ghost use Rattle.construction_a.specs.Figures.{maxWord, maxBursts, inRange, fits};
-ghost use Rattle.construction_a.specs.Outcomes.{held, worn, unplaced, coverOut};
+ghost use Rattle.construction_a.specs.Outcomes.{held, worn, unplaced as unplacedAs, coverOut};
 ghost use Rattle.params.specs.Bridge.{given};
 ghost use Rattle.placements.specs.Bridge.{heldAs, coveredAs, startsIn, coverable, leastCover, Rankable, Room};
-use params::Figures;
+use params::LayoutAnswer;
 use params::Params;
 use refusals::Refusal;
 
@@ -136,8 +136,8 @@ pub fn cover(figures: Params, map: &[u8]) -> CoverAnswer
 {
     let answer = Params::figures(figures.n, figures.q, figures.m, figures.b);
     match answer {
-        Figures::Refused(number) => uncovered(number),
-        Figures::Fit(_) => cover_fitting(figures, map),
+        LayoutAnswer::Refused(number) => unplaced(number),
+        LayoutAnswer::Fit(_) => cover_fitting(figures, map),
     }
 }
 
@@ -147,14 +147,14 @@ fn cover_fitting(figures: Params, map: &[u8]) -> CoverAnswer
     ensures { λ r. ⌜ coveredAs r ≡ coverOut (given figures) (now (map .entry)) ⌝ }
 {
     if map.len() != figures.n as usize {
-        return uncovered(Refusal::LENGTH);
+        return unplaced(Refusal::LENGTH);
     }
     if !symbols::all_below(map, 2) {
-        return uncovered(Refusal::SYMBOL);
+        return unplaced(Refusal::SYMBOL);
     }
     let found = least_cover(figures.n, figures.m, figures.b, map);
     if !found.covered {
-        return uncovered(Refusal::UNCOVERED);
+        return unplaced(Refusal::UNCOVERED);
     }
     let placement = found.placement;
     CoverAnswer {
@@ -164,8 +164,8 @@ fn cover_fitting(figures: Params, map: &[u8]) -> CoverAnswer
 }
 
 // A refusal, with no placement.
-fn uncovered(number: u8) -> CoverAnswer
-    ensures { λ r. ⌜ coveredAs r ≡ unplaced number ⌝ }
+fn unplaced(number: u8) -> CoverAnswer
+    ensures { λ r. ⌜ coveredAs r ≡ unplacedAs number ⌝ }
 {
     CoverAnswer {
         answer: number,

@@ -1,7 +1,7 @@
 // Runs the bench strips that no proof computes, and writes what the proved functions answer, a line for each. Assumes nothing.
 use decoder::WordAnswer;
 use jobs::JobTable;
-use params::Figures;
+use params::LayoutAnswer;
 use params::Params;
 use placements::CoverAnswer;
 use placements::Placement;
@@ -36,8 +36,8 @@ fn figures_row(p: Params) {
     put(b" b ", p.b as u64);
     let answer = Params::figures(p.n, p.q, p.m, p.b);
     match answer {
-        Figures::Refused(number) => put(b": refused ", number as u64),
-        Figures::Fit(layout) => {
+        LayoutAnswer::Refused(number) => put(b": refused ", number as u64),
+        LayoutAnswer::Fit(layout) => {
             put(b": T ", layout.placement_count);
             put(b", r ", layout.index_tail as u64);
             put(b", k ", layout.message_len as u64);

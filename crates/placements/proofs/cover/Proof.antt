@@ -14,8 +14,8 @@ figures-requires c κs = search needs
 enum-known-answer : tie.Need-enum-known-answer
 enum-known-answer c = search needs
 
-uncovered-requires : tie.Need-uncovered-requires
-uncovered-requires c κs = search needs
+unplaced-requires : tie.Need-unplaced-requires
+unplaced-requires c κs = search needs
 
 enum-told : tie.Need-enum-told
 enum-told c = search needs
@@ -31,7 +31,7 @@ returns : tie.Need-returns
 returns c =
     let f = given (c .before .before .before .before .before .before .args .figures) in
     let number = c .before .before .answer .given in
-    c .uncovered .ensures ∙ sym (cover-unfit f (c .before .before .before .before .before .before .args .map .now) (number .0 .0) (sym (c .before .before .before .before .figures .ensures .0) ∙ ap figuredAs (number .1)))
+    c .unplaced .ensures ∙ sym (cover-unfit f (c .before .before .before .before .before .before .args .map .now) (number .0 .0) (sym (c .before .before .before .before .figures .ensures .0) ∙ ap figuredAs (number .1)))
 
 returns-2 : tie.Need-returns-2
 returns-2 c = search needs
@@ -42,7 +42,7 @@ cover-spec =
     (tie.spec
     figures-requires
     enum-known-answer
-    uncovered-requires
+    unplaced-requires
     enum-told
     cover-fitting-requires
     returns

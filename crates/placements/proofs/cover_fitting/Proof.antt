@@ -14,24 +14,24 @@ use Rattle.placements.proofs.cover_fitting.Tie as tie
 cast-if1 : tie.Need-cast-if1
 cast-if1 c = search needs
 
-uncovered-requires : tie.Need-uncovered-requires
-uncovered-requires c κs = search needs
+unplaced-requires : tie.Need-unplaced-requires
+unplaced-requires c κs = search needs
 
 returns : tie.Need-returns
 returns c =
     let s = c .before .before .before .before in
-    c .uncovered .ensures ∙ sym (cover-length (given (s .args .figures)) (s .args .map .now) (s .pre .0) (s .pre .1) (c .before .if1 .taken))
+    c .unplaced .ensures ∙ sym (cover-length (given (s .args .figures)) (s .args .map .now) (s .pre .0) (s .pre .1) (c .before .if1 .taken))
 
 all-below-requires : tie.Need-all-below-requires
 all-below-requires c κs = search needs
 
-uncovered-requires-2 : tie.Need-uncovered-requires-2
-uncovered-requires-2 c κs = search needs
+unplaced-requires-2 : tie.Need-unplaced-requires-2
+unplaced-requires-2 c κs = search needs
 
 returns-2 : tie.Need-returns-2
 returns-2 c =
     let s = c .before .before .before .before .before .before in
-    c .uncovered2 .ensures
+    c .unplaced2 .ensures
     ∙ sym (cover-symbol (given (s .args .figures)) (s .args .map .now) (s .pre .0) (s .pre .1) (c .before .before .before .if1 .left) (sym (c .before .before .all-below .ensures) ∙ not-true _ (c .before .if2 .taken)))
 
 least-cover-requires : tie.Need-least-cover-requires
@@ -39,13 +39,13 @@ least-cover-requires c κs =
     let s = c .before .before .before .before .before in
     (room-of (given (s .args .figures)) (serve (given (s .args .figures)) (s .pre .0) (s .pre .1)), c .before .before .if1 .left)
 
-uncovered-requires-3 : tie.Need-uncovered-requires-3
-uncovered-requires-3 c κs = search needs
+unplaced-requires-3 : tie.Need-unplaced-requires-3
+unplaced-requires-3 c κs = search needs
 
 returns-3 : tie.Need-returns-3
 returns-3 c =
     let s = c .before .before .before .before .before .before .before .before .before in
-    c .uncovered3 .ensures
+    c .unplaced3 .ensures
     ∙ sym (cover-none (given (s .args .figures)) (s .args .map .now) (s .pre .0) (s .pre .1) (c .before .before .before .before .before .before .if1 .left)
     (sym (c .before .before .before .before .before .all-below .ensures) ∙ not-false _ (c .before .before .before .before .if2 .left)) (sym (c .before .before .before .least-cover .ensures .0) ∙ not-true _ (c .before .if3 .taken)))
 
@@ -61,12 +61,12 @@ cover-fitting-spec =
     tie.close
     (tie.spec
     cast-if1
-    uncovered-requires
+    unplaced-requires
     returns
     all-below-requires
-    uncovered-requires-2
+    unplaced-requires-2
     returns-2
     least-cover-requires
-    uncovered-requires-3
+    unplaced-requires-3
     returns-3
     returns-4)
