@@ -99,64 +99,46 @@ module _ (f : Params) (l : Layout) (es : List Entry) (h : Laid f l es) where
 -- ---- Writing
 
 module _ (f : Params) (es : List Entry) (at : Held) (payload out : List ℕ) (r : Ready f es) where
+  abbrev pub done : Encoded
+  done = record { answer = served; word = word f (inUse at) (messageOf (f .q) (messageLen f) payload) }
+
+  -- "5 12 14"
+  abbrev pub from-starts : Encoded
+  from-starts = must (apart (f .b) (f .n) 0 (inUse at)) (unwritten out badStarts) (whereOpen (jobStatus es payload) (unwritten out) done)
+
+  from-lengths : jobWriteOut f es at payload out
+      ≡ must (eqb (at .count) (f .m) && eqb (length payload) (payloadLen (f .q) (messageLen f)) && eqb (length out) (f .n)) (unwritten out wrongLength) from-starts
+  unfolding jobWriteOut
+  from-lengths = rw (r .range, r .once, r .fit, r .carries)
+
   pub write-count : at .count ≢ f .m → jobWriteOut f es at payload out ≡ unwritten out wrongLength
-  unfolding jobWriteOut
-  write-count n = rw (r .range, r .once, r .fit, r .carries, eqb-other (at .count) (f .m) n)
+  write-count n = from-lengths ∙ rw (eqb-other (at .count) (f .m) n)
 
-  pub write-bytes : at .count ≡ f .m → length payload ≢ payloadLen (f .q) (messageLen f) → jobWriteOut f es at payload out ≡ unwritten out wrongLength
-  unfolding jobWriteOut
-  write-bytes c n =
-      rw (r .range, r .once, r .fit, r .carries, eqb-same (at .count) (f .m) c, eqb-other (length payload) (payloadLen (f .q) (messageLen f)) n)
+  module _ (c : at .count ≡ f .m) where
+    pub write-bytes : length payload ≢ payloadLen (f .q) (messageLen f) → jobWriteOut f es at payload out ≡ unwritten out wrongLength
+    write-bytes n = from-lengths ∙ rw (eqb-same (at .count) (f .m) c, eqb-other (length payload) (payloadLen (f .q) (messageLen f)) n)
 
-  module _ (c : at .count ≡ f .m) (y : length payload ≡ payloadLen (f .q) (messageLen f)) where
-    pub write-length : length out ≢ f .n → jobWriteOut f es at payload out ≡ unwritten out wrongLength
-    unfolding jobWriteOut
-    write-length n =
-        rw (
-          r .range,
-          r .once,
-          r .fit,
-          r .carries,
-          eqb-same (at .count) (f .m) c,
-          eqb-same (length payload) (payloadLen (f .q) (messageLen f)) y,
-          eqb-other (length out) (f .n) n,
-        )
+    module _ (y : length payload ≡ payloadLen (f .q) (messageLen f)) where
+      pub write-length : length out ≢ f .n → jobWriteOut f es at payload out ≡ unwritten out wrongLength
+      write-length n =
+          from-lengths ∙ rw (eqb-same (at .count) (f .m) c, eqb-same (length payload) (payloadLen (f .q) (messageLen f)) y, eqb-other (length out) (f .n) n)
 
-    module _ (o : length out ≡ f .n) where
-      pub write-starts : apart (f .b) (f .n) 0 (inUse at) ≡ false → jobWriteOut f es at payload out ≡ unwritten out badStarts
-      unfolding jobWriteOut
-      write-starts n =
-          rw (
-            r .range,
-            r .once,
-            r .fit,
-            r .carries,
-            eqb-same (at .count) (f .m) c,
-            eqb-same (length payload) (payloadLen (f .q) (messageLen f)) y,
-            eqb-same (length out) (f .n) o,
-            n,
-          )
+      module _ (o : length out ≡ f .n) where
+        pub past-lengths : jobWriteOut f es at payload out ≡ from-starts
+        past-lengths =
+            from-lengths ∙ rw (eqb-same (at .count) (f .m) c, eqb-same (length payload) (payloadLen (f .q) (messageLen f)) y, eqb-same (length out) (f .n) o)
 
-      by-status : (s : Status) (rest : Encoded) → rest .answer ≡ served → whereOpen s (unwritten out) rest .answer ≡ needsOpen s
-      by-status unknown rest e = refl
-      by-status opened rest e = e
-      by-status cancelled rest e = refl
+        pub write-starts : apart (f .b) (f .n) 0 (inUse at) ≡ false → jobWriteOut f es at payload out ≡ unwritten out badStarts
+        write-starts n = past-lengths ∙ rw n
 
-      -- "12 14"
-      pub write-status : apart (f .b) (f .n) 0 (inUse at) ≡ true → jobWriteOut f es at payload out .answer ≡ needsOpen (jobStatus es payload)
-      unfolding jobWriteOut
-      write-status p =
-          rw (
-            r .range,
-            r .once,
-            r .fit,
-            r .carries,
-            eqb-same (at .count) (f .m) c,
-            eqb-same (length payload) (payloadLen (f .q) (messageLen f)) y,
-            eqb-same (length out) (f .n) o,
-            p,
-          )
-          (by-status (jobStatus es payload) (record { answer = served; word = word f (inUse at) (messageOf (f .q) (messageLen f) payload) }) refl)
+        by-status : (s : Status) → whereOpen s (unwritten out) done .answer ≡ needsOpen s
+        by-status unknown = refl
+        by-status opened = refl
+        by-status cancelled = refl
+
+        -- "12 14"
+        pub write-status : apart (f .b) (f .n) 0 (inUse at) ≡ true → jobWriteOut f es at payload out .answer ≡ needsOpen (jobStatus es payload)
+        write-status p = rw (past-lengths, p) (by-status (jobStatus es payload))
 
 -- a refused writing keeps the word
 module _ (out : List ℕ) where

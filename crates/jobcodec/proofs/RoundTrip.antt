@@ -29,6 +29,7 @@ use Rattle.jobcodec.specs.JobRead.{handOut, jobReading, jobReadOut}
 use Rattle.jobcodec.specs.DemandThree.{isRefusal, Gives}
 use Rattle.jobcodec.specs.Given.{Ready}
 use Rattle.jobcodec.proofs.DemandThree.{not-served, read-pair}
+use Rattle.jobcodec.proofs.Calls.{past-lengths}
 use Rattle.payloads.proofs.Payload.{length-message, message-symbols, payload-back, payload-passes}
 
 -- ---- What an accepted writing says of its input
@@ -86,19 +87,7 @@ module _ (f : Params) (es : List Entry) (at : Held) (payload out : List ℕ) whe
 
   -- and of the word
   pub written-word : Written f es at payload out → jobWriteOut f es at payload out .word ≡ word f (inUse at) (messageOf (f .q) (messageLen f) payload)
-  unfolding jobWriteOut
-  written-word wr =
-      rw (
-        wr .ready .range,
-        wr .ready .once,
-        wr .ready .fit,
-        wr .ready .carries,
-        eqb-same (at .count) (f .m) (wr .count),
-        eqb-same (length payload) (payloadLen (f .q) (messageLen f)) (wr .long),
-        eqb-same (length out) (f .n) (wr .lent),
-        wr .placed,
-        wr .is-open,
-      )
+  written-word wr = rw (past-lengths f es at payload out (wr .ready) (wr .count) (wr .long) (wr .lent), wr .placed, wr .is-open)
 
   -- ---- Reading it back, from six starts and K bytes
 

@@ -1,15 +1,17 @@
 -- `write_refusal` meets its contract, refusal by refusal. Assumes nothing.
 use mathlib.Core.Path.{_≡_, sym, ap, _∙_}
-use Prim.Native.Nat.{ℕ, _≤_}
+use mathlib.Core.List.{List}
+use Prim.Native.Nat.{ℕ}
 use native.Mathlib.Omega.{arith}
 use borrow.Author.Needs.{needs}
 use borrow.Author.Tests.{not-true, not-false}
 use Rattle.cells.specs.Bytes.{payloadLen}
-use Rattle.construction_a.specs.Figures.{messageLen}
-use Rattle.construction_a.specs.Outcomes.{Encoded}
+use Rattle.construction_a.specs.Figures.{Params, messageLen}
+use Rattle.construction_a.specs.Outcomes.{Held, Encoded}
 use Rattle.construction_a.proofs.Figures.{ranged}
 use Rattle.params.specs.Bridge.{given}
 use Rattle.placements.specs.Bridge.{heldAs}
+use Rattle.jobs.specs.declared.Entry.{Entry}
 use Rattle.jobs.specs.Jobs.{needsOpen}
 use Rattle.jobs.specs.Slots.{entries}
 use Rattle.jobs.specs.Table.{standing, lookup}
@@ -21,86 +23,64 @@ use Rattle.jobcodec.proofs.write_refusal.Tie as tie
 abbrev answer : Encoded → ℕ
 answer r = r .answer
 
--- five bytes or more, so many as the payload holds
-goes-on : (s : tie.Start) (count : ℕ) → count ≡ payloadLen (s .args .layout .q) (s .args .layout .«message_len») → 5 ≤ count → Ready (given (s .args .figures)) (entries (s .args .table))
-goes-on s count e five = ready (given (s .args .figures)) (s .args .layout) (entries (s .args .table)) (s .pre) count e five
+-- ---- What the contract lends
 
-as-many : (s : tie.Start) (count : ℕ) → count ≡ payloadLen (s .args .layout .q) (s .args .layout .«message_len») → count ≡ payloadLen (s .args .figures .q) (messageLen (given (s .args .figures)))
-as-many s count e = bytes-are (given (s .args .figures)) (s .args .layout) (entries (s .args .table)) (s .pre) count e
+abbrev f : tie.Start → Params
+f s = given (s .args .figures)
+
+abbrev es : tie.Start → List Entry
+es s = entries (s .args .table)
+
+abbrev at : tie.Start → Held
+at s = heldAs (s .args .at)
+
+abbrev y : tie.Start → List ℕ
+y s = s .args .payload .now
+
+abbrev w : tie.Start → List ℕ
+w s = s .args .word .now
+
+-- five bytes or more, so many as the payload holds
+goes-on : (c : tie.Else1) → Ready (f (c .before .before .before .before)) (es (c .before .before .before .before))
+goes-on c = let s = c .before .before .before .before in ready (f s) (s .args .layout) (es s) (s .pre) (c .before .payload-len .result) (c .before .payload-len .ensures) (omega arith)
+
+as-many : (c : tie.Else1) → c .before .payload-len .result ≡ payloadLen (c .before .before .before .before .args .figures .q) (messageLen (f (c .before .before .before .before)))
+as-many c = let s = c .before .before .before .before in bytes-are (f s) (s .args .layout) (es s) (s .pre) (c .before .payload-len .result) (c .before .payload-len .ensures)
 
 payload-len-requires : tie.Need-payload-len-requires
-payload-len-requires c κs =
-    let s = c .before .before in
-    laid-bounds (given (s .args .figures)) (s .args .layout) (entries (s .args .table)) (s .pre) .q-most
+payload-len-requires c κs = let s = c .before .before in laid-bounds (f s) (s .args .layout) (es s) (s .pre) .q-most
 
 returns : tie.Need-returns
 returns c =
     let s = c .before .before .before .before in
-    let f = given (s .args .figures) in
-    let es = entries (s .args .table) in
-    let at = heldAs (s .args .at) in
-    let y = s .args .payload .now in
-    let w = s .args .word .now in
-    let count = c .before .payload-len .result in
-    let e = c .before .payload-len .ensures in
-    sym (ap answer (write-few f (s .args .layout) es (s .pre) at y w count e (c .if1 .taken)))
+    sym (ap answer (write-few (f s) (s .args .layout) (es s) (s .pre) (at s) (y s) (w s) (c .before .payload-len .result) (c .before .payload-len .ensures) (c .if1 .taken)))
 
 returns-2 : tie.Need-returns-2
 returns-2 c =
     let s = c .before .before .before .before .before .before .before in
-    let f = given (s .args .figures) in
-    let es = entries (s .args .table) in
-    let at = heldAs (s .args .at) in
-    let y = s .args .payload .now in
-    let w = s .args .word .now in
-    let count = c .before .before .before .before .payload-len .result in
-    let e = c .before .before .before .before .payload-len .ensures in
-    let r = goes-on s count e (omega (arith, c .before .before .before .if1 .left)) in
-    sym (ap answer (write-count f es at y w r (c .if2 .taken)))
+    sym (ap answer (write-count (f s) (es s) (at s) (y s) (w s) (goes-on (c .before .before .before)) (c .if2 .taken)))
 
 returns-3 : tie.Need-returns-3
 returns-3 c =
     let s = c .before .before .before .before .before .before .before .before in
-    let f = given (s .args .figures) in
-    let es = entries (s .args .table) in
-    let at = heldAs (s .args .at) in
-    let y = s .args .payload .now in
-    let w = s .args .word .now in
-    let count = c .before .before .before .before .before .payload-len .result in
-    let e = c .before .before .before .before .before .payload-len .ensures in
-    let r = goes-on s count e (omega (arith, c .before .before .before .before .if1 .left)) in
-    sym (ap answer (write-bytes f es at y w r (c .before .if2 .left) (λ d. c .if3 .taken (d ∙ sym (as-many s count e)))))
+    let five = c .before .before .before .before in
+    sym (ap answer (write-bytes (f s) (es s) (at s) (y s) (w s) (goes-on five) (c .before .if2 .left) (λ d. c .if3 .taken (d ∙ sym (as-many five)))))
 
 returns-4 : tie.Need-returns-4
 returns-4 c =
     let s = c .before .before .before .before .before .before .before .before .before .before in
-    let f = given (s .args .figures) in
-    let es = entries (s .args .table) in
-    let at = heldAs (s .args .at) in
-    let y = s .args .payload .now in
-    let w = s .args .word .now in
-    let count = c .before .before .before .before .before .before .before .payload-len .result in
-    let e = c .before .before .before .before .before .before .before .payload-len .ensures in
-    let r = goes-on s count e (omega (arith, c .before .before .before .before .before .before .if1 .left)) in
-    sym (ap answer (write-length f es at y w r (c .before .before .before .if2 .left) (c .before .before .if3 .left ∙ as-many s count e) (λ d. c .if4 .taken (d ∙ sym (s .pre .layout .n-is)))))
+    let five = c .before .before .before .before .before .before in
+    sym (ap answer (write-length (f s) (es s) (at s) (y s) (w s) (goes-on five) (c .before .before .before .if2 .left) (c .before .before .if3 .left ∙ as-many five) (λ d. c .if4 .taken (d ∙ sym (s .pre .layout .n-is)))))
 
 apart-requires : tie.Need-apart-requires
-apart-requires c κs =
-    let s = c .before .before .before .before .before .before .before .before .before .before in
-    omega (arith, c .before .before .before .if2 .left, ranged (given (s .args .figures)) (s .pre .range) .m-most)
+apart-requires c κs = let s = c .before .before .before .before .before .before .before .before .before .before in omega (arith, c .before .before .before .if2 .left, ranged (f s) (s .pre .range) .m-most)
 
 returns-5 : tie.Need-returns-5
 returns-5 c =
     let s = c .before .before .before .before .before .before .before .before .before .before .before .before in
-    let f = given (s .args .figures) in
-    let es = entries (s .args .table) in
-    let at = heldAs (s .args .at) in
-    let y = s .args .payload .now in
-    let w = s .args .word .now in
-    let count = c .before .before .before .before .before .before .before .before .before .payload-len .result in
-    let e = c .before .before .before .before .before .before .before .before .before .payload-len .ensures in
-    let r = goes-on s count e (omega (arith, c .before .before .before .before .before .before .before .before .if1 .left)) in
-    sym (ap answer (write-starts f es at y w r (c .before .before .before .before .before .if2 .left) (c .before .before .before .before .if3 .left ∙ as-many s count e) (c .before .before .if4 .left ∙ s .pre .layout .n-is) (sym (c .before .apart .ensures) ∙ not-true _ (c .if5 .taken))))
+    let five = c .before .before .before .before .before .before .before .before in
+    sym (ap answer (write-starts (f s) (es s) (at s) (y s) (w s) (goes-on five) (c .before .before .before .before .before .if2 .left) (c .before .before .before .before .if3 .left ∙ as-many five) (c .before .before .if4 .left ∙ s .pre .layout .n-is)
+    (sym (c .before .apart .ensures) ∙ not-true _ (c .if5 .taken))))
 
 job-number-requires : tie.Need-job-number-requires
 job-number-requires c κs = search needs
@@ -111,16 +91,10 @@ needs-open-requires c κs = search needs
 returns-6 : tie.Need-returns-6
 returns-6 c =
     let s = c .before .before .before .before .before .before .before .before .before .before .before .before .before .before in
-    let f = given (s .args .figures) in
-    let es = entries (s .args .table) in
-    let at = heldAs (s .args .at) in
-    let y = s .args .payload .now in
-    let w = s .args .word .now in
-    let count = c .before .before .before .before .before .before .before .before .before .before .before .payload-len .result in
-    let e = c .before .before .before .before .before .before .before .before .before .before .before .payload-len .ensures in
-    let r = goes-on s count e (omega (arith, c .before .before .before .before .before .before .before .before .before .before .if1 .left)) in
-    c .needs-open .ensures ∙ ap (λ (n : ℕ). needsOpen (standing (lookup es n))) (c .before .job-number .ensures)
-    ∙ sym (write-status f es at y w r (c .before .before .before .before .before .before .before .if2 .left) (c .before .before .before .before .before .before .if3 .left ∙ as-many s count e) (c .before .before .before .before .if4 .left ∙ s .pre .layout .n-is) (sym (c .before .before .before .apart .ensures) ∙ not-false _ (c .before .before .if5 .left)))
+    let five = c .before .before .before .before .before .before .before .before .before .before in
+    c .needs-open .ensures ∙ ap (λ (n : ℕ). needsOpen (standing (lookup (es s) n))) (c .before .job-number .ensures)
+    ∙ sym (write-status (f s) (es s) (at s) (y s) (w s) (goes-on five) (c .before .before .before .before .before .before .before .if2 .left) (c .before .before .before .before .before .before .if3 .left ∙ as-many five) (c .before .before .before .before .if4 .left ∙ s .pre .layout .n-is)
+    (sym (c .before .before .before .apart .ensures) ∙ not-false _ (c .before .before .if5 .left)))
 
 pub write-refusal-spec : {M : Type 1} → statement M
 write-refusal-spec =

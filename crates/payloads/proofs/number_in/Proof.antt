@@ -30,20 +30,24 @@ is-byte : (s : Start) (i : ℕ) → getD (spelled s) i 0 < byteValues
 is-byte s i =
     below-at byteValues (spelled s) (omega arith) (payload-is (s .args .q) (length (s .args .message .now)) (s .args .message .now) (s .pre .1) .bytes) i
 
-room : (s : Start) (i : ℕ) → i < 4 → i * s .args .width + s .args .width ≤ length (s .args .message .now)
-room s i l = let a = s .args in byte-room (a .q) (a .width) (a .count) (a .message .now) (s .pre .0) i (omega (arith, s .pre .2))
-
 loop-holds : tie.Need-loop-holds Inv-loop μ-loop
 loop-holds c = (omega arith, taken-none byteValues 4 (spelled (c .before)) (omega arith))
 
+-- there is room for the next byte
+next-fits : (c : tie.In-loop Inv-loop μ-loop) → c .before .loop .i * c .before .before .before .args .width + c .before .before .before .args .width ≤ length (c .before .before .before .args .message .now)
+next-fits c =
+    let s = c .before .before .before in
+    let a = s .args in
+    byte-room (a .q) (a .width) (a .count) (a .message .now) (s .pre .0) (c .before .loop .i) (omega (arith, s .pre .2))
+
 mul-at : tie.Need-mul-at Inv-loop μ-loop
-mul-at c = omega (arith, room (c .before .before .before) (c .before .loop .i) (omega arith))
+mul-at c = omega (arith, next-fits c)
 
 sub-spelled-value : tie.Need-sub-spelled-value Inv-loop μ-loop
-sub-spelled-value c = omega (arith, room (c .before .before .before) (c .before .loop .i) (omega arith))
+sub-spelled-value c = omega (arith, next-fits c)
 
 part-spelled-value-start : tie.Need-part-spelled-value-start Inv-loop μ-loop
-part-spelled-value-start c = omega (arith, room (c .before .before .before) (c .before .loop .i) (omega arith))
+part-spelled-value-start c = omega (arith, next-fits c)
 
 part-spelled-value-end : tie.Need-part-spelled-value-end Inv-loop μ-loop
 part-spelled-value-end c = search needs

@@ -1,6 +1,6 @@
 -- `spell_payload` meets its contract: the first i bytes are spelled, and then the leftovers are cleared. Assumes nothing.
 use mathlib.Core.Path.{_≡_, refl, ap, _∙_}
-use Prim.Native.Nat.{_-_, _≤_}
+use Prim.Native.Nat.{_+_, _-_, _*_, _≤_}
 use native.Mathlib.Omega.{arith}
 use borrow.Author.Needs.{needs}
 use lib.ListN.{length, getD}
@@ -21,20 +21,28 @@ loop-holds c =
     let a = s .args in
     (omega arith, spelled-none (a .q) (a .width) (length (a .payload .now)) (length (a .message .now)) (a .payload .now) refl (a .message .now) refl (s .pre))
 
-mul-at : tie.Need-mul-at Inv-loop μ-loop
-mul-at c =
+-- there is room for the next byte, and for all of them
+next-fits : (c : tie.In-loop Inv-loop μ-loop) → c .before .loop .i * c .before .before .before .before .args .width + c .before .before .before .before .args .width ≤ length (c .before .loop .message)
+next-fits c =
     let a = c .before .before .before .before .args in
     let t = c .before .loop in
-    omega (arith, t .inv .1 .size, byte-room (a .q) (a .width) (length (a .payload .now)) (t .message) (t .inv .1 .given) (t .i) (omega arith))
+    byte-room (a .q) (a .width) (length (a .payload .now)) (t .message) (t .inv .1 .given) (t .i) (omega arith)
+
+all-fit : (c : tie.After-loop Inv-loop μ-loop) → c .before .loop .i * c .before .before .before .before .args .width ≤ length (c .before .loop .message)
+all-fit c =
+    let a = c .before .before .before .before .args in
+    let t = c .before .loop in
+    let e : t .i ≡ length (a .payload .now) = omega arith in
+    rw e (all-room (a .q) (a .width) (length (a .payload .now)) (t .message) (t .inv .1 .given))
+
+mul-at : tie.Need-mul-at Inv-loop μ-loop
+mul-at c = omega (arith, c .before .loop .inv .1 .size, next-fits c)
 
 shared-slice-read-spell-byte : tie.Need-shared-slice-read-spell-byte Inv-loop μ-loop
 shared-slice-read-spell-byte c = search needs
 
 add-spell-byte : tie.Need-add-spell-byte Inv-loop μ-loop
-add-spell-byte c =
-    let a = c .before .before .before .before .before .args in
-    let t = c .before .before .loop in
-    omega (arith, t .inv .1 .size, byte-room (a .q) (a .width) (length (a .payload .now)) (t .message) (t .inv .1 .given) (t .i) (omega arith))
+add-spell-byte c = omega (arith, c .before .before .loop .inv .1 .size, next-fits (c .before))
 
 sub-spell-byte : tie.Need-sub-spell-byte Inv-loop μ-loop
 sub-spell-byte c = omega arith
@@ -43,10 +51,7 @@ part-spell-byte-start : tie.Need-part-spell-byte-start Inv-loop μ-loop
 part-spell-byte-start c = omega arith
 
 part-spell-byte-end : tie.Need-part-spell-byte-end Inv-loop μ-loop
-part-spell-byte-end c =
-    let a = c .before .before .before .before .before .args in
-    let t = c .before .before .loop in
-    byte-room (a .q) (a .width) (length (a .payload .now)) (t .message) (t .inv .1 .given) (t .i) (omega arith)
+part-spell-byte-end c = next-fits (c .before)
 
 spell-byte-requires : tie.Need-spell-byte-requires Inv-loop μ-loop
 spell-byte-requires c κs =
@@ -70,25 +75,13 @@ loop-again c =
     )
 
 mul-spelled : tie.Need-mul-spelled Inv-loop μ-loop
-mul-spelled c =
-    let a = c .before .before .before .before .args in
-    let t = c .before .loop in
-    let e : t .i ≡ length (a .payload .now) = omega arith in
-    rw e (omega (arith, t .inv .1 .size, all-room (a .q) (a .width) (length (a .payload .now)) (t .message) (t .inv .1 .given)))
+mul-spelled c = omega (arith, c .before .loop .inv .1 .size, all-fit c)
 
 sub-clear : tie.Need-sub-clear Inv-loop μ-loop
-sub-clear c =
-    let a = c .before .before .before .before .args in
-    let t = c .before .loop in
-    let e : t .i ≡ length (a .payload .now) = omega arith in
-    rw e (all-room (a .q) (a .width) (length (a .payload .now)) (t .message) (t .inv .1 .given))
+sub-clear c = all-fit c
 
 part-clear-start : tie.Need-part-clear-start Inv-loop μ-loop
-part-clear-start c =
-    let a = c .before .before .before .before .args in
-    let t = c .before .loop in
-    let e : t .i ≡ length (a .payload .now) = omega arith in
-    rw e (all-room (a .q) (a .width) (length (a .payload .now)) (t .message) (t .inv .1 .given))
+part-clear-start c = all-fit c
 
 part-clear-end : tie.Need-part-clear-end Inv-loop μ-loop
 part-clear-end c = search needs
@@ -96,20 +89,17 @@ part-clear-end c = search needs
 clear-requires : tie.Need-clear-requires Inv-loop μ-loop
 clear-requires c κs = search needs
 
-same-length : tie.Need-same-length Inv-loop μ-loop
-same-length c =
-    let a = c .before .before .before .before .before .before .before .before .args in
-    let t = c .before .before .before .before .before .loop in
-    let e : t .i ≡ length (a .payload .now) = omega arith in
-    ap length (spelled-all (a .q) (a .width) (length (a .payload .now)) (length (a .message .now)) (a .payload .now) refl (t .i) (t .message) (c .before .before .clear .last .0) e (t .inv .1) (c .before .before .clear .ensures))
-    ∙ length-message (a .q) (length (a .message .now)) (a .payload .now) (c .before .before .before .before .before .before .before .before .pre .count-is)
-
 returns : tie.Need-returns Inv-loop μ-loop
 returns c =
     let a = c .before .before .before .before .before .before .before .before .args in
     let t = c .before .before .before .before .before .loop in
     let e : t .i ≡ length (a .payload .now) = omega arith in
     spelled-all (a .q) (a .width) (length (a .payload .now)) (length (a .message .now)) (a .payload .now) refl (t .i) (t .message) (c .before .before .clear .last .0) e (t .inv .1) (c .before .before .clear .ensures)
+
+same-length : tie.Need-same-length Inv-loop μ-loop
+same-length c =
+    let s = c .before .before .before .before .before .before .before .before in
+    ap length (returns c) ∙ length-message (s .args .q) (length (s .args .message .now)) (s .args .payload .now) (s .pre .count-is)
 
 pub spell-payload-spec : {M : Type 1} → statement M
 spell-payload-spec =

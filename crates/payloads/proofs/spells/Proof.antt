@@ -1,6 +1,6 @@
 -- `spells` meets its contract: what is true of all bytes is true of those from i on; then the leftovers decide. Assumes nothing.
 use mathlib.Core.Path.{_≡_, refl, sym, _∙_}
-use Prim.Native.Nat.{suc, _-_, _≤_}
+use Prim.Native.Nat.{suc, _+_, _-_, _*_, _≤_}
 use native.Mathlib.Omega.{arith}
 use borrow.Author.Needs.{needs}
 use lib.Dec.{ltb}
@@ -23,23 +23,27 @@ abbrev μ-loop : tie.MeasureT-loop
 loop-holds : tie.Need-loop-holds Inv-loop μ-loop
 loop-holds c = (omega arith, refl)
 
-mul-at : tie.Need-mul-at Inv-loop μ-loop
-mul-at c =
+-- there is room for the next byte, and for all of them
+next-fits : (c : tie.In-loop Inv-loop μ-loop) → c .before .loop .i * c .before .before .before .args .width + c .before .before .before .args .width ≤ length (c .before .before .before .args .message .now)
+next-fits c =
     let s = c .before .before .before in
     let a = s .args in
-    omega (arith, c .before .before .shared-slice-known .given 0, byte-room (a .q) (a .width) (a .count) (a .message .now) (s .pre) (c .before .loop .i) (omega arith))
+    byte-room (a .q) (a .width) (a .count) (a .message .now) (s .pre) (c .before .loop .i) (omega arith)
+
+all-fit : (c : tie.After-loop Inv-loop μ-loop) → c .before .before .before .args .count * c .before .before .before .args .width ≤ length (c .before .before .before .args .message .now)
+all-fit c =
+    let s = c .before .before .before in
+    let a = s .args in
+    all-room (a .q) (a .width) (a .count) (a .message .now) (s .pre)
+
+mul-at : tie.Need-mul-at Inv-loop μ-loop
+mul-at c = omega (arith, c .before .before .shared-slice-known .given 0, next-fits c)
 
 sub-spelled-value : tie.Need-sub-spelled-value Inv-loop μ-loop
-sub-spelled-value c =
-    let s = c .before .before .before in
-    let a = s .args in
-    omega (arith, byte-room (a .q) (a .width) (a .count) (a .message .now) (s .pre) (c .before .loop .i) (omega arith))
+sub-spelled-value c = omega (arith, next-fits c)
 
 part-spelled-value-start : tie.Need-part-spelled-value-start Inv-loop μ-loop
-part-spelled-value-start c =
-    let s = c .before .before .before in
-    let a = s .args in
-    omega (arith, byte-room (a .q) (a .width) (a .count) (a .message .now) (s .pre) (c .before .loop .i) (omega arith))
+part-spelled-value-start c = omega (arith, next-fits c)
 
 part-spelled-value-end : tie.Need-part-spelled-value-end Inv-loop μ-loop
 part-spelled-value-end c = search needs
@@ -80,22 +84,13 @@ loop-again c =
     )
 
 mul-spelled : tie.Need-mul-spelled Inv-loop μ-loop
-mul-spelled c =
-    let s = c .before .before .before in
-    let a = s .args in
-    omega (arith, all-room (a .q) (a .width) (a .count) (a .message .now) (s .pre))
+mul-spelled c = omega (arith, all-fit c)
 
 sub-all-below : tie.Need-sub-all-below Inv-loop μ-loop
-sub-all-below c =
-    let s = c .before .before .before in
-    let a = s .args in
-    all-room (a .q) (a .width) (a .count) (a .message .now) (s .pre)
+sub-all-below c = all-fit c
 
 part-all-below-start : tie.Need-part-all-below-start Inv-loop μ-loop
-part-all-below-start c =
-    let s = c .before .before .before in
-    let a = s .args in
-    all-room (a .q) (a .width) (a .count) (a .message .now) (s .pre)
+part-all-below-start c = all-fit c
 
 part-all-below-end : tie.Need-part-all-below-end Inv-loop μ-loop
 part-all-below-end c = search needs

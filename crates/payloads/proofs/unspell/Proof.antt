@@ -1,6 +1,6 @@
 -- `unspell` meets its contract: the first i bytes are read. Assumes nothing.
 use mathlib.Core.Path.{_≡_, refl, _∙_}
-use Prim.Native.Nat.{_-_, _≤_, _<_}
+use Prim.Native.Nat.{_+_, _-_, _*_, _≤_, _<_}
 use native.Mathlib.Omega.{arith}
 use borrow.Author.Needs.{needs}
 use lib.ListN.{length, take, length-set}
@@ -22,23 +22,21 @@ abbrev μ-loop : tie.MeasureT-loop
 loop-holds : tie.Need-loop-holds Inv-loop μ-loop
 loop-holds c = (omega arith, refl, refl)
 
-mul-at : tie.Need-mul-at Inv-loop μ-loop
-mul-at c =
+-- there is room for the next byte
+next-fits : (c : tie.In-loop Inv-loop μ-loop) → c .before .loop .i * c .before .before .before .before .args .width + c .before .before .before .before .args .width ≤ length (c .before .before .before .before .args .message .now)
+next-fits c =
     let s = c .before .before .before .before in
     let a = s .args in
-    omega (arith, c .before .loop .inv .1, byte-room (a .q) (a .width) (length (a .payload .now)) (a .message .now) (s .pre .0) (c .before .loop .i) (omega (arith, c .before .loop .inv .1)))
+    byte-room (a .q) (a .width) (length (a .payload .now)) (a .message .now) (s .pre .0) (c .before .loop .i) (omega (arith, c .before .loop .inv .1))
+
+mul-at : tie.Need-mul-at Inv-loop μ-loop
+mul-at c = omega (arith, c .before .loop .inv .1, next-fits c)
 
 sub-spelled-value : tie.Need-sub-spelled-value Inv-loop μ-loop
-sub-spelled-value c =
-    let s = c .before .before .before .before in
-    let a = s .args in
-    omega (arith, byte-room (a .q) (a .width) (length (a .payload .now)) (a .message .now) (s .pre .0) (c .before .loop .i) (omega (arith, c .before .loop .inv .1)))
+sub-spelled-value c = omega (arith, next-fits c)
 
 part-spelled-value-start : tie.Need-part-spelled-value-start Inv-loop μ-loop
-part-spelled-value-start c =
-    let s = c .before .before .before .before in
-    let a = s .args in
-    omega (arith, byte-room (a .q) (a .width) (length (a .payload .now)) (a .message .now) (s .pre .0) (c .before .loop .i) (omega (arith, c .before .loop .inv .1)))
+part-spelled-value-start c = omega (arith, next-fits c)
 
 part-spelled-value-end : tie.Need-part-spelled-value-end Inv-loop μ-loop
 part-spelled-value-end c = search needs
