@@ -1,4 +1,4 @@
--- What is asked of a code for localized bursts, whatever its construction. Assumes nothing.
+-- What is asked of a code for localized bursts (document 01's runs), whatever its construction. Assumes nothing.
 use mathlib.Core.Path.{_≡_}
 use mathlib.Core.Logic.{_↔_}
 use mathlib.Core.Bool.{Bool, true, false}

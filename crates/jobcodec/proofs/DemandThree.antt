@@ -27,7 +27,7 @@ use Rattle.jobs.proofs.Simulates.{simulation-from-empty, accepted-by}
 use Rattle.payloads.specs.Payload.{carriesJob, jobNumber, messageOf, payloadIn, spellsPayload}
 use Rattle.jobcodec.specs.JobWrite.{whereOpen}
 use Rattle.jobcodec.specs.JobRead.{JobRead, handOut, withhold, jobIn, jobReading, jobReadOut}
-use Rattle.jobcodec.specs.DemandThree.{Gives, OnlyPair, BothFacts, isRefusal, isWordRefusal, HandsOut, Presented, Claim, DemandThree}
+use Rattle.jobcodec.specs.DemandThree.{Gives, OnlyPair, BothFacts, isRefusal, isWordRefusal, isCallRefusal, HandsOut, Presented, Claim, DemandThree}
 use Rattle.jobcodec.proofs.Examples.{figures, wordWith, buffer, opened, computed}
 use Rattle.payloads.proofs.Payload.{payload-back, payload-passes, payload-is, message-is}
 
@@ -164,8 +164,8 @@ listed-refusal f w a (disagreeing _ _ _ _) = (refl, refl)
 
 -- a reading that the claim is not about fails one of the tests before the word is read
 turn-away : (f : Params) (es : List Entry) (w out : List ℕ) → twice es ≡ false → (Presented (inRange f && fits f) (constructionA f) w out → ⊥)
-    → (a : ℕ) × (isRefusal a ≡ true) × (jobReadOut f es w out ≡ withhold out a)
-unfolding jobReadOut jobReading isRefusal any
+    → (a : ℕ) × (isCallRefusal a ≡ true) × (jobReadOut f es w out ≡ withhold out a)
+unfolding jobReadOut jobReading isCallRefusal any
 turn-away f es w out once unpresented =
     let K = payloadLen (f .q) (messageLen f) in
     by-bool (inRange f)

@@ -1,5 +1,5 @@
--- Demand 3: after any list of calls on the job table, a job is handed out exactly when its word came from one pair of placement and payload and
--- its last accepted call was an opening. The statement; its proof is `demand-three` of proofs/DemandThree.antt. Assumes nothing.
+-- Demand 3: after any list of calls on the job table, a job is handed out exactly when one pair of placement and payload, and no other, gives a word
+-- that differs from the found one only inside its bursts, and its last accepted call was an opening. The statement; its proof is `demand-three` of proofs/DemandThree.antt. Assumes nothing.
 use mathlib.Core.Path.{_≡_}
 use mathlib.Core.Logic.{_↔_}
 use mathlib.Core.Bool.{Bool, true, _&&_}
@@ -8,7 +8,7 @@ use mathlib.Core.Option.{none, some}
 use Prim.Native.Nat.{ℕ}
 use lib.Dec.{eqb}
 use lib.ListN.{length}
-use Rattle.refusals.specs.Refusals.{served, noPattern, valueTooLarge, disagrees, badPayload, jobCancelled, notOpen, refusals}
+use Rattle.refusals.specs.Refusals.{served, invalid, unfit, wrongLength, badSymbol, noPattern, valueTooLarge, disagrees, badPayload, jobCancelled, notOpen, refusals}
 use Rattle.combinatorics.specs.Lists.{any}
 use Rattle.cells.specs.Bytes.{payloadLen}
 use Rattle.cells.specs.Codec.{Codec, Word, LeadsTo}
@@ -47,13 +47,17 @@ isRefusal a = any (eqb a) refusals
 unfoldable pub isWordRefusal : ℕ → Bool
 isWordRefusal a = any (eqb a) (noPattern ∷ valueTooLarge ∷ disagrees ∷ badPayload ∷ [])
 
+-- 1, 2, 3, 4 or 10: what is refused before a word is read
+unfoldable pub isCallRefusal : ℕ → Bool
+isCallRefusal a = any (eqb a) (invalid ∷ unfit ∷ wrongLength ∷ badSymbol ∷ badPayload ∷ [])
+
 -- what a job reading of w after those calls is to be
 pub record HandsOut (c : Codec) (ledger : List Call) (w out : List ℕ) (r : JobRead) : Type 0 where
   -- the job is handed out exactly when both facts hold
   pub exactly : (r .answer ≡ served) ↔ ((starts : List ℕ) × (payload : List ℕ) × BothFacts c ledger w starts payload)
   -- and it is that payload
   pub hands : (starts payload : List ℕ) → BothFacts c ledger w starts payload → r ≡ handOut payload
-  -- otherwise it is refused, and the lent buffer keeps what it held
+  -- otherwise it is refused, and the lent buffer keeps what it held; the fields below say with which number
   pub otherwise : ((starts payload : List ℕ) → BothFacts c ledger w starts payload → ⊥) → (a : ℕ) × (isRefusal a ≡ true) × (r ≡ withhold out a)
   -- where the first fact fails, with 7, 8, 9 or 10; which of them, the word alone says (`jobReadOut`)
   pub no-pair : ((starts payload : List ℕ) → Gives c w starts payload → ⊥) → (a : ℕ) × (isWordRefusal a ≡ true) × (r ≡ withhold out a)
@@ -81,8 +85,8 @@ pub record Claim (fit : Bool) (c : Codec) (before calls : List Call) (w out answ
   -- "Each call answers as the ledger does, 0 for accepted."
   pub judged : answers ≡ verdictsFrom before calls
   pub reading : Presented fit c w out → HandsOut c (acceptedBy calls answers before) w out r
-  -- and nothing is handed out of anything else
-  pub turned-away : (Presented fit c w out → ⊥) → (a : ℕ) × (isRefusal a ≡ true) × (r ≡ withhold out a)
+  -- and nothing is handed out of anything else: 1, 2, 3, 4 or 10; which of them, the order says (`jobReadOut`)
+  pub turned-away : (Presented fit c w out → ⊥) → (a : ℕ) × (isCallRefusal a ≡ true) × (r ≡ withhold out a)
 
 -- the claim for Construction A, "in a ledger that begins with every number unknown"
 abbrev pub ClaimA : Params → List Call → List ℕ → List ℕ → List ℕ → JobRead → Type 0

@@ -20,7 +20,7 @@ use Rattle.jobcodec.specs.JobRead.{JobRead}
 abbrev pub seen : ℕ → List ℕ → JobRead
 seen a out = record { answer = a; payload = out }
 
--- the number of a refused word
+-- 0 or the refusal
 abbrev pub refusalIn : WordAnswer → ℕ
 refusalIn (Accepted v) = served
 refusalIn (Refused a) = a
@@ -33,7 +33,7 @@ pub record Laid (f : Params) (l : Layout) (es : List Entry) : Type 0 where
   pub once : twice es ≡ false
 
 -- a payload as long as the message has bytes
-pub record Spellable (f : Params) (payload message : List ℕ) : Type 0 where
+pub record PayloadFits (f : Params) (payload message : List ℕ) : Type 0 where
   pub range : inRange f ≡ true
   pub count : length payload ≡ payloadLen (f .q) (length message)
 

@@ -29,13 +29,16 @@ withhold out a = record { answer = a; payload = out }
 
 -- ---- Under any codec with alphabet q and messages of k symbols
 
--- "The job reader goes on only with an accepted word": 10, 12 and 14 are left to refuse with
-abbrev pub jobIn : ℕ → ℕ → List Entry → List ℕ → Reading → JobRead
-jobIn q k es out (refused a) = withhold out a
-jobIn q k es out (accepted ss ms) =
+-- "The job reader goes on only with an accepted word": of its message 10, 12 and 14 are left to refuse with
+abbrev pub jobOf : ℕ → ℕ → List Entry → List ℕ → List ℕ → JobRead
+jobOf q k es out ms =
     must (spellsPayload q k ms) (withhold out badPayload)
     (whereOpen (jobStatus es (payloadIn q k ms)) (withhold out)
     (handOut (payloadIn q k ms)))
+
+abbrev pub jobIn : ℕ → ℕ → List Entry → List ℕ → Reading → JobRead
+jobIn q k es out (refused a) = withhold out a
+jobIn q k es out (accepted ss ms) = jobOf q k es out ms
 
 -- "10 for K, 3 4 7 8 9, 10, 12 14"
 unfoldable pub jobReading : Codec → List Entry → List ℕ → List ℕ → JobRead

@@ -44,7 +44,7 @@ callsOf [] ns = []
 callsOf (k ∷ ks) [] = []
 callsOf (k ∷ ks) (n ∷ ns) = callBefore (kindOf k) n (callsOf ks ns)
 
--- The numbers and the answers are as many as the letters: 3 as for lent lists of words (docs/DECISIONS.md).
+-- The numbers and the answers are as many as the letters: 3 as for any lent list of another length (docs/DECISIONS.md).
 unfoldable pub lengthsFit : List ℕ → List ℕ → List ℕ → Bool
 lengthsFit letters numbers answers = eqb (length numbers) (length letters) && eqb (length answers) (length letters)
 

@@ -1,4 +1,5 @@
-// Payloads: bytes spelled into the symbols of a message, and read back. Assumes nothing.
+// Payloads: bytes spelled into the symbols of a message, and read back. Inner functions of job writing and job reading: what they ask for is tested
+// there. Assumes nothing.
 ghost use mathlib.Core.Path.{_≡_};
 ghost use mathlib.Core.Bool.{true};
 ghost use Prim.Native.Nat.{_≤_};
@@ -97,7 +98,7 @@ pub fn number_in(q: u64, width: usize, count: usize, message: &[u8]) -> u32
     number as u32
 }
 
-// What the first `width` symbols spell, most significant first. Whatever bytes stand there, eight of them are less than 64 bits.
+// What the first `width` symbols spell, most significant first. Whatever bytes stand there, eight of them stay below 2^64.
 fn spelled_value(q: u64, width: usize, symbols: &[u8]) -> u64
     requires { ⌜ Valued q width (now symbols) ⌝ }
     ensures { λ r. ⌜ r ≡ value q (replicate width plain) (now (symbols .entry)) ⌝ }
