@@ -1,19 +1,19 @@
 -- Laws of the walk over a word's cells: where it goes on, and that every stretch is of one kind. Assumes nothing.
 use mathlib.Core.Path.{_≡_, refl, sym, ap, _∙_, subst}
-use mathlib.Core.Logic.{_≢_, _⊎_, inl, inr, ⊎-elim}
-use mathlib.Core.Bool.{Bool, true, false, not, cond, _&&_, true≢false}
+use mathlib.Core.Logic.{_≢_, inl, inr, ⊎-elim}
+use mathlib.Core.Bool.{Bool, true, false, cond, _&&_, true≢false}
 use mathlib.Core.List.{List, [], _∷_, map}
 use Prim.Native.Nat.{ℕ, zero, suc, _+_, _-_, _≤_, _<_, min}
 use native.Mathlib.Nat.{mul-pos}
 use native.Mathlib.Numerals.{add-one}
 use native.Mathlib.Omega.{arith}
-use lib.Dec.{leb, eqb}
+use lib.Dec.{leb}
 use lib.ListN.{length, getD}
 use Rattle.combinatorics.specs.Bursts.{inBurst}
 use Rattle.combinatorics.proofs.Bursts.{Placed, placed-at, placed-step, placed-grows, burst-at, burst-free}
 use Rattle.combinatorics.proofs.Cases.{by-le, by-bool, eqb-same, eqb-other, leb-holds, leb-fails}
 use Rattle.combinatorics.proofs.Stretch.{Each, top-only}
-use Rattle.cells.specs.Cells.{Cell, burst, fixed, digit, message}
+use Rattle.cells.specs.Cells.{burst, fixed, digit, message}
 use Rattle.cells.proofs.Cut.{block-with, block-first, block-end, block-next, block-rises}
 use Rattle.construction_a.specs.Figures.{Params, parts, blocks, headOf, blockOf, indexTail}
 use Rattle.construction_a.specs.Writing.{isBurst, isIndex, cellOf, kindAt}
