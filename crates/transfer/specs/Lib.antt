@@ -1,0 +1,5 @@
+pub mod Session
+pub mod Lines
+pub mod Records
+pub mod Program
+pub mod Example
