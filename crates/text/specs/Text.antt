@@ -14,7 +14,7 @@ zeroChar = 48
 abbrev pub capitalA : ℕ
 capitalA = 65
 
--- how many decimal digits a number takes: the fewest that spell it, and at least one. Sought up to the number itself, which always has so few.
+-- how many decimal digits a number takes: the fewest that spell it, and at least one. Sought from 1 up to the number itself; 0 takes one.
 unfoldable pub decimalLen : ℕ → ℕ
 decimalLen v = first v 1 (λ k. ltb v (10 ^ k))
 

@@ -1,0 +1,111 @@
+-- Laws of numbers and bytes as text: how many digits there are, the library's digits, and hex byte by byte. Assumes nothing.
+use mathlib.Core.Path.{_≡_, refl, sym, ap, _∙_}
+use mathlib.Core.List.{List, [], _∷_, _++_, map, map-append, flatMap, append-assoc, append-nil}
+use Prim.Native.Nat.{ℕ, zero, suc, _+_, _-_, _*_, _/_, _%_, _^_, _≤_, _<_}
+use native.Mathlib.Nat.{div-lt-iff-lt-mul, mod-lt, pow-zero, pow-suc, pow-le-pow-right, one-le-pow}
+use native.Mathlib.Numerals.{add-one}
+use native.Mathlib.Omega.{arith}
+use lib.Dec.{ltb}
+use lib.ListN.{length, getD, take, replicate, length-map, length-replicate, replicate-append-replicate}
+use lib.Seq.{length-take-le, take-all, take-suc}
+use Rattle.io.specs.Digits.{digits, Fewest}
+use Rattle.combinatorics.specs.Stretch.{first}
+use Rattle.combinatorics.proofs.Cases.{by-le, leb-holds, leb-fails}
+use Rattle.combinatorics.proofs.Stretch.{first-is, first-most, first-within, length-flat}
+use Rattle.cells.specs.Digits.{plain, span, spell}
+use Rattle.cells.proofs.Digits.{span-plain, spell-snoc, length-spell}
+use Rattle.text.specs.Text.{zeroChar, decimalLen, decimal, hexByte, hex, overwrite}
+use Rattle.text.proofs.Line.{Put, put-none, put-then}
+
+-- ---- Decimal
+
+pub length-decimal : (v : ℕ) → length (decimal v) ≡ decimalLen v
+unfolding decimal
+length-decimal v =
+    let ds = spell 10 (replicate (decimalLen v) plain) v in
+    length-map ds (λ d. zeroChar + d) ∙ length-spell 10 (replicate (decimalLen v) plain) v ∙ length-replicate (decimalLen v) plain
+
+-- no more digits than hold it
+pub decimal-most : (v k : ℕ) → 1 ≤ k → v < 10 ^ k → length (decimal v) ≤ k
+unfolding decimalLen
+decimal-most v k h l =
+    rw (length-decimal v)
+    (by-le k v (λ _. decimalLen v ≤ k) (λ g. first-most v 1 k (λ x. ltb v (10 ^ x)) h (omega arith) (leb-holds (suc v) (10 ^ k) l))
+    (λ g. omega (arith, first-within v 1 (λ x. ltb v (10 ^ x)))))
+
+-- 64 bits take 20 at most
+pub decimal-room : (v : ℕ) → v < 2 ^ 64 → length (decimal v) ≤ 20
+decimal-room v h = decimal-most v 20 (omega arith) (omega arith)
+
+past-power : (k : ℕ) → k < 10 ^ k
+past-power zero = rw (pow-zero 10) (omega arith)
+past-power (suc k) = rw (pow-suc 10 k) (omega (arith, past-power k))
+
+-- the fewest digits that hold a number, as the library counts them, are those that it takes
+fewest-is : (v k : ℕ) → Fewest 10 1 v k → decimalLen v ≡ k
+unfolding decimalLen first
+fewest-is zero k (h, l, f) = by-le k 1 (λ _. 1 ≡ k) (λ g. omega arith) (λ g. absurd (omega (arith, f g, one-le-pow (k - 1) 10 (omega arith))))
+fewest-is (suc v) k (h, l, f) =
+    let within : k < 1 + suc v = by-le k 1 (λ _. k < 1 + suc v) (λ g. omega arith) (λ g. omega (arith, f g, past-power (k - 1))) in
+    first-is (suc v) 1 k (λ x. ltb (suc v) (10 ^ x)) h within
+    (λ x a b. leb-fails (suc (suc v)) (10 ^ x) (omega (arith, f (omega arith), pow-le-pow-right {n = 10} (omega arith) {i = x} {j = k - 1} (omega arith))))
+    (leb-holds (suc (suc v)) (10 ^ k) l)
+
+-- the last digit by itself
+spell-last : (k v : ℕ) → v < 10 ^ suc k → spell 10 (replicate (suc k) plain) v ≡ spell 10 (replicate k plain) (v / 10) ++ (v % 10 ∷ [])
+spell-last k v l =
+    let e : replicate (suc k) plain ≡ replicate k plain ++ (plain ∷ []) =
+    sym (replicate-append-replicate k 1 plain ∙ ap (λ (n : ℕ). replicate n plain) (add-one k)) in
+    let z : 0 + v % 10 ≡ v % 10 = omega arith in
+    let some : 0 < span 10 (replicate k plain) = rw (span-plain 10 k) (one-le-pow k 10 (omega arith)) in
+    rw e (spell-snoc 10 (replicate k plain) plain v (omega arith) some (rw (← e, span-plain 10 (suc k)) l) ∙ rw z)
+
+spell-none : (v : ℕ) → spell 10 [] v ≡ []
+unfolding spell
+spell-none v = refl
+
+digits-spell : (k v : ℕ) → v < 10 ^ k → digits 10 k v ≡ map (λ d. zeroChar + d) (spell 10 (replicate k plain) v)
+digits-spell zero v l = rw (spell-none v)
+digits-spell (suc k) v l =
+    let b : v < 10 ^ k * 10 = rw (← pow-suc 10 k) l in
+    rw (spell-last k v l, map-append, leb-holds (suc (v % 10)) 10 (mod-lt v (omega arith)), digits-spell k (v / 10) (div-lt-iff-lt-mul (omega arith) .1 b))
+
+pub digits-decimal : (v k : ℕ) → Fewest 10 1 v k → digits 10 k v ≡ decimal v
+unfolding decimal
+digits-decimal v k (h, l, f) = rw (fewest-is v k (h, l, f)) (digits-spell k v l)
+
+-- ---- Hex
+
+length-hex-byte : (b : ℕ) → length (hexByte b) ≡ 2
+unfolding hexByte
+length-hex-byte b = refl
+
+pub length-hex : (bytes : List ℕ) → length (hex bytes) ≡ 2 * length bytes
+unfolding hex
+length-hex bytes = omega (arith, length-flat 2 hexByte bytes length-hex-byte)
+
+hex-snoc : (bytes : List ℕ) (b : ℕ) → hex (bytes ++ (b ∷ [])) ≡ hex bytes ++ hexByte b
+unfolding hex flatMap
+hex-snoc [] b = append-nil (hexByte b)
+hex-snoc (c ∷ cs) b = rw (hex-snoc cs b) (sym (append-assoc (hexByte c) (hex cs) (hexByte b)))
+
+-- as a loop goes, byte by byte
+pub hex-none : (at : ℕ) (line : List ℕ) → Put at (hex []) line line at
+unfolding hex flatMap
+hex-none at line = put-none at line
+
+module _ (at : ℕ) (bytes before line : List ℕ) (i behind : ℕ) (room : at + 2 * length bytes ≤ length before) (p : Put at (hex (take i bytes)) before line behind) where
+  pub hex-room : i < length bytes → behind + 2 ≤ length line
+  hex-room h =
+      let n : length (take i bytes) ≡ i = length-take-le i bytes (omega arith) in
+      omega (arith, p .size, p .behind-is, length-hex (take i bytes))
+
+  pub hex-turn : (next : List ℕ) (end : ℕ) → i < length bytes → next ≡ overwrite behind (hexByte (getD bytes i 0)) line → end ≡ behind + 2
+      → Put at (hex (take (i + 1) bytes)) before next end
+  hex-turn next end h e n =
+      let two : length (hexByte (getD bytes i 0)) ≡ 2 = length-hex-byte (getD bytes i 0) in
+      rw (add-one i, take-suc bytes i 0 h, hex-snoc (take i bytes) (getD bytes i 0))
+      (put-then at (hex (take i bytes)) (hexByte (getD bytes i 0)) before line next behind end (omega (arith, hex-room h, p .size)) p e (omega arith))
+
+  pub hex-all : length bytes ≤ i → Put at (hex bytes) before line behind
+  hex-all h = rw (take-all i bytes h) at p
