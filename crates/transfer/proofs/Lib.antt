@@ -1,2 +1,4 @@
 pub mod Example
 pub mod Program
+pub mod Lengths
+pub mod Starts

@@ -14,6 +14,7 @@ use Rattle.construction_a.specs.Figures.{Params}
 use Rattle.construction_a.specs.Outcomes.{FiguresOut, figured, unserved, figuresOut}
 use Rattle.jobs.specs.Replay.{kindOf, callBy, isLetter}
 use Rattle.payloads.specs.Payload.{jobNumber}
+use Rattle.transfer.proofs.Lengths.{reaches}
 use Rattle.transfer.specs.Session.{Session, atStart, maxRecords}
 use Rattle.transfer.specs.Lines.{stopLine, endLine}
 use Rattle.transfer.specs.Records.{letterS, letterW, letterR, headLen, letterOf, isMarked, isEmpty, current, writeLen, readLen, recordLen, isWhole, readable, Step, stopped, ended, figuresIn, figuresStep, callStep, writeOut, readOut, serveOut, stepOut}
@@ -59,26 +60,6 @@ module _ (s : Session) (bytes : List ℕ) where
 
 -- ---- What is cut off is empty only at the end of input
 
-write-reaches : (f : Option Params) → 1 ≤ reach (writeLen f)
-write-reaches none = omega arith
-write-reaches (some f) = omega arith
-
-read-reaches : (f : Option Params) → 1 ≤ reach (readLen f)
-read-reaches none = omega arith
-read-reaches (some f) = omega arith
-
-reaches : (s : Session) (letter : ℕ) → 1 ≤ reach (recordLen s letter)
-unfolding recordLen
-reaches s letter = go (eqb letter letterS) (isLetter letter) (eqb letter letterW) (eqb letter letterR)
-  where
-    go : (a b c d : Bool)
-        → 1 ≤ reach (cond a (some (headLen + 6)) (cond b (some (headLen + 4)) (cond c (writeLen (current (s .figures))) (cond d (readLen (current (s .figures))) none))))
-    go true b c d = omega arith
-    go false true c d = omega arith
-    go false false true d = write-reaches (current (s .figures))
-    go false false false true = read-reaches (current (s .figures))
-    go false false false false = omega arith
-
 empty-take : (k : ℕ) (input : List ℕ) → 1 ≤ k → isEmpty (take k input) ≡ isEmpty input
 empty-take zero input h = absurd (omega arith)
 empty-take (suc k) [] h = refl
@@ -94,7 +75,7 @@ servedOf s input = serveOut s (letterOf (nextRecord s input)) (nextRecord s inpu
 step-is : (s : Session) (input : List ℕ) (more : Bool) → ltb (s .count) maxRecords ≡ more
     → stepOf s input ≡ cond (isEmpty input) (ended s) (must more (stopped s) (must (readable s (nextRecord s input)) (stopped s) (servedOf s input)))
 unfolding stepOut
-step-is s input more e = rw (empty-take (reach (recordLen s (letterOf input))) input (reaches s (letterOf input)), e)
+step-is s input more e = rw (empty-take (reach (recordLen s (letterOf input))) input (omega (arith, reaches s (letterOf input))), e)
 
 -- ---- Steps, by what the step gives
 
