@@ -2,3 +2,5 @@ pub mod Example
 pub mod Program
 pub mod Lengths
 pub mod Starts
+pub mod Fields
+pub mod Serving

@@ -2,9 +2,10 @@
 use mathlib.Core.Path.{_≡_}
 use mathlib.Core.Option.{Option, none, some}
 use mathlib.Core.List.{List}
-use Prim.Native.Nat.{ℕ, _+_, _*_, _≤_}
-use lib.ListN.{length}
-use Rattle.construction_a.specs.Figures.{Params, maxBursts}
+use Prim.Native.Nat.{ℕ, _+_, _*_, _≤_, _<_}
+use lib.ListN.{length, replicate}
+use Rattle.construction_a.specs.Figures.{Params, maxWord, maxBursts, messageLen}
+use Rattle.cells.specs.Bytes.{payloadLen}
 use Rattle.params.specs.Bridge.{given}
 use Rattle.params.specs.Given.{figuresOf, Fitting}
 use Rattle.params.specs.declared.Figures.{Figures}
@@ -13,8 +14,11 @@ use Rattle.jobs.specs.Slots.{entries}
 use Rattle.transfer.specs.declared.LastFigures.{LastFigures}
 use Rattle.transfer.specs.declared.LastFigures.the-variants.{Missing, Accepted}
 use Rattle.transfer.specs.declared.Session.{Session as Given}
-use Rattle.transfer.specs.Session.{Session}
-use Rattle.transfer.specs.Records.{headLen, current}
+use Rattle.transfer.specs.declared.StepAnswer.{StepAnswer}
+use Rattle.text.specs.Text.{overwrite}
+use Rattle.transfer.specs.Session.{Session, maxRecords}
+use Rattle.transfer.specs.Lines.{maxLine}
+use Rattle.transfer.specs.Records.{headLen, current, Step}
 
 abbrev pub lastFigures : LastFigures → Option Params
 lastFigures Missing = none
@@ -37,3 +41,27 @@ orZero (some k) = k
 pub record HasStarts (m : ℕ) (bytes : List ℕ) : Type 0 where
   pub few : m ≤ maxBursts
   pub room : headLen + 2 * m ≤ length bytes
+
+-- ---- A step
+
+-- a record may still be served, and the lent line has room for any line
+pub record Ready (s : Given) (line : List ℕ) : Type 0 where
+  pub fewer : s .records < maxRecords
+  pub room : maxLine ≤ length line
+
+-- a step is as the definition says, and the lent line begins with its line and keeps what stood behind
+pub record Shown (r : StepAnswer) (before line : List ℕ) (o : Step) : Type 0 where
+  pub next : sessionOf (r .next) ≡ o .next
+  pub printed : line ≡ overwrite 0 (o .line) before
+  pub len : r .len ≡ length (o .line)
+  pub stops : r .stops ≡ o .stops
+
+-- the word's buffer before it is written: 0 in each of the n places of figures that fit
+pub record Blank (f : Params) (word : List ℕ) : Type 0 where
+  pub zeros : word ≡ replicate (f .n) 0
+  pub short : f .n ≤ maxWord
+
+-- the payload's buffer before it is read: K bytes, each 0
+pub record Unread (f : Params) (payload : List ℕ) : Type 0 where
+  pub zeros : payload ≡ replicate (payloadLen (f .q) (messageLen f)) 0
+  pub short : payloadLen (f .q) (messageLen f) ≤ maxWord

@@ -1,7 +1,8 @@
 -- The lines that the transfer program prints, as ASCII codes. Assumes nothing.
 use mathlib.Core.List.{List, [], _∷_, _++_}
-use Prim.Native.Nat.{ℕ}
+use Prim.Native.Nat.{ℕ, _+_, _*_}
 use Rattle.refusals.specs.Refusals.{served, badRecord}
+use Rattle.construction_a.specs.Figures.{maxWord}
 use Rattle.text.specs.Text.{decimal}
 
 -- the characters between fields and behind a line
@@ -35,3 +36,7 @@ stopLine = 115 ∷ 116 ∷ 111 ∷ 112 ∷ spaced (decimal badRecord ∷ [])
 -- prints "end"
 abbrev pub endLine : List ℕ
 endLine = 101 ∷ 110 ∷ 100 ∷ lineFeed ∷ []
+
+-- room for the longest line: a word or a payload in hex, and six characters more
+abbrev pub maxLine : ℕ
+maxLine = 2 * maxWord + 6

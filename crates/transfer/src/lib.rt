@@ -1,21 +1,29 @@
 // The transfer program, record by record: a session by value, how long a record is, and the step of one record. Assumes nothing.
 ghost use mathlib.Core.Path.{_≡_};
-ghost use mathlib.Core.Bool.{true};
+ghost use mathlib.Core.Bool.{true, false};
 ghost use Prim.Native.Nat.{_+_, _*_, _≤_, _<_};
 ghost use lib.ListN.{length};
 ghost use Rattle.combinatorics.specs.Stretch.{tabulate};
-ghost use Rattle.construction_a.specs.Outcomes.{held};
+ghost use Rattle.construction_a.specs.Figures.{maxWord};
+ghost use Rattle.construction_a.specs.Outcomes.{held, figuresOut};
+ghost use Rattle.jobs.specs.Replay.{kindOf, callBy};
+ghost use Rattle.jobs.specs.Slots.{entries};
+ghost use Rattle.jobcodec.specs.JobWrite.{jobWriteOut};
+ghost use Rattle.jobcodec.specs.JobRead.{jobReadOut};
 ghost use Rattle.params.specs.Bridge.{given};
 ghost use Rattle.placements.specs.Bridge.{heldAs};
-ghost use Rattle.transfer.specs.Session.{atStart};
-ghost use Rattle.transfer.specs.Records.{headLen, twoBytes, writeLen, readLen, recordLen, readable, figuresIn};
-ghost use Rattle.transfer.specs.Bridge.{lastFigures, sessionOf, Current, orZero, HasStarts};
+ghost use Rattle.transfer.specs.Session.{atStart, maxRecords};
+ghost use Rattle.transfer.specs.Lines.{maxLine};
+ghost use Rattle.transfer.specs.Records.{headLen, twoBytes, writeLen, readLen, recordLen, readable, figuresIn, stopped, ended, figuresStep, callStep, writeStep, readStep};
+ghost use Rattle.transfer.specs.Bridge.{lastFigures, sessionOf, Current, orZero, HasStarts, Ready, Shown};
 use jobs::JobTable;
 use params::Figures;
 use params::Params;
 use params::bytes;
 use placements::Placement;
 use refusals::Refusal;
+
+mod lines;
 
 // The figures of the last accepted S.
 pub enum LastFigures {
@@ -28,6 +36,13 @@ pub struct Session {
     pub figures: LastFigures,
     pub table: JobTable,
     pub records: u32,
+}
+
+// What a step answers: the session afterwards, how many bytes of the lent line are printed, and whether the program ends.
+pub struct StepAnswer {
+    pub next: Session,
+    pub len: usize,
+    pub stops: bool,
 }
 
 // Mark and letter.
@@ -43,9 +58,14 @@ impl Session {
     // "any record after the 4294967295th" is refused.
     pub const MAX_RECORDS: u32 = 4294967295;
 
+    // Room for the longest line.
+    pub const MAX_LINE: usize = 2 * (Params::MAX_WORD as usize) + 6;
+
     // The session before the first record.
     pub fn start() -> Self
-        ensures { λ r. ⌜ sessionOf r ≡ atStart ⌝ }
+        ensures session { λ r. ⌜ sessionOf r ≡ atStart ⌝ }
+        ensures records { λ _. do ⌜ (← ⟦Session::MAX_RECORDS⟧ .entry) ≡ maxRecords ⌝ }
+        ensures room { λ _. do ⌜ (← ⟦Session::MAX_LINE⟧ .entry) ≡ maxLine ⌝ }
     {
         Session {
             figures: LastFigures::Missing,
@@ -53,6 +73,136 @@ impl Session {
             records: 0,
         }
     }
+
+    // The session after one record more, with these figures and this table.
+    fn after(self, figures: LastFigures, table: JobTable, len: usize) -> StepAnswer
+        requires { ⌜ self .records < maxRecords ⌝ }
+        ensures next { λ r. ⌜ sessionOf (r .next) ≡ Rattle.transfer.specs.Session.after (sessionOf self) (lastFigures figures) (entries table) ⌝ }
+        ensures len { λ r. ⌜ r .len ≡ len ⌝ }
+        ensures stops { λ r. ⌜ r .stops ≡ false ⌝ }
+    {
+        StepAnswer {
+            next: Session {
+                figures,
+                table,
+                records: self.records + 1,
+            },
+            len,
+            stops: false,
+        }
+    }
+
+    // The same with the figures and the table as they were.
+    fn counted(self, len: usize) -> StepAnswer
+        requires { ⌜ self .records < maxRecords ⌝ }
+        ensures next { λ r. ⌜ sessionOf (r .next) ≡ Rattle.transfer.specs.Session.after (sessionOf self) (lastFigures (self .figures)) (entries (self .table)) ⌝ }
+        ensures len { λ r. ⌜ r .len ≡ len ⌝ }
+        ensures stops { λ r. ⌜ r .stops ≡ false ⌝ }
+    {
+        let figures = self.figures;
+        let table = self.table;
+        self.after(figures, table, len)
+    }
+}
+
+// Prints "stop 11" and ends.
+fn stop(session: Session, line: &mut [u8]) -> StepAnswer
+    requires { ⌜ maxLine ≤ length (now line) ⌝ }
+    ensures { λ r. ⌜ Shown r (now (line .entry)) (now (line .exit)) (stopped (sessionOf session)) ⌝ }
+{
+    StepAnswer {
+        next: session,
+        len: lines::put_stop(line),
+        stops: true,
+    }
+}
+
+// The end of input prints "end".
+fn end(session: Session, line: &mut [u8]) -> StepAnswer
+    requires { ⌜ maxLine ≤ length (now line) ⌝ }
+    ensures { λ r. ⌜ Shown r (now (line .entry)) (now (line .exit)) (ended (sessionOf session)) ⌝ }
+{
+    StepAnswer {
+        next: session,
+        len: lines::put_end(line),
+        stops: true,
+    }
+}
+
+// S: a refused one keeps the former figures, and the table outlasts it.
+fn serve_figures(session: Session, figures: Params, line: &mut [u8]) -> StepAnswer
+    requires { ⌜ Ready session (now line) ⌝ }
+    ensures { λ r. ⌜ Shown r (now (line .entry)) (now (line .exit)) (figuresStep (sessionOf session) (given figures) (figuresOut (given figures))) ⌝ }
+{
+    let answer = Params::figures(figures.n, figures.q, figures.m, figures.b);
+    match answer {
+        Figures::Refused(number) => {
+            let len = lines::put_refusal(line, b'S', number);
+            session.counted(len)
+        }
+        Figures::Fit(layout) => {
+            let len = lines::put_figures(
+                line,
+                layout.placement_count,
+                layout.index_tail as u64,
+                layout.message_len as u64,
+            );
+            let table = session.table;
+            session.after(LastFigures::Accepted(figures), table, len)
+        }
+    }
+}
+
+// O, C, F: the call's answer, and the table that it hands back.
+fn serve_call(session: Session, letter: u8, number: u32, line: &mut [u8]) -> StepAnswer
+    requires { ⌜ Ready session (now line) ⌝ }
+    ensures { λ r. ⌜ Shown r (now (line .entry)) (now (line .exit)) (callStep (sessionOf session) letter (callBy (kindOf letter) (entries (session .table)) number)) ⌝ }
+{
+    let table = session.table;
+    let out = table.call(letter, number);
+    let len = lines::put_refusal(line, letter, out.answer);
+    let figures = session.figures;
+    let next = out.table;
+    session.after(figures, next, len)
+}
+
+// W, with a lent word that holds 0.
+fn write_word(
+    session: Session,
+    figures: Params,
+    at: Placement,
+    payload: &[u8],
+    word: &mut [u8],
+    line: &mut [u8],
+) -> StepAnswer
+    requires { ⌜ Ready session (now line) × (length (now word) ≤ maxWord) ⌝ }
+    ensures { λ r. ⌜ Shown r (now (line .entry)) (now (line .exit)) (writeStep (sessionOf session) (jobWriteOut (given figures) (entries (session .table)) (heldAs at) (now (payload .entry)) (now (word .entry)))) ⌝ }
+{
+    let table = session.table;
+    let answer = jobcodec::job_write(figures, table, at, payload, word);
+    if answer != Refusal::NONE {
+        return session.counted(lines::put_refusal(line, b'W', answer));
+    }
+    session.counted(lines::put_word(line, word))
+}
+
+// R, with a lent payload that holds 0.
+fn read_payload(
+    session: Session,
+    figures: Params,
+    word: &[u8],
+    payload: &mut [u8],
+    line: &mut [u8],
+) -> StepAnswer
+    requires { ⌜ Ready session (now line) × (length (now payload) ≤ maxWord) ⌝ }
+    ensures { λ r. ⌜ Shown r (now (line .entry)) (now (line .exit)) (readStep (sessionOf session) (jobReadOut (given figures) (entries (session .table)) (now (word .entry)) (now (payload .entry)))) ⌝ }
+{
+    let table = session.table;
+    let answer = jobcodec::job_read(figures, table, word, payload);
+    if answer != Refusal::NONE {
+        return session.counted(lines::put_refusal(line, b'R', answer));
+    }
+    session.counted(lines::put_payload(line, payload))
 }
 
 // How many bytes a record with this letter has, mark and letter included; 0 for an unknown letter and for W or R before an accepted S.
