@@ -1,9 +1,10 @@
 -- A line put together field by field. Assumes nothing.
-use mathlib.Core.Path.{_≡_, refl, sym, ap, subst, _∙_}
+use mathlib.Core.Path.{_≡_, refl, ap, _∙_}
 use mathlib.Core.List.{List, [], _∷_, _++_, append-assoc}
-use Prim.Native.Nat.{ℕ, _+_, _≤_}
+use Prim.Native.Nat.{ℕ, _+_, _-_, _≤_}
 use native.Mathlib.Omega.{arith}
-use lib.ListN.{length}
+use lib.ListN.{length, take, drop, length-drop}
+use lib.Seq.{take-all}
 use Rattle.combinatorics.specs.Stretch.{first}
 use Rattle.cells.specs.Digits.{span, spell}
 use Rattle.text.specs.Text.{decimalLen, decimal, overwrite}
@@ -19,6 +20,10 @@ put-first text before next end h e n =
 pub put-as : {text text′ before next : List ℕ} {end : ℕ} → Put 0 text before next end → text ≡ text′ → (next ≡ overwrite 0 text′ before) × (end ≡ length text′)
 put-as {text} {text′} {before} {next} {end} p e =
     (p .put ∙ ap (λ (t : List ℕ). overwrite 0 t before) e, omega (arith, p .behind-is, ap length e))
+
+-- a part up to the end is all that stands there
+pub rest-all : (k : ℕ) (xs : List ℕ) → take (length xs - k) (drop k xs) ≡ drop k xs
+rest-all k xs = take-all (length xs - k) (drop k xs) (omega (arith, length-drop k xs))
 
 -- ---- Fields behind what stands in front
 

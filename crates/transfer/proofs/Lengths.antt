@@ -1,7 +1,7 @@
 -- The layout of the last accepted figures, and how long a record is by its letter. Assumes nothing.
 use mathlib.Core.Path.{_≡_, refl, sym, ap, subst, _∙_}
 use mathlib.Core.Logic.{_≢_}
-use mathlib.Core.Bool.{Bool, true, false, cond, _&&_}
+use mathlib.Core.Bool.{Bool, true, false, cond, _&&_, false≢true}
 use mathlib.Core.List.{List}
 use mathlib.Core.Option.{Option, none, some}
 use Prim.Native.Nat.{ℕ, _+_, _*_, _≤_, _<_}
@@ -9,10 +9,11 @@ use native.Mathlib.Nat.{div-le-self}
 use native.Mathlib.Omega.{arith}
 use lib.Dec.{eqb}
 use lib.ListN.{length, getD}
-use Rattle.combinatorics.proofs.Cases.{eqb-same, eqb-other}
+use Rattle.combinatorics.proofs.Cases.{eqb-same, eqb-other, eqb-true}
+use Rattle.combinatorics.proofs.Lists.{both}
 use Rattle.cells.specs.Bytes.{byteWidth, payloadLen}
 use Rattle.construction_a.specs.Figures.{Params, maxWord, messageLen}
-use Rattle.construction_a.specs.Outcomes.{FiguresOut, figuresOut}
+use Rattle.construction_a.specs.Outcomes.{figuresOut}
 use Rattle.params.specs.Answer.{figuredAs, LaidIn}
 use Rattle.params.specs.Given.{figuresOf, Fitting}
 use Rattle.params.specs.declared.Layout.{Layout}
@@ -114,3 +115,51 @@ module _ (s : Session) (bytes : List ℕ) where
       → readable s bytes ≡ eqb (length bytes) (orZero (recordLen s (letterOf bytes)))
   unfolding readable
   marked-readable l e d = rw (eqb-same (getD bytes 0 0) 76 e, eqb-same (getD bytes 1 0) 84 d) (whole-is bytes (recordLen s (letterOf bytes)) l)
+
+  pub readable-whole : readable s bytes ≡ true → isWhole bytes (recordLen s (letterOf bytes)) ≡ true
+  unfolding readable
+  readable-whole h = both (isMarked bytes) (isWhole bytes (recordLen s (letterOf bytes))) h .1
+
+-- ---- A record of its letter's length
+
+pub whole-len : (bytes : List ℕ) (k : Option ℕ) (n : ℕ) → k ≡ some n → isWhole bytes k ≡ true → length bytes ≡ n
+whole-len bytes k n e h = eqb-true (length bytes) n (ap (isWhole bytes) (sym e) ∙ h)
+
+whole-reaches : (bytes : List ℕ) (k : Option ℕ) → headLen ≤ reach k → isWhole bytes k ≡ true → headLen ≤ length bytes
+whole-reaches bytes none l h = absurd (false≢true h)
+whole-reaches bytes (some k) l h = omega (arith, eqb-true (length bytes) k h)
+
+pub whole-long : (s : Session) (letter : ℕ) (bytes : List ℕ) → isWhole bytes (recordLen s letter) ≡ true → headLen ≤ length bytes
+whole-long s letter bytes h = whole-reaches bytes (recordLen s letter) (reaches s letter) h
+
+pub write-long : (l : Layout) (f : Option Params) (bytes : List ℕ) → current f ≡ some (figuresOf l) → isWhole bytes (writeLen (current f)) ≡ true
+    → headLen + 2 * l .m ≤ length bytes
+write-long l f bytes e h =
+    omega (arith, whole-len bytes (writeLen (current f)) (headLen + 2 * l .m + payloadLen (l .q) (messageLen (figuresOf l))) (ap writeLen e) h)
+
+pub read-long : (l : Layout) (f : Option Params) (bytes : List ℕ) → current f ≡ some (figuresOf l) → isWhole bytes (readLen (current f)) ≡ true → headLen ≤ length bytes
+read-long l f bytes e h = omega (arith, whole-len bytes (readLen (current f)) (headLen + l .n) (ap readLen e) h)
+
+module _ (s : Session) (letter : ℕ) where
+  pub len-S : letter ≡ 83 → recordLen s letter ≡ some 9
+  unfolding recordLen
+  len-S e = rw e
+
+  pub len-W : letter ≡ 87 → recordLen s letter ≡ writeLen (current (s .figures))
+  unfolding recordLen kindOf
+  len-W e = rw e
+
+  pub len-R : letter ≡ 82 → recordLen s letter ≡ readLen (current (s .figures))
+  unfolding recordLen kindOf
+  len-R e = rw e
+
+  -- none of the other three
+  pub len-call : (bytes : List ℕ) → letter ≢ 83 → letter ≢ 87 → letter ≢ 82 → isWhole bytes (recordLen s letter) ≡ true
+      → (recordLen s letter ≡ some 7) × (isLetter letter ≡ true)
+  unfolding recordLen
+  len-call bytes a b c =
+      rw (eqb-other letter 83 a, eqb-other letter 87 b, eqb-other letter 82 c) (go (isLetter letter))
+    where
+      go : (t : Bool) → isWhole bytes (cond t (some 7) none) ≡ true → (_≡_ {A = Option ℕ} (cond t (some 7) none) (some 7)) × (t ≡ true)
+      go true h = (refl, refl)
+      go false h = absurd (false≢true h)

@@ -1,15 +1,15 @@
 -- The starts of a placement, filled in from the left. Assumes nothing.
 use mathlib.Core.Path.{_≡_, refl, sym, ap, _∙_}
 use mathlib.Core.List.{List, [], _∷_, _++_}
-use Prim.Native.Nat.{ℕ, zero, suc, _+_, _-_, _≤_, _<_}
+use Prim.Native.Nat.{ℕ, zero, suc, _+_, _-_, _<_}
 use native.Mathlib.Numerals.{add-one}
 use native.Mathlib.Omega.{arith}
-use lib.ListN.{length, set, replicate}
+use lib.ListN.{set, replicate}
 use lib.Seq.{append-snoc, set-at}
 use Rattle.combinatorics.specs.Stretch.{tabulate}
 use Rattle.combinatorics.proofs.Stretch.{length-tabulate}
 use Rattle.construction_a.specs.Figures.{maxBursts}
-use Rattle.construction_a.specs.Outcomes.{Held, held}
+use Rattle.construction_a.specs.Outcomes.{held}
 
 -- the first j starts, and 0 in the other places
 abbrev pub begun : (ℕ → ℕ) → ℕ → List ℕ

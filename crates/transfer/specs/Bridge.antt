@@ -1,13 +1,14 @@
 -- The declared session as the definitions hold it, and what the functions on it ask for and answer. Assumes nothing.
 use mathlib.Core.Path.{_≡_}
+use mathlib.Core.Bool.{true}
 use mathlib.Core.Option.{Option, none, some}
 use mathlib.Core.List.{List}
 use Prim.Native.Nat.{ℕ, _+_, _*_, _≤_, _<_}
-use lib.ListN.{length, replicate}
-use Rattle.construction_a.specs.Figures.{Params, maxWord, maxBursts, messageLen}
-use Rattle.cells.specs.Bytes.{payloadLen}
+use lib.ListN.{length}
+use Rattle.construction_a.specs.Figures.{Params, maxBursts}
 use Rattle.params.specs.Bridge.{given}
 use Rattle.params.specs.Given.{figuresOf, Fitting}
+use Rattle.params.specs.declared.Layout.{Layout}
 use Rattle.params.specs.declared.Figures.{Figures}
 use Rattle.params.specs.declared.Figures.the-variants.{Fit, Refused}
 use Rattle.jobs.specs.Slots.{entries}
@@ -18,7 +19,7 @@ use Rattle.transfer.specs.declared.StepAnswer.{StepAnswer}
 use Rattle.text.specs.Text.{overwrite}
 use Rattle.transfer.specs.Session.{Session, maxRecords}
 use Rattle.transfer.specs.Lines.{maxLine}
-use Rattle.transfer.specs.Records.{headLen, current, Step}
+use Rattle.transfer.specs.Records.{headLen, current, isWhole, Step}
 
 abbrev pub lastFigures : LastFigures → Option Params
 lastFigures Missing = none
@@ -56,12 +57,13 @@ pub record Shown (r : StepAnswer) (before line : List ℕ) (o : Step) : Type 0 w
   pub len : r .len ≡ length (o .line)
   pub stops : r .stops ≡ o .stops
 
--- the word's buffer before it is written: 0 in each of the n places of figures that fit
-pub record Blank (f : Params) (word : List ℕ) : Type 0 where
-  pub zeros : word ≡ replicate (f .n) 0
-  pub short : f .n ≤ maxWord
+-- the layout of the figures that a W or R record is read by, and a record as long as it needs at least
+pub record Laid (s : Given) (line : List ℕ) (l : Layout) (long : ℕ) (bytes : List ℕ) : Type 0 where
+  pub ready : Ready s line
+  pub fitting : Fitting l
+  pub long-enough : long ≤ length bytes
 
--- the payload's buffer before it is read: K bytes, each 0
-pub record Unread (f : Params) (payload : List ℕ) : Type 0 where
-  pub zeros : payload ≡ replicate (payloadLen (f .q) (messageLen f)) 0
-  pub short : payloadLen (f .q) (messageLen f) ≤ maxWord
+-- a record that has its letter's length
+pub record Whole (s : Given) (line bytes : List ℕ) (k : Option ℕ) : Type 0 where
+  pub ready : Ready s line
+  pub whole : isWhole bytes k ≡ true

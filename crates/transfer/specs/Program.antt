@@ -8,7 +8,7 @@ use lib.ListN.{take, drop}
 use Rattle.refusals.specs.Refusals.{must}
 use Rattle.transfer.specs.Session.{Session, atStart, maxRecords}
 use Rattle.transfer.specs.Lines.{stopLine, endLine}
-use Rattle.transfer.specs.Records.{headLen, letterOf, isEmpty, recordLen, readable, Step, serveOut, stepOut}
+use Rattle.transfer.specs.Records.{headLen, letterOf, isEmpty, recordLen, readable, serveOut, stepOut}
 
 -- how many bytes are read for a record: mark and letter alone, where no record has that letter
 abbrev pub reach : Option ℕ → ℕ

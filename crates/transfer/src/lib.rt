@@ -1,6 +1,7 @@
 // The transfer program, record by record: a session by value, how long a record is, and the step of one record. Assumes nothing.
 ghost use mathlib.Core.Path.{_≡_};
-ghost use mathlib.Core.Bool.{true, false};
+ghost use mathlib.Core.Bool.{false};
+ghost use mathlib.Core.Option.{some};
 ghost use Prim.Native.Nat.{_+_, _*_, _≤_, _<_};
 ghost use lib.ListN.{length};
 ghost use Rattle.combinatorics.specs.Stretch.{tabulate};
@@ -11,13 +12,16 @@ ghost use Rattle.jobs.specs.Slots.{entries};
 ghost use Rattle.jobcodec.specs.JobWrite.{jobWriteOut};
 ghost use Rattle.jobcodec.specs.JobRead.{jobReadOut};
 ghost use Rattle.params.specs.Bridge.{given};
+ghost use Rattle.params.specs.Given.{figuresOf, Fitting};
 ghost use Rattle.placements.specs.Bridge.{heldAs};
+ghost use Rattle.text.specs.Text.{overwrite};
 ghost use Rattle.transfer.specs.Session.{atStart, maxRecords};
 ghost use Rattle.transfer.specs.Lines.{maxLine};
-ghost use Rattle.transfer.specs.Records.{headLen, twoBytes, writeLen, readLen, recordLen, readable, figuresIn, stopped, ended, figuresStep, callStep, writeStep, readStep};
-ghost use Rattle.transfer.specs.Bridge.{lastFigures, sessionOf, Current, orZero, HasStarts, Ready, Shown};
+ghost use Rattle.transfer.specs.Records.{headLen, twoBytes, writeLen, readLen, recordLen, readable, letterOf, figuresIn, writeOut, readOut, serveOut, stepOut, stopped, ended, figuresStep, callStep, writeStep, readStep};
+ghost use Rattle.transfer.specs.Bridge.{lastFigures, sessionOf, Current, orZero, HasStarts, Ready, Shown, Laid, Whole};
 use jobs::JobTable;
 use params::Figures;
+use params::Layout;
 use params::Params;
 use params::bytes;
 use placements::Placement;
@@ -53,6 +57,8 @@ const FIGURES_LEN: usize = 6;
 const NUMBER_LEN: usize = 4;
 
 const BYTE_VALUES: u16 = 256;
+
+const MAX_WORD: usize = Params::MAX_WORD as usize;
 
 impl Session {
     // "any record after the 4294967295th" is refused.
@@ -102,6 +108,50 @@ impl Session {
         let figures = self.figures;
         let table = self.table;
         self.after(figures, table, len)
+    }
+}
+
+// One record, whatever bytes it has, and none at all at the end of input: its line is put into the lent line, from the start on.
+pub fn step(session: Session, received: &[u8], line: &mut [u8; Session::MAX_LINE]) -> StepAnswer
+    ensures next { λ r. ⌜ sessionOf (r .next) ≡ stepOut (sessionOf session) (now (received .entry)) .next ⌝ }
+    ensures line { λ _. ⌜ now (line .exit) ≡ overwrite 0 (stepOut (sessionOf session) (now (received .entry)) .line) (now (line .entry)) ⌝ }
+    ensures len { λ r. ⌜ r .len ≡ length (stepOut (sessionOf session) (now (received .entry)) .line) ⌝ }
+    ensures stops { λ r. ⌜ r .stops ≡ stepOut (sessionOf session) (now (received .entry)) .stops ⌝ }
+{
+    step_on(session, received, line)
+}
+
+// The same with a line that has room for any.
+fn step_on(session: Session, received: &[u8], line: &mut [u8]) -> StepAnswer
+    requires { ⌜ maxLine ≤ length (now line) ⌝ }
+    ensures { λ r. ⌜ Shown r (now (line .entry)) (now (line .exit)) (stepOut (sessionOf session) (now (received .entry))) ⌝ }
+{
+    if received.len() == 0 {
+        return end(session, line);
+    }
+    if Session::MAX_RECORDS <= session.records {
+        return stop(session, line);
+    }
+    if !is_readable(session, received) {
+        return stop(session, line);
+    }
+    serve(session, received, line)
+}
+
+// A record that can be read, by its letter.
+fn serve(session: Session, received: &[u8], line: &mut [u8]) -> StepAnswer
+    requires { ⌜ Whole session (now line) (now received) (recordLen (sessionOf session) (letterOf (now received))) ⌝ }
+    ensures { λ r. ⌜ Shown r (now (line .entry)) (now (line .exit)) (serveOut (sessionOf session) (letterOf (now (received .entry))) (now (received .entry))) ⌝ }
+{
+    let letter = received[2];
+    match letter {
+        b'S' => serve_figures(session, figures_in(received), line),
+        b'W' => serve_write(session, received, line),
+        b'R' => serve_read(session, received, line),
+        _ => {
+            let number = payloads::job_number(&received[HEAD_LEN..]);
+            serve_call(session, letter, number, line)
+        }
     }
 }
 
@@ -166,6 +216,40 @@ fn serve_call(session: Session, letter: u8, number: u32, line: &mut [u8]) -> Ste
     session.after(figures, next, len)
 }
 
+// W: the word of the placement and the payload.
+fn serve_write(session: Session, received: &[u8], line: &mut [u8]) -> StepAnswer
+    requires { ⌜ Whole session (now line) (now received) (writeLen (Rattle.transfer.specs.Records.current (lastFigures (session .figures)))) ⌝ }
+    ensures { λ r. ⌜ Shown r (now (line .entry)) (now (line .exit)) (writeOut (sessionOf session) (now (received .entry)) (Rattle.transfer.specs.Records.current (lastFigures (session .figures)))) ⌝ }
+{
+    let figures = session.figures;
+    let answer = current(figures);
+    let Figures::Fit(layout) = answer else {
+        return stop(session, line);
+    };
+    write_laid(session, layout, received, line)
+}
+
+// The same by the layout of the last accepted figures.
+fn write_laid(session: Session, layout: Layout, received: &[u8], line: &mut [u8]) -> StepAnswer
+    requires { ⌜ Laid session (now line) layout (headLen + 2 * layout .m) (now received) ⌝ }
+    ensures { λ r. ⌜ Shown r (now (line .entry)) (now (line .exit)) (writeOut (sessionOf session) (now (received .entry)) (some (figuresOf layout))) ⌝ }
+{
+    let figures = figures_of(layout);
+    let m = layout.m;
+    let n = layout.n;
+    let at = placement_in(received, m);
+    let from = HEAD_LEN + 2 * m;
+    let mut word = [0u8; MAX_WORD];
+    write_word(
+        session,
+        figures,
+        at,
+        &received[from..],
+        &mut word[..n],
+        line,
+    )
+}
+
 // W, with a lent word that holds 0.
 fn write_word(
     session: Session,
@@ -184,6 +268,36 @@ fn write_word(
         return session.counted(lines::put_refusal(line, b'W', answer));
     }
     session.counted(lines::put_word(line, word))
+}
+
+// R: the payload of the word.
+fn serve_read(session: Session, received: &[u8], line: &mut [u8]) -> StepAnswer
+    requires { ⌜ Whole session (now line) (now received) (readLen (Rattle.transfer.specs.Records.current (lastFigures (session .figures)))) ⌝ }
+    ensures { λ r. ⌜ Shown r (now (line .entry)) (now (line .exit)) (readOut (sessionOf session) (now (received .entry)) (Rattle.transfer.specs.Records.current (lastFigures (session .figures)))) ⌝ }
+{
+    let figures = session.figures;
+    let answer = current(figures);
+    let Figures::Fit(layout) = answer else {
+        return stop(session, line);
+    };
+    read_laid(session, layout, received, line)
+}
+
+// The same by the layout of the last accepted figures.
+fn read_laid(session: Session, layout: Layout, received: &[u8], line: &mut [u8]) -> StepAnswer
+    requires { ⌜ Laid session (now line) layout headLen (now received) ⌝ }
+    ensures { λ r. ⌜ Shown r (now (line .entry)) (now (line .exit)) (readOut (sessionOf session) (now (received .entry)) (some (figuresOf layout))) ⌝ }
+{
+    let figures = figures_of(layout);
+    let count = bytes::payload_len(layout.q, layout.message_len);
+    let mut payload = [0u8; MAX_WORD];
+    read_payload(
+        session,
+        figures,
+        &received[HEAD_LEN..],
+        &mut payload[..count],
+        line,
+    )
 }
 
 // R, with a lent payload that holds 0.
@@ -279,6 +393,19 @@ fn figures_in(received: &[u8]) -> Params
         q: received[5] as u32 + 1,
         m: received[6] as u32,
         b: two_bytes(received, 7) as u32,
+    }
+}
+
+// The figures of a layout, as a caller passes them.
+fn figures_of(layout: Layout) -> Params
+    requires { ⌜ Fitting layout ⌝ }
+    ensures { λ r. ⌜ given r ≡ figuresOf layout ⌝ }
+{
+    Params {
+        n: layout.n as u32,
+        q: layout.q as u32,
+        m: layout.m as u32,
+        b: layout.b as u32,
     }
 }
 

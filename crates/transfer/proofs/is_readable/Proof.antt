@@ -1,52 +1,40 @@
+-- `is_readable` meets its contract: too short, a wrong mark, or another length. Assumes nothing.
 use mathlib.Core.Path.{sym, ap, _∙_}
-use native.Mathlib.Omega.{arith}
-use Prim.Native.Nat.{ℕ}
+use borrow.Author.Needs.{needs}
 use lib.Dec.{eqb}
 use lib.ListN.{length}
 use Rattle.transfer.specs.Bridge.{sessionOf}
 use Rattle.transfer.proofs.Lengths.{short-unreadable, first-unreadable, second-unreadable, marked-readable}
-use borrow.Author.Needs.{needs}
 use Rattle.transfer.proofs.is_readable.Statement.{statement}
 use Rattle.transfer.proofs.is_readable.Tie as tie
-use Rattle.transfer.proofs.is_readable.Reads as reads
-use Rattle.transfer.proofs.is_readable.Lts as lts
-use Rattle.transfer.proofs.record_len.Reads as record-len-reads
 
--- src/lib.rt:111:9
 returns : tie.Need-returns
 returns c =
     let a = c .before .before .args in
     sym (short-unreadable (sessionOf (a .session)) (a .received .now) (c .if1 .taken))
 
--- src/lib.rt:113:8
 shared-slice-read-if2 : tie.Need-shared-slice-read-if2
 shared-slice-read-if2 c = search needs
 
--- src/lib.rt:114:9
 returns-2 : tie.Need-returns-2
 returns-2 c =
     let a = c .before .before .before .before .args in
     sym (first-unreadable (sessionOf (a .session)) (a .received .now) (c .if2 .taken))
 
--- src/lib.rt:116:8
 shared-slice-read-if3 : tie.Need-shared-slice-read-if3
 shared-slice-read-if3 c = search needs
 
--- src/lib.rt:117:9
 returns-3 : tie.Need-returns-3
 returns-3 c =
     let a = c .before .before .before .before .before .before .args in
     sym (second-unreadable (sessionOf (a .session)) (a .received .now) (c .before .before .if2 .left) (c .if3 .taken))
 
--- src/lib.rt:119:43
 shared-slice-read-record-len : tie.Need-shared-slice-read-record-len
 shared-slice-read-record-len c = search needs
 
--- src/lib.rt:119:23
 record-len-requires : tie.Need-record-len-requires
 record-len-requires c κs = search needs
 
--- src/lib.rt:107:1
 returns-4 : tie.Need-returns-4
 returns-4 c =
     let a = c .before .before .before .before .before .before .before .before .args in

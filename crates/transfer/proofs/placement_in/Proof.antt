@@ -1,17 +1,15 @@
-use mathlib.Core.Path.{_≡_, sym, ap, ap₂, _∙_}
+-- `placement_in` meets its contract: the first j starts are filled in, and the others are 0. Assumes nothing.
+use mathlib.Core.Path.{_≡_, ap, ap₂, _∙_}
 use mathlib.Core.List.{List}
 use Prim.Native.Nat.{ℕ, _+_, _-_, _*_, _≤_}
 use native.Mathlib.Omega.{arith}
 use borrow.Author.Needs.{needs}
-use lib.ListN.{set, getD}
+use lib.ListN.{set}
 use Rattle.construction_a.specs.Outcomes.{Held}
 use Rattle.transfer.specs.Records.{headLen, twoBytes}
 use Rattle.transfer.proofs.Starts.{begun, begun-none, begun-next, begun-all}
 use Rattle.transfer.proofs.placement_in.Statement.{statement}
 use Rattle.transfer.proofs.placement_in.Tie as tie
-use Rattle.transfer.proofs.placement_in.Reads as reads
-use Rattle.transfer.proofs.placement_in.Lts as lts
-use Rattle.transfer.proofs.two_bytes.Reads as two-bytes-reads
 
 abbrev the-held : List ℕ → ℕ → Held
 the-held s n = record { starts = s; count = n }
@@ -22,43 +20,33 @@ Inv-loop received m found₀ j₀ found j = (j ≤ m) × (found .count ≡ m) ×
 abbrev μ-loop : tie.MeasureT-loop
 μ-loop received m found₀ j₀ found j = m - j
 
--- src/lib.rt:142:16
 cast-t6 : tie.Need-cast-t6 Inv-loop μ-loop
 cast-t6 c = search needs
 
--- src/lib.rt:145:5
 loop-holds : tie.Need-loop-holds Inv-loop μ-loop
 loop-holds c = (omega arith, search needs, begun-none _)
 
--- src/lib.rt:146:58
 mul-two-bytes : tie.Need-mul-two-bytes Inv-loop μ-loop
 mul-two-bytes c = search needs
 
--- src/lib.rt:146:47
 add-two-bytes : tie.Need-add-two-bytes Inv-loop μ-loop
 add-two-bytes c = search needs
 
--- src/lib.rt:146:27
 two-bytes-requires : tie.Need-two-bytes-requires Inv-loop μ-loop
 two-bytes-requires c κs = search needs
 
--- src/lib.rt:146:9
 mul-found : tie.Need-mul-found Inv-loop μ-loop
 mul-found c = search needs
 
--- src/lib.rt:146:9
 element-write-found : tie.Need-element-write-found Inv-loop μ-loop
 element-write-found c = search needs
 
--- src/lib.rt:147:9
 add-j : tie.Need-add-j Inv-loop μ-loop
 add-j c = search needs
 
--- src/lib.rt:145:5
 loop-less : tie.Need-loop-less Inv-loop μ-loop
 loop-less c = search needs
 
--- src/lib.rt:145:5
 loop-again : tie.Need-loop-again Inv-loop μ-loop
 loop-again c =
     let a = c .before .before .before .before .args in
@@ -66,7 +54,6 @@ loop-again c =
     let f : ℕ → ℕ = λ i. twoBytes (a .received .now) (headLen + 2 * i) in
     (omega arith, l .inv .1, ap₂ (λ (s : List ℕ) (v : ℕ). set s (l .j) v) (l .inv .2) (c .two-bytes .ensures) ∙ begun-next f (l .j) (omega arith))
 
--- src/lib.rt:136:1
 returns : tie.Need-returns Inv-loop μ-loop
 returns c =
     let a = c .before .before .before .args in

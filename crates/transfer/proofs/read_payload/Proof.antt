@@ -1,7 +1,9 @@
+-- `read_payload` meets its contract: the line by what job read answers; a payload that is handed out has a job number. Assumes nothing.
 use mathlib.Core.Path.{sym, ap, _∙_}
 use mathlib.Core.List.{List, [], _∷_}
 use Prim.Native.Nat.{ℕ}
 use native.Mathlib.Omega.{arith}
+use borrow.Author.Needs.{needs}
 use lib.ListN.{take, drop}
 use Rattle.params.specs.Bridge.{given}
 use Rattle.jobs.specs.Slots.{entries}
@@ -12,37 +14,24 @@ use Rattle.transfer.specs.Lines.{refusalLine, servedLine}
 use Rattle.transfer.specs.Records.{letterR}
 use Rattle.transfer.specs.Bridge.{sessionOf}
 use Rattle.transfer.proofs.Serving.{shown-goes, shown-refused, shown-served, read-number}
-use borrow.Author.Needs.{needs}
 use Rattle.transfer.proofs.read_payload.Statement.{statement}
 use Rattle.transfer.proofs.read_payload.Tie as tie
-use Rattle.transfer.proofs.read_payload.Reads as reads
-use Rattle.transfer.proofs.read_payload.Lts as lts
-use Rattle.jobcodec.proofs.job_read.Reads as job-read-reads
-use Rattle.transfer.proofs.Session.counted.Reads as counted-reads
-use Rattle.transfer.proofs.lines.put_payload.Reads as put-payload-reads
-use Rattle.transfer.proofs.lines.put_refusal.Reads as put-refusal-reads
 
--- src/lib.rt:201:9
 job-read-requires : tie.Need-job-read-requires
 job-read-requires c κs = search needs
 
--- src/lib.rt:203:32
 put-refusal-requires : tie.Need-put-refusal-requires
 put-refusal-requires c κs = search needs
 
--- src/lib.rt:203:9
 counted-requires : tie.Need-counted-requires
 counted-requires c κs = search needs
 
--- src/lib.rt:203:9
 same-length : tie.Need-same-length
 same-length c = search needs
 
--- src/lib.rt:203:9
 same-length-2 : tie.Need-same-length-2
 same-length-2 c = search needs
 
--- src/lib.rt:203:9
 returns : tie.Need-returns
 returns c =
     let a = c .before .before .before .before .before .before .before .before .before .before .before .before .before .before .args in
@@ -54,7 +43,6 @@ returns c =
     shown-refused (c .counted .result) line (put .last .0) s letterR (job .result) (out .answer) (hex (take 4 (out .payload)) ∷ hex (drop 4 (out .payload)) ∷ []) (job .ensures .0) (c .before .before .before .before .before .if1 .taken)
     (shown-goes (c .counted .result) line (put .last .0) (after s (s .figures) (s .table)) (refusalLine letterR (job .result)) (put .result) (c .counted .ensures) (put .ensures))
 
--- src/lib.rt:205:21
 put-payload-requires : tie.Need-put-payload-requires
 put-payload-requires c κs =
     let s = c .before .before .before .before .before .before .before .before .before .before .before in
@@ -63,19 +51,15 @@ put-payload-requires c κs =
     let number = read-number (given (a .figures)) (entries (a .session .table)) (a .word .now) (a .payload .now) (sym (job .ensures .0) ∙ c .before .before .if1 .left) in
     (s .pre .0 .room, omega (arith, s .pre .1, job .kept .1 .1 .1 .0), omega (arith, number, job .kept .1 .1 .1 .0))
 
--- src/lib.rt:205:5
 counted-requires-2 : tie.Need-counted-requires-2
 counted-requires-2 c κs = search needs
 
--- src/lib.rt:190:1
 same-length-3 : tie.Need-same-length-3
 same-length-3 c = search needs
 
--- src/lib.rt:190:1
 same-length-4 : tie.Need-same-length-4
 same-length-4 c = search needs
 
--- src/lib.rt:190:1
 returns-2 : tie.Need-returns-2
 returns-2 c =
     let a = c .before .before .before .before .before .before .before .before .before .before .before .before .before .before .before .args in

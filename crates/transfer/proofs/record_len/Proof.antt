@@ -1,71 +1,55 @@
+-- `record_len` meets its contract, letter by letter. Assumes nothing.
 use mathlib.Core.Path.{sym, ap}
+use borrow.Author.Needs.{needs}
 use Rattle.jobs.specs.Replay.{kindOf}
 use Rattle.transfer.specs.Records.{recordLen}
 use Rattle.transfer.specs.Bridge.{sessionOf, orZero}
 use Rattle.transfer.proofs.Lengths.{len-other}
-use borrow.Author.Needs.{needs}
 use Rattle.transfer.proofs.record_len.Statement.{statement}
 use Rattle.transfer.proofs.record_len.Tie as tie
-use Rattle.transfer.proofs.record_len.Reads as reads
-use Rattle.transfer.proofs.record_len.Lts as lts
-use Rattle.transfer.proofs.read_len.Reads as read-len-reads
-use Rattle.transfer.proofs.write_len.Reads as write-len-reads
 
--- src/lib.rt:64:17
 add-result : tie.Need-add-result
 add-result c = search needs
 
--- src/lib.rt:65:17
 add-result-2 : tie.Need-add-result-2
 add-result-2 c = search needs
 
--- src/lib.rt:66:17
 add-result-3 : tie.Need-add-result-3
 add-result-3 c = search needs
 
--- src/lib.rt:67:17
 add-result-4 : tie.Need-add-result-4
 add-result-4 c = search needs
 
--- src/lib.rt:68:17
 write-len-requires : tie.Need-write-len-requires
 write-len-requires c κs = search needs
 
--- src/lib.rt:69:17
 read-len-requires : tie.Need-read-len-requires
 read-len-requires c κs = search needs
 
--- src/lib.rt:59:1
 returns : tie.Need-returns
 unfolding recordLen kindOf
 returns c = rw (c .match .keys1)
 
--- src/lib.rt:59:1
 returns-2 : tie.Need-returns-2
 unfolding recordLen kindOf
 returns-2 c = rw (c .match .keys2)
 
--- src/lib.rt:59:1
 returns-3 : tie.Need-returns-3
 unfolding recordLen kindOf
 returns-3 c = rw (c .match .keys3)
 
--- src/lib.rt:59:1
 returns-4 : tie.Need-returns-4
 unfolding recordLen kindOf
 returns-4 c = rw (c .match .keys4)
 
--- src/lib.rt:59:1
 returns-5 : tie.Need-returns-5
 unfolding recordLen kindOf
 returns-5 c = rw (c .before .match .keys5) (c .write-len .ensures)
 
--- src/lib.rt:59:1
 returns-6 : tie.Need-returns-6
 unfolding recordLen kindOf
 returns-6 c = rw (c .before .match .keys6) (c .read-len .ensures)
 
--- src/lib.rt:59:1
 returns-7 : tie.Need-returns-7
 returns-7 c =
     let other = c .match .rest in

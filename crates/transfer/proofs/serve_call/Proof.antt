@@ -1,37 +1,28 @@
+-- `serve_call` meets its contract: the line has the answer of the call, and the session its table. Assumes nothing.
 use mathlib.Core.Path.{subst}
+use borrow.Author.Needs.{needs}
 use Rattle.jobs.specs.Slots.{entries}
 use Rattle.jobs.specs.Table.{TableOut}
 use Rattle.transfer.specs.Session.{after}
 use Rattle.transfer.specs.Lines.{refusalLine}
 use Rattle.transfer.specs.Records.{callStep}
-use Rattle.transfer.specs.Bridge.{lastFigures, sessionOf, Shown}
+use Rattle.transfer.specs.Bridge.{sessionOf, Shown}
 use Rattle.transfer.proofs.Serving.{shown-goes}
-use borrow.Author.Needs.{needs}
 use Rattle.transfer.proofs.serve_call.Statement.{statement}
 use Rattle.transfer.proofs.serve_call.Tie as tie
-use Rattle.transfer.proofs.serve_call.Reads as reads
-use Rattle.transfer.proofs.serve_call.Lts as lts
-use Rattle.jobs.proofs.JobTable.call.Reads as call-reads
-use Rattle.transfer.proofs.Session.after.Reads as after-reads
-use Rattle.transfer.proofs.lines.put_refusal.Reads as put-refusal-reads
 
--- src/lib.rt:162:9
 call-requires : tie.Need-call-requires
 call-requires c κs = search needs
 
--- src/lib.rt:163:9
 put-refusal-requires : tie.Need-put-refusal-requires
 put-refusal-requires c κs = search needs
 
--- src/lib.rt:166:5
 after-requires : tie.Need-after-requires
 after-requires c κs = search needs
 
--- src/lib.rt:157:1
 same-length : tie.Need-same-length
 same-length c = search needs
 
--- src/lib.rt:157:1
 returns : tie.Need-returns
 returns c =
     let a = c .before .before .before .before .before .before .before .before .before .args in

@@ -1,40 +1,31 @@
+-- `two_bytes` meets its contract. Assumes nothing.
 use Prim.Native.Nat.{_+_}
 use native.Mathlib.Omega.{arith}
 use borrow.Author.Needs.{needs}
 use Rattle.transfer.proofs.two_bytes.Statement.{statement}
 use Rattle.transfer.proofs.two_bytes.Tie as tie
-use Rattle.transfer.proofs.two_bytes.Reads as reads
-use Rattle.transfer.proofs.two_bytes.Lts as lts
 
--- src/lib.rt:157:16
 shared-slice-read-high : tie.Need-shared-slice-read-high
 shared-slice-read-high c = search needs
 
--- src/lib.rt:157:16
 cast-high : tie.Need-cast-high
 cast-high c = omega (arith, c .shared-slice-known .given (c .before .args .at))
 
--- src/lib.rt:158:24
 add-low : tie.Need-add-low
 add-low c = search needs
 
--- src/lib.rt:158:15
 shared-slice-read-low : tie.Need-shared-slice-read-low
 shared-slice-read-low c = search needs
 
--- src/lib.rt:158:15
 cast-low : tie.Need-cast-low
 cast-low c = omega (arith, c .shared-slice-known2 .given (c .before .before .args .at + 1))
 
--- src/lib.rt:159:5
 mul-result : tie.Need-mul-result
 mul-result c = omega (arith, c .shared-slice-known2 .given (c .before .before .args .at))
 
--- src/lib.rt:159:5
 add-result : tie.Need-add-result
 add-result c = omega (arith, c .shared-slice-known2 .given (c .before .before .args .at), c .shared-slice-known2 .given (c .before .before .args .at + 1))
 
--- src/lib.rt:153:1
 returns : tie.Need-returns
 returns c = search needs
 

@@ -1,39 +1,30 @@
-use mathlib.Core.Path.{_≡_, sym, ap, _∙_}
+-- `write_len` meets its contract. Assumes nothing.
+use mathlib.Core.Path.{_≡_, sym, ap}
 use mathlib.Core.Option.{some}
 use native.Mathlib.Omega.{arith}
-use Rattle.params.specs.declared.Layout.{Layout}
+use borrow.Author.Needs.{needs}
 use Rattle.params.specs.Given.{figuresOf, Fitting}
 use Rattle.params.proofs.Fitting.{bound}
 use Rattle.transfer.specs.Records.{current, writeLen}
 use Rattle.transfer.specs.Bridge.{lastFigures, orZero}
 use Rattle.transfer.proofs.Lengths.{current-fit, current-none, payload-short, write-len-is}
-use borrow.Author.Needs.{needs}
 use Rattle.transfer.proofs.write_len.Statement.{statement}
 use Rattle.transfer.proofs.write_len.Tie as tie
-use Rattle.transfer.proofs.write_len.Reads as reads
-use Rattle.transfer.proofs.write_len.Lts as lts
-use Rattle.params.proofs.bytes.payload_len.Reads as payload-len-reads
-use Rattle.transfer.proofs.current.Reads as current-reads
 
--- src/lib.rt:78:9
 current-requires : tie.Need-current-requires
 current-requires c κs = search needs
 
--- src/lib.rt:79:22
 enum-known-answer : tie.Need-enum-known-answer
 enum-known-answer c = search needs
 
--- src/lib.rt:80:9
 enum-told : tie.Need-enum-told
 enum-told c = search needs
 
--- src/lib.rt:80:9
 returns : tie.Need-returns
 returns c =
     let told = c .enum-told .given in
     sym (ap (λ x. orZero (writeLen x)) (current-none (lastFigures (c .before .before .before .args .figures)) _ _ (told .1) (c .before .before .current .ensures)))
 
--- src/lib.rt:82:16
 -- the layout is that of the last accepted figures
 fitting : (c : tie.After-struct-known) → (current (lastFigures (c .before .before .before .before .before .args .figures)) ≡ some (figuresOf (c .before .before .answer .given .0 .0))) × Fitting (c .before .before .answer .given .0 .0)
 fitting c = current-fit (lastFigures (c .before .before .before .before .before .args .figures)) _ _ (c .before .before .answer .given .1) (c .before .before .before .before .current .ensures)
@@ -41,22 +32,18 @@ fitting c = current-fit (lastFigures (c .before .before .before .before .before 
 mul-result : tie.Need-mul-result
 mul-result c = omega (arith, bound (c .before .before .answer .given .0 .0) (fitting c .1) .m-most)
 
--- src/lib.rt:82:5
 add-result : tie.Need-add-result
 add-result c = omega (arith, bound (c .before .before .answer .given .0 .0) (fitting c .1) .m-most)
 
--- src/lib.rt:82:31
 payload-len-requires : tie.Need-payload-len-requires
 payload-len-requires c κs = omega (arith, bound (c .before .before .answer .given .0 .0) (fitting c .1) .q-most)
 
--- src/lib.rt:82:5
 add-result-2 : tie.Need-add-result-2
 add-result-2 c =
     let l = c .before .before .before .answer .given .0 .0 in
     let g = fitting (c .before) .1 in
     omega (arith, bound l g .m-most, payload-short l g, c .payload-len .ensures)
 
--- src/lib.rt:75:1
 returns-2 : tie.Need-returns-2
 returns-2 c =
     let l = c .before .before .before .answer .given .0 .0 in

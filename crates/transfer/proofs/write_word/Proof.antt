@@ -1,9 +1,10 @@
-use mathlib.Core.Path.{sym, ap, _∙_}
+-- `write_word` meets its contract: the line by what job write answers. Assumes nothing.
+use mathlib.Core.Path.{ap}
 use mathlib.Core.List.{List, [], _∷_}
 use Prim.Native.Nat.{ℕ}
+use borrow.Author.Needs.{needs}
 use Rattle.params.specs.Bridge.{given}
 use Rattle.placements.specs.Bridge.{heldAs}
-use Rattle.jobs.specs.Slots.{entries}
 use Rattle.jobcodec.specs.JobWrite.{jobWriteOut}
 use Rattle.text.specs.Text.{hex}
 use Rattle.transfer.specs.Session.{after}
@@ -11,37 +12,24 @@ use Rattle.transfer.specs.Lines.{refusalLine, servedLine}
 use Rattle.transfer.specs.Records.{letterW}
 use Rattle.transfer.specs.Bridge.{sessionOf}
 use Rattle.transfer.proofs.Serving.{shown-goes, shown-refused, shown-served}
-use borrow.Author.Needs.{needs}
 use Rattle.transfer.proofs.write_word.Statement.{statement}
 use Rattle.transfer.proofs.write_word.Tie as tie
-use Rattle.transfer.proofs.write_word.Reads as reads
-use Rattle.transfer.proofs.write_word.Lts as lts
-use Rattle.jobcodec.proofs.job_write.Reads as job-write-reads
-use Rattle.transfer.proofs.Session.counted.Reads as counted-reads
-use Rattle.transfer.proofs.lines.put_refusal.Reads as put-refusal-reads
-use Rattle.transfer.proofs.lines.put_word.Reads as put-word-reads
 
--- src/lib.rt:182:9
 job-write-requires : tie.Need-job-write-requires
 job-write-requires c κs = search needs
 
--- src/lib.rt:184:32
 put-refusal-requires : tie.Need-put-refusal-requires
 put-refusal-requires c κs = search needs
 
--- src/lib.rt:184:9
 counted-requires : tie.Need-counted-requires
 counted-requires c κs = search needs
 
--- src/lib.rt:184:9
 same-length : tie.Need-same-length
 same-length c = search needs
 
--- src/lib.rt:184:9
 same-length-2 : tie.Need-same-length-2
 same-length-2 c = search needs
 
--- src/lib.rt:184:9
 returns : tie.Need-returns
 returns c =
     let a = c .before .before .before .before .before .before .before .before .before .before .before .before .before .before .args in
@@ -53,23 +41,18 @@ returns c =
     shown-refused (c .counted .result) line (put .last .0) s letterW (job .result) (out .answer) (hex (out .word) ∷ []) (job .ensures .0) (c .before .before .before .before .before .if1 .taken)
     (shown-goes (c .counted .result) line (put .last .0) (after s (s .figures) (s .table)) (refusalLine letterW (job .result)) (put .result) (c .counted .ensures) (put .ensures))
 
--- src/lib.rt:186:21
 put-word-requires : tie.Need-put-word-requires
 put-word-requires c κs = search needs
 
--- src/lib.rt:186:5
 counted-requires-2 : tie.Need-counted-requires-2
 counted-requires-2 c κs = search needs
 
--- src/lib.rt:170:1
 same-length-3 : tie.Need-same-length-3
 same-length-3 c = search needs
 
--- src/lib.rt:170:1
 same-length-4 : tie.Need-same-length-4
 same-length-4 c = search needs
 
--- src/lib.rt:170:1
 returns-2 : tie.Need-returns-2
 returns-2 c =
     let a = c .before .before .before .before .before .before .before .before .before .before .before .before .before .before .before .args in

@@ -1,30 +1,23 @@
-use mathlib.Core.List.{List, [], _∷_, _++_}
+-- `put_bytes` meets its contract: a space, then the hex digits. Assumes nothing.
+use mathlib.Core.List.{[], _∷_}
 use native.Mathlib.Omega.{arith}
+use borrow.Author.Needs.{needs}
 use Rattle.text.specs.Text.{hex}
 use Rattle.text.proofs.Digits.{length-hex}
 use Rattle.text.proofs.Line.{put-none, put-then}
 use Rattle.transfer.specs.Lines.{space}
-use borrow.Author.Needs.{needs}
 use Rattle.transfer.proofs.lines.put_bytes.Statement.{statement}
 use Rattle.transfer.proofs.lines.put_bytes.Tie as tie
-use Rattle.transfer.proofs.lines.put_bytes.Reads as reads
-use Rattle.transfer.proofs.lines.put_bytes.Lts as lts
-use Rattle.text.proofs.put_byte.Reads as put-byte-reads
-use Rattle.text.proofs.put_hex.Reads as put-hex-reads
 
--- src/lines.rt:111:9
 put-byte-requires : tie.Need-put-byte-requires
 put-byte-requires c κs = search needs
 
--- src/lines.rt:112:5
 put-hex-requires : tie.Need-put-hex-requires
 put-hex-requires c κs = search needs
 
--- src/lines.rt:106:1
 same-length : tie.Need-same-length
 same-length c = search needs
 
--- src/lines.rt:106:1
 returns : tie.Need-returns
 returns c =
     let one = c .before .before .before .before .before .before .put-byte in

@@ -1,44 +1,33 @@
-use mathlib.Core.List.{List, [], _∷_, _++_}
+-- `put_figures` meets its contract: letter and 0, three numbers, the line feed. Assumes nothing.
+use mathlib.Core.List.{[], _∷_, _++_}
 use native.Mathlib.Omega.{arith}
+use borrow.Author.Needs.{needs}
 use Rattle.text.specs.Text.{decimal}
 use Rattle.text.proofs.Line.{put-then}
 use Rattle.transfer.specs.Lines.{space, lineFeed}
 use Rattle.transfer.specs.Records.{letterS}
 use Rattle.transfer.proofs.Fields.{put-first, put-as, three-fields}
-use borrow.Author.Needs.{needs}
 use Rattle.transfer.proofs.lines.put_figures.Statement.{statement}
 use Rattle.transfer.proofs.lines.put_figures.Tie as tie
-use Rattle.transfer.proofs.lines.put_figures.Reads as reads
-use Rattle.transfer.proofs.lines.put_figures.Lts as lts
-use Rattle.text.proofs.put_byte.Reads as put-byte-reads
-use Rattle.transfer.proofs.lines.put_head.Reads as put-head-reads
-use Rattle.transfer.proofs.lines.put_number.Reads as put-number-reads
 
--- src/lines.rt:35:9
 put-head-requires : tie.Need-put-head-requires
 put-head-requires c κs = search needs
 
--- src/lines.rt:36:9
 put-number-requires : tie.Need-put-number-requires
 put-number-requires c κs = search needs
 
--- src/lines.rt:37:9
 put-number-requires-2 : tie.Need-put-number-requires-2
 put-number-requires-2 c κs = search needs
 
--- src/lines.rt:38:9
 put-number-requires-3 : tie.Need-put-number-requires-3
 put-number-requires-3 c κs = search needs
 
--- src/lines.rt:39:5
 put-byte-requires : tie.Need-put-byte-requires
 put-byte-requires c κs = search needs
 
--- src/lines.rt:30:1
 same-length : tie.Need-same-length
 same-length c = search needs
 
--- src/lines.rt:30:1
 returns : tie.Need-returns
 returns c =
     let h = c .before .before .before .before .before .before .before .before .before .before .before .before .before .before .before .before .before .before .put-head in

@@ -1,30 +1,23 @@
-use mathlib.Core.List.{List, [], _∷_, _++_}
+-- `put_head` meets its contract: the letter, then the answer. Assumes nothing.
+use mathlib.Core.List.{[], _∷_}
 use native.Mathlib.Omega.{arith}
+use borrow.Author.Needs.{needs}
 use Rattle.text.specs.Text.{decimal}
 use Rattle.text.proofs.Line.{put-then}
 use Rattle.transfer.specs.Lines.{space}
 use Rattle.transfer.proofs.Fields.{put-first}
-use borrow.Author.Needs.{needs}
 use Rattle.transfer.proofs.lines.put_head.Statement.{statement}
 use Rattle.transfer.proofs.lines.put_head.Tie as tie
-use Rattle.transfer.proofs.lines.put_head.Reads as reads
-use Rattle.transfer.proofs.lines.put_head.Lts as lts
-use Rattle.text.proofs.put_byte.Reads as put-byte-reads
-use Rattle.transfer.proofs.lines.put_number.Reads as put-number-reads
 
--- src/lines.rt:90:9
 put-byte-requires : tie.Need-put-byte-requires
 put-byte-requires c κs = search needs
 
--- src/lines.rt:91:5
 put-number-requires : tie.Need-put-number-requires
 put-number-requires c κs = search needs
 
--- src/lines.rt:84:1
 same-length : tie.Need-same-length
 same-length c = search needs
 
--- src/lines.rt:84:1
 returns : tie.Need-returns
 returns c =
     let one = c .before .before .before .before .before .before .put-byte in

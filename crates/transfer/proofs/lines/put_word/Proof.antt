@@ -1,32 +1,25 @@
-use mathlib.Core.List.{List, [], _∷_, _++_}
+-- `put_word` meets its contract: letter and 0, the word in hex, the line feed. Assumes nothing.
+use mathlib.Core.List.{[], _∷_, _++_}
 use native.Mathlib.Omega.{arith}
+use borrow.Author.Needs.{needs}
 use Rattle.text.specs.Text.{decimal, hex}
 use Rattle.text.proofs.Digits.{length-hex}
 use Rattle.text.proofs.Line.{put-then}
 use Rattle.transfer.specs.Lines.{space, lineFeed}
 use Rattle.transfer.specs.Records.{letterW}
 use Rattle.transfer.proofs.Fields.{put-first, put-as, field-end, zero-short}
-use borrow.Author.Needs.{needs}
 use Rattle.transfer.proofs.lines.put_word.Statement.{statement}
 use Rattle.transfer.proofs.lines.put_word.Tie as tie
-use Rattle.transfer.proofs.lines.put_word.Reads as reads
-use Rattle.transfer.proofs.lines.put_word.Lts as lts
-use Rattle.text.proofs.put_byte.Reads as put-byte-reads
-use Rattle.transfer.proofs.lines.put_bytes.Reads as put-bytes-reads
-use Rattle.transfer.proofs.lines.put_head.Reads as put-head-reads
 
--- src/lines.rt:48:9
 put-head-requires : tie.Need-put-head-requires
 put-head-requires c κs = search needs
 
--- src/lines.rt:49:9
 put-bytes-requires : tie.Need-put-bytes-requires
 put-bytes-requires c κs =
     let s = c .before .before .before .before .before .before .before in
     let h = c .before .before .before .put-head in
     omega (arith, s .pre .0, s .pre .1, h .ensures .1 .0, h .kept .0, zero-short)
 
--- src/lines.rt:50:5
 put-byte-requires : tie.Need-put-byte-requires
 put-byte-requires c κs =
     let s = c .before .before .before .before .before .before .before .before .before .before .before in
@@ -34,11 +27,9 @@ put-byte-requires c κs =
     let w = c .before .before .before .put-bytes in
     omega (arith, s .pre .0, s .pre .1, h .ensures .1 .0, h .kept .0, w .ensures .1, w .kept .0, zero-short)
 
--- src/lines.rt:43:1
 same-length : tie.Need-same-length
 same-length c = search needs
 
--- src/lines.rt:43:1
 returns : tie.Need-returns
 returns c =
     let h = c .before .before .before .before .before .before .before .before .before .before .put-head in
