@@ -13,7 +13,8 @@ use Rattle.combinatorics.proofs.Cases.{eqb-same, eqb-other, eqb-true}
 use Rattle.combinatorics.proofs.Lists.{both}
 use Rattle.cells.specs.Bytes.{byteWidth, payloadLen}
 use Rattle.construction_a.specs.Figures.{Params, maxWord, messageLen}
-use Rattle.construction_a.specs.Outcomes.{figuresOut}
+use Rattle.construction_a.specs.Outcomes.{FiguresOut, figured, unserved, figuresOut}
+use Rattle.construction_a.proofs.Outcomes.{figured-served}
 use Rattle.params.specs.Answer.{figuredAs, LaidIn}
 use Rattle.params.specs.Given.{figuresOf, Fitting}
 use Rattle.params.specs.declared.Layout.{Layout}
@@ -23,7 +24,7 @@ use Rattle.params.proofs.Fitting.{layout-fits, bound}
 use Rattle.jobs.specs.Replay.{kindOf, isLetter}
 use Rattle.jobs.proofs.Turns.{no-kind}
 use Rattle.transfer.specs.Session.{Session}
-use Rattle.transfer.specs.Records.{letterS, letterW, letterR, headLen, isMarked, letterOf, ifFit, current, writeLen, readLen, recordLen, isWhole, readable}
+use Rattle.transfer.specs.Records.{letterS, letterW, letterR, headLen, isMarked, letterOf, ifFit, current, writeLen, readLen, recordLen, maxRecord, isWhole, readable}
 use Rattle.transfer.specs.Program.{reach}
 use Rattle.transfer.specs.Bridge.{Current, orZero}
 
@@ -55,6 +56,38 @@ module _ (l : Layout) (g : Fitting l) where
   pub write-len-is : (f : Option Params) → current f ≡ some (figuresOf l)
       → orZero (writeLen (current f)) ≡ headLen + 2 * l .m + payloadLen (l .q) (l .«message_len»)
   write-len-is f e = ap (λ x. orZero (writeLen x)) e ∙ ap (λ (k : ℕ). headLen + 2 * l .m + payloadLen (l .q) k) (sym (g .laid .len-is))
+
+-- ---- No record is longer than the buffer for it
+
+payload-within : (f : Params) → payloadLen (f .q) (messageLen f) ≤ f .n
+unfolding payloadLen messageLen
+payload-within f = omega (arith, div-le-self (messageLen f) (byteWidth (f .q)))
+
+current-most : (f : Option Params) → (orZero (writeLen (current f)) ≤ maxRecord) × (orZero (readLen (current f)) ≤ maxRecord)
+current-most none = (omega arith, omega arith)
+current-most (some f) = go (figuresOut f) refl
+  where
+    go : (o : FiguresOut) → figuresOut f ≡ o → (orZero (writeLen (ifFit f o)) ≤ maxRecord) × (orZero (readLen (ifFit f o)) ≤ maxRecord)
+    go (figured t r k) e =
+        let range = figured-served f t r k e .range in
+        (omega (arith, range .n-most, range .m-most, payload-within f), omega (arith, range .n-most))
+    go (unserved a) e = (omega arith, omega arith)
+
+record-most : (s : Session) (letter : ℕ) → orZero (recordLen s letter) ≤ maxRecord
+unfolding recordLen
+record-most s letter = go (eqb letter letterS) (isLetter letter) (eqb letter letterW) (eqb letter letterR)
+  where
+    go : (a b c d : Bool)
+        → orZero (cond a (some (headLen + 6)) (cond b (some (headLen + 4)) (cond c (writeLen (current (s .figures))) (cond d (readLen (current (s .figures))) none)))) ≤ maxRecord
+    go true b c d = omega arith
+    go false true c d = omega arith
+    go false false true d = current-most (s .figures) .0
+    go false false false true = current-most (s .figures) .1
+    go false false false false = omega arith
+
+-- a length that is a record's
+pub measured : (s : Session) (letter r : ℕ) → r ≡ orZero (recordLen s letter) → (r ≡ orZero (recordLen s letter)) × (r ≤ maxRecord)
+measured s letter r e = (e, omega (arith, e, record-most s letter))
 
 -- ---- A letter of no record
 
@@ -144,6 +177,18 @@ module _ (s : Session) (letter : ℕ) where
   pub len-S : letter ≡ 83 → recordLen s letter ≡ some 9
   unfolding recordLen
   len-S e = rw e
+
+  pub len-O : letter ≡ 79 → recordLen s letter ≡ some 7
+  unfolding recordLen kindOf
+  len-O e = rw e
+
+  pub len-C : letter ≡ 67 → recordLen s letter ≡ some 7
+  unfolding recordLen kindOf
+  len-C e = rw e
+
+  pub len-F : letter ≡ 70 → recordLen s letter ≡ some 7
+  unfolding recordLen kindOf
+  len-F e = rw e
 
   pub len-W : letter ≡ 87 → recordLen s letter ≡ writeLen (current (s .figures))
   unfolding recordLen kindOf

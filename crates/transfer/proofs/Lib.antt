@@ -4,3 +4,4 @@ pub mod Lengths
 pub mod Starts
 pub mod Fields
 pub mod Serving
+pub mod Kept

@@ -8,7 +8,7 @@ use lib.ListN.{length, getD, take, drop, replicate}
 use Rattle.refusals.specs.Refusals.{must, served}
 use Rattle.combinatorics.specs.Stretch.{tabulate}
 use Rattle.cells.specs.Bytes.{byteValues, payloadLen}
-use Rattle.construction_a.specs.Figures.{Params, params, messageLen}
+use Rattle.construction_a.specs.Figures.{Params, params, maxWord, maxBursts, messageLen}
 use Rattle.construction_a.specs.Outcomes.{Held, held, Encoded, FiguresOut, figured, unserved, figuresOut}
 use Rattle.jobs.specs.Replay.{kindOf, callBy, isLetter}
 use Rattle.jobs.specs.Table.{TableOut}
@@ -80,6 +80,10 @@ recordLen s letter =
     (cond (eqb letter letterW) (writeLen (current (s .figures)))
     (cond (eqb letter letterR) (readLen (current (s .figures)))
     none)))
+
+-- no record is longer: the starts of the most bursts, and as many bytes as the longest word has symbols
+abbrev pub maxRecord : ℕ
+maxRecord = headLen + 2 * maxBursts + maxWord
 
 -- not a "cut record"
 abbrev pub isWhole : List ℕ → Option ℕ → Bool

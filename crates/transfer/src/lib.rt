@@ -17,7 +17,7 @@ ghost use Rattle.placements.specs.Bridge.{heldAs};
 ghost use Rattle.text.specs.Text.{overwrite};
 ghost use Rattle.transfer.specs.Session.{atStart, maxRecords};
 ghost use Rattle.transfer.specs.Lines.{maxLine};
-ghost use Rattle.transfer.specs.Records.{headLen, twoBytes, writeLen, readLen, recordLen, readable, letterOf, figuresIn, writeOut, readOut, serveOut, stepOut, stopped, ended, figuresStep, callStep, writeStep, readStep};
+ghost use Rattle.transfer.specs.Records.{headLen, twoBytes, writeLen, readLen, recordLen, maxRecord, readable, letterOf, figuresIn, writeOut, readOut, serveOut, stepOut, stopped, ended, figuresStep, callStep, writeStep, readStep};
 ghost use Rattle.transfer.specs.Bridge.{lastFigures, sessionOf, Current, orZero, HasStarts, Ready, Shown, Laid, Whole};
 use jobs::JobTable;
 use params::Figures;
@@ -49,8 +49,8 @@ pub struct StepAnswer {
     pub stops: bool,
 }
 
-// Mark and letter.
-const HEAD_LEN: usize = 3;
+// Mark and letter: what is read of a record before its length is known.
+pub const HEAD_LEN: usize = 3;
 
 const FIGURES_LEN: usize = 6;
 
@@ -67,10 +67,14 @@ impl Session {
     // Room for the longest line.
     pub const MAX_LINE: usize = 2 * (Params::MAX_WORD as usize) + 6;
 
+    // Room for the longest record.
+    pub const MAX_RECORD: usize = HEAD_LEN + 2 * Placement::MAX + MAX_WORD;
+
     // The session before the first record.
     pub fn start() -> Self
         ensures session { λ r. ⌜ sessionOf r ≡ atStart ⌝ }
         ensures records { λ _. do ⌜ (← ⟦Session::MAX_RECORDS⟧ .entry) ≡ maxRecords ⌝ }
+        ensures longest { λ _. do ⌜ (← ⟦Session::MAX_RECORD⟧ .entry) ≡ maxRecord ⌝ }
         ensures room { λ _. do ⌜ (← ⟦Session::MAX_LINE⟧ .entry) ≡ maxLine ⌝ }
     {
         Session {
@@ -321,7 +325,8 @@ fn read_payload(
 
 // How many bytes a record with this letter has, mark and letter included; 0 for an unknown letter and for W or R before an accepted S.
 pub fn record_len(session: Session, letter: u8) -> usize
-    ensures { λ r. ⌜ r ≡ orZero (recordLen (sessionOf session) letter) ⌝ }
+    ensures len { λ r. ⌜ r ≡ orZero (recordLen (sessionOf session) letter) ⌝ }
+    ensures most { λ r. ⌜ r ≤ maxRecord ⌝ }
 {
     let figures = session.figures;
     match letter {

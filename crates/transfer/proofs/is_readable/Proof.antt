@@ -38,7 +38,7 @@ record-len-requires c κs = search needs
 returns-4 : tie.Need-returns-4
 returns-4 c =
     let a = c .before .before .before .before .before .before .before .before .args in
-    ap (eqb (length (a .received .now))) (c .record-len .ensures)
+    ap (eqb (length (a .received .now))) (c .record-len .ensures .0)
     ∙ sym (marked-readable (sessionOf (a .session)) (a .received .now) (c .before .before .before .before .before .before .if1 .left) (c .before .before .before .before .if2 .left) (c .before .before .if3 .left))
 
 pub is-readable-spec : {M : Type 1} → statement M

@@ -11,7 +11,7 @@ empty-requires : tie.Need-empty-requires
 empty-requires c κs = search needs
 
 returns : tie.Need-returns
-returns c = (ap (λ (es : List Entry). record { figures = none; table = es; count = 0 }) (c .empty .ensures .0), (refl, refl))
+returns c = (ap (λ (es : List Entry). record { figures = none; table = es; count = 0 }) (c .empty .ensures .0), (refl, (refl, refl)))
 
 pub start-spec : {M : Type 1} → statement M
 start-spec = tie.close (tie.spec empty-requires returns)
