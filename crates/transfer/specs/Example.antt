@@ -5,7 +5,7 @@ use mathlib.Core.List.{List, [], _∷_, _++_}
 use Prim.Native.Nat.{ℕ}
 use Rattle.combinatorics.specs.Examples.{Example, example, comesTrue}
 use Rattle.combinatorics.specs.Lists.{all}
-use Rattle.transfer.specs.Lines.{line, stopLine, endLine}
+use Rattle.transfer.specs.Lines.{line, endLine}
 use Rattle.transfer.specs.Program.{printed}
 
 -- "4C54 53 000F FF 01 0002"
@@ -60,21 +60,27 @@ examplePrinted =
     -- end
     ++ (101 ∷ 110 ∷ 100 ∷ 10 ∷ [])
 
--- "Printed in full" otherwise than that is ruled out, and so is what no line of the example shows
+-- stop 11
+abbrev stopText : List ℕ
+stopText = 115 ∷ 116 ∷ 111 ∷ 112 ∷ 32 ∷ 49 ∷ 49 ∷ 10 ∷ []
+
+-- the example, and inputs that no line of it shows
 unfoldable pub rows : List Example
 rows =
     example (printed exampleInput) examplePrinted
     -- "end of input prints "end""
     ∷ example (printed []) endLine
     -- "A wrong mark, unknown letter": 4C 55, and X
-    ∷ example (printed (76 ∷ 85 ∷ 79 ∷ 0 ∷ 0 ∷ 0 ∷ 7 ∷ [])) stopLine
-    ∷ example (printed (76 ∷ 84 ∷ 88 ∷ 0 ∷ 0 ∷ 0 ∷ 7 ∷ [])) stopLine
+    ∷ example (printed (76 ∷ 85 ∷ 79 ∷ 0 ∷ 0 ∷ 0 ∷ 7 ∷ [])) stopText
+    ∷ example (printed (76 ∷ 84 ∷ 88 ∷ 0 ∷ 0 ∷ 0 ∷ 7 ∷ [])) stopText
     -- "cut record": within the mark, and within the number
-    ∷ example (printed (76 ∷ [])) stopLine
-    ∷ example (printed (76 ∷ 84 ∷ 79 ∷ 0 ∷ 0 ∷ 0 ∷ [])) stopLine
+    ∷ example (printed (76 ∷ [])) stopText
+    ∷ example (printed (76 ∷ 84 ∷ 79 ∷ 0 ∷ 0 ∷ 0 ∷ [])) stopText
+    -- "prints "stop 11" and ends": no "end" behind it
+    ∷ example (printed (recordO ++ 76 ∷ [])) (line 79 ((48 ∷ []) ∷ []) ++ stopText)
     -- "W or R before an accepted S"
-    ∷ example (printed recordW) stopLine
-    ∷ example (printed recordR) stopLine
+    ∷ example (printed recordW) stopText
+    ∷ example (printed recordR) stopText
     -- "A refused S keeps the former figures": q 1 is refused with 1, and W is served after it
     ∷ example (printed (recordS ++ refusedS ++ recordO ++ recordW))
     (line 83 ((48 ∷ []) ∷ (49 ∷ 52 ∷ []) ∷ (48 ∷ []) ∷ (49 ∷ 49 ∷ []) ∷ []) ++ line 83 ((49 ∷ []) ∷ []) ++ line 79 ((48 ∷ []) ∷ [])

@@ -15,9 +15,9 @@ ghost use Rattle.params.specs.Bridge.{given};
 ghost use Rattle.params.specs.Given.{figuresOf, Fitting};
 ghost use Rattle.placements.specs.Bridge.{heldAs};
 ghost use Rattle.text.specs.Text.{overwrite};
-ghost use Rattle.transfer.specs.Session.{atStart, maxRecords};
+ghost use Rattle.transfer.specs.Session.{atStart, maxRecords, after as afterRecord};
 ghost use Rattle.transfer.specs.Lines.{maxLine};
-ghost use Rattle.transfer.specs.Records.{headLen, twoBytes, writeLen, readLen, recordLen, maxRecord, readable, letterOf, figuresIn, writeOut, readOut, serveOut, stepOut, stopped, ended, figuresStep, callStep, writeStep, readStep};
+ghost use Rattle.transfer.specs.Records.{headLen, twoBytes, writeLen, readLen, recordLen, maxRecord, readable, current as currentOf, letterOf, figuresIn, writeOut, readOut, serveOut, stepOut, stopped, ended, figuresStep, callStep, writeStep, readStep};
 ghost use Rattle.transfer.specs.Bridge.{lastFigures, sessionOf, Current, orZero, HasStarts, Ready, Shown, Laid, Whole};
 use jobs::JobTable;
 use params::Figures;
@@ -65,7 +65,7 @@ impl Session {
     pub const MAX_RECORDS: u32 = 4294967295;
 
     // Room for the longest line.
-    pub const MAX_LINE: usize = 2 * (Params::MAX_WORD as usize) + 6;
+    pub const MAX_LINE: usize = 2 * MAX_WORD + 6;
 
     // Room for the longest record.
     pub const MAX_RECORD: usize = HEAD_LEN + 2 * Placement::MAX + MAX_WORD;
@@ -87,7 +87,7 @@ impl Session {
     // The session after one record more, with these figures and this table.
     fn after(self, figures: LastFigures, table: JobTable, len: usize) -> StepAnswer
         requires { ⌜ self .records < maxRecords ⌝ }
-        ensures next { λ r. ⌜ sessionOf (r .next) ≡ Rattle.transfer.specs.Session.after (sessionOf self) (lastFigures figures) (entries table) ⌝ }
+        ensures next { λ r. ⌜ sessionOf (r .next) ≡ afterRecord (sessionOf self) (lastFigures figures) (entries table) ⌝ }
         ensures len { λ r. ⌜ r .len ≡ len ⌝ }
         ensures stops { λ r. ⌜ r .stops ≡ false ⌝ }
     {
@@ -105,7 +105,7 @@ impl Session {
     // The same with the figures and the table as they were.
     fn counted(self, len: usize) -> StepAnswer
         requires { ⌜ self .records < maxRecords ⌝ }
-        ensures next { λ r. ⌜ sessionOf (r .next) ≡ Rattle.transfer.specs.Session.after (sessionOf self) (lastFigures (self .figures)) (entries (self .table)) ⌝ }
+        ensures next { λ r. ⌜ sessionOf (r .next) ≡ afterRecord (sessionOf self) (lastFigures (self .figures)) (entries (self .table)) ⌝ }
         ensures len { λ r. ⌜ r .len ≡ len ⌝ }
         ensures stops { λ r. ⌜ r .stops ≡ false ⌝ }
     {
@@ -222,8 +222,8 @@ fn serve_call(session: Session, letter: u8, number: u32, line: &mut [u8]) -> Ste
 
 // W: the word of the placement and the payload.
 fn serve_write(session: Session, received: &[u8], line: &mut [u8]) -> StepAnswer
-    requires { ⌜ Whole session (now line) (now received) (writeLen (Rattle.transfer.specs.Records.current (lastFigures (session .figures)))) ⌝ }
-    ensures { λ r. ⌜ Shown r (now (line .entry)) (now (line .exit)) (writeOut (sessionOf session) (now (received .entry)) (Rattle.transfer.specs.Records.current (lastFigures (session .figures)))) ⌝ }
+    requires { ⌜ Whole session (now line) (now received) (writeLen (currentOf (lastFigures (session .figures)))) ⌝ }
+    ensures { λ r. ⌜ Shown r (now (line .entry)) (now (line .exit)) (writeOut (sessionOf session) (now (received .entry)) (currentOf (lastFigures (session .figures)))) ⌝ }
 {
     let figures = session.figures;
     let answer = current(figures);
@@ -276,8 +276,8 @@ fn write_word(
 
 // R: the payload of the word.
 fn serve_read(session: Session, received: &[u8], line: &mut [u8]) -> StepAnswer
-    requires { ⌜ Whole session (now line) (now received) (readLen (Rattle.transfer.specs.Records.current (lastFigures (session .figures)))) ⌝ }
-    ensures { λ r. ⌜ Shown r (now (line .entry)) (now (line .exit)) (readOut (sessionOf session) (now (received .entry)) (Rattle.transfer.specs.Records.current (lastFigures (session .figures)))) ⌝ }
+    requires { ⌜ Whole session (now line) (now received) (readLen (currentOf (lastFigures (session .figures)))) ⌝ }
+    ensures { λ r. ⌜ Shown r (now (line .entry)) (now (line .exit)) (readOut (sessionOf session) (now (received .entry)) (currentOf (lastFigures (session .figures)))) ⌝ }
 {
     let figures = session.figures;
     let answer = current(figures);
@@ -342,7 +342,7 @@ pub fn record_len(session: Session, letter: u8) -> usize
 
 // m starts and K bytes.
 fn write_len(figures: LastFigures) -> usize
-    ensures { λ r. ⌜ r ≡ orZero (writeLen (Rattle.transfer.specs.Records.current (lastFigures figures))) ⌝ }
+    ensures { λ r. ⌜ r ≡ orZero (writeLen (currentOf (lastFigures figures))) ⌝ }
 {
     let answer = current(figures);
     let Figures::Fit(layout) = answer else {
@@ -353,7 +353,7 @@ fn write_len(figures: LastFigures) -> usize
 
 // n bytes.
 fn read_len(figures: LastFigures) -> usize
-    ensures { λ r. ⌜ r ≡ orZero (readLen (Rattle.transfer.specs.Records.current (lastFigures figures))) ⌝ }
+    ensures { λ r. ⌜ r ≡ orZero (readLen (currentOf (lastFigures figures))) ⌝ }
 {
     let answer = current(figures);
     let Figures::Fit(layout) = answer else {
