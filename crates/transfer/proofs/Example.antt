@@ -1,0 +1,30 @@
+-- Document 01's example: what the definitions print for its input, by computation. Cites no law. Assumes nothing.
+use mathlib.Core.Path.{refl}
+use mathlib.Core.List.{flatMap}
+use Rattle.combinatorics.specs.Examples.{comesTrue}
+use Rattle.combinatorics.specs.Lists.{all, any, sameList}
+use Rattle.combinatorics.specs.Stretch.{sum, has, first, members, tabulate, top}
+use Rattle.combinatorics.specs.Choose.{choose}
+use Rattle.combinatorics.specs.Rank.{rankFrom, unrankDown, unrank}
+use Rattle.combinatorics.specs.Bursts.{apart, inBurst, placements, reduceFrom, expandFrom, rankOf, startsOf}
+use Rattle.cells.specs.Bytes.{byteWidth, payloadLen}
+use Rattle.cells.specs.Cut.{pieceLen, pieceStart, blockAt, blockHead, blockWith}
+use Rattle.cells.specs.Cells.{weave, pick}
+use Rattle.cells.specs.Digits.{span, spell, value, places}
+use Rattle.construction_a.specs.Figures.{inRange, parts, blockMin, leastTail, indexTail, fits, messageLen}
+use Rattle.construction_a.specs.Writing.{becomes, withBurst, withBursts, isBurst, next, partCount, partWith, chosen, beside, isChosen, isIndexIn, isIndex, indexBlocks, isFixed, cellOf, kindAt, plan, word}
+use Rattle.construction_a.specs.Reading.{looksFixed, later, bareParts, openBlocks, indexInPart, collect, indexFound, heads, written, agrees, readRank, read}
+use Rattle.construction_a.specs.Outcomes.{figuresOut}
+use Rattle.jobs.specs.Table.{firstEntry, replaceFirst, put, twice, decide}
+use Rattle.jobs.specs.Replay.{kindOf}
+use Rattle.payloads.specs.Payload.{carriesJob, jobNumber, messageOf, payloadIn, spellsPayload}
+use Rattle.jobcodec.specs.JobWrite.{jobWriteOut}
+use Rattle.jobcodec.specs.JobRead.{jobReading, jobReadOut}
+use Rattle.text.specs.Text.{decimalLen, decimal, hexDigit, hexByte, hex}
+use Rattle.transfer.specs.Records.{recordLen, serveOut, readable}
+use Rattle.transfer.specs.Program.{printedFrom, printed}
+use Rattle.transfer.specs.Example.{exampleInput, examplePrinted, rows, RowsHold}
+
+pub rows-hold : RowsHold
+unfolding all any sameList sum has first members tabulate top choose rankFrom unrankDown unrank apart inBurst placements reduceFrom expandFrom rankOf startsOf byteWidth payloadLen pieceLen pieceStart blockAt blockHead blockWith weave pick span spell value places inRange parts blockMin leastTail indexTail fits messageLen becomes withBurst withBursts isBurst next partCount partWith chosen beside isChosen isIndexIn isIndex indexBlocks isFixed cellOf kindAt plan word looksFixed later bareParts openBlocks indexInPart collect indexFound heads written agrees readRank read figuresOut firstEntry replaceFirst put twice decide kindOf carriesJob jobNumber messageOf payloadIn spellsPayload jobWriteOut jobReading jobReadOut decimalLen decimal hexDigit hexByte hex flatMap recordLen serveOut readable printedFrom printed exampleInput examplePrinted rows comesTrue
+rows-hold = refl

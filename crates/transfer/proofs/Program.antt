@@ -1,0 +1,125 @@
+-- Folding the step over the records of an input prints what the whole-input definition says, for every input. Assumes nothing.
+use mathlib.Core.Path.{_≡_, refl, sym, ap, subst, _∙_}
+use mathlib.Core.Bool.{Bool, true, false, cond, false≢true, true≢false}
+use mathlib.Core.List.{List, [], _∷_, _++_}
+use mathlib.Core.Option.{Option, none, some}
+use Prim.Native.Nat.{ℕ, zero, suc, _+_, _≤_}
+use native.Mathlib.Omega.{arith}
+use lib.Dec.{eqb, ltb}
+use lib.ListN.{length, take, drop}
+use Rattle.refusals.specs.Refusals.{must}
+use Rattle.combinatorics.proofs.Cases.{eqb-other, leb-holds, leb-fails}
+use Rattle.combinatorics.proofs.Lists.{both}
+use Rattle.construction_a.specs.Figures.{Params}
+use Rattle.construction_a.specs.Outcomes.{FiguresOut, figured, unserved, figuresOut}
+use Rattle.jobs.specs.Replay.{kindOf, callBy, isLetter}
+use Rattle.payloads.specs.Payload.{jobNumber}
+use Rattle.transfer.proofs.Lengths.{reaches}
+use Rattle.transfer.specs.Session.{Session, atStart, maxRecords}
+use Rattle.transfer.specs.Lines.{stopLine, endLine}
+use Rattle.transfer.specs.Records.{letterS, letterW, letterR, headLen, letterOf, isMarked, isEmpty, current, writeLen, readLen, recordLen, isWhole, readable, Step, stopped, ended, figuresIn, figuresStep, callStep, writeOut, readOut, serveOut, stepOut}
+use Rattle.transfer.specs.Program.{reach, nextRecord, behind, printedFrom, printed, Steps, lastStep, step, StepsPrint}
+
+-- ---- A record that can be read is served, and counted
+
+record Goes (s : Session) (o : Step) : Type 0 where
+  counted : o .next .count ≡ suc (s .count)
+  goes : o .stops ≡ false
+
+module _ (s : Session) (bytes : List ℕ) where
+  figures-go : (f : Params) (out : FiguresOut) → Goes s (figuresStep s f out)
+  figures-go f (figured t r k) = record { counted = refl; goes = refl }
+  figures-go f (unserved a) = record { counted = refl; goes = refl }
+
+  write-goes : (f : Option Params) → isWhole bytes (writeLen f) ≡ true → Goes s (writeOut s bytes f)
+  write-goes none h = absurd (false≢true h)
+  write-goes (some f) h = record { counted = refl; goes = refl }
+
+  read-goes : (f : Option Params) → isWhole bytes (readLen f) ≡ true → Goes s (readOut s bytes f)
+  read-goes none h = absurd (false≢true h)
+  read-goes (some f) h = record { counted = refl; goes = refl }
+
+  serve-goes : (letter : ℕ) → isWhole bytes (recordLen s letter) ≡ true → Goes s (serveOut s letter bytes)
+  unfolding recordLen serveOut
+  serve-goes letter = go (eqb letter letterS) (isLetter letter) (eqb letter letterW) (eqb letter letterR)
+    where
+      go : (a b c d : Bool)
+          → isWhole bytes (cond a (some (headLen + 6)) (cond b (some (headLen + 4)) (cond c (writeLen (current (s .figures))) (cond d (readLen (current (s .figures))) none)))) ≡ true
+          → Goes s (cond a (figuresStep s (figuresIn bytes) (figuresOut (figuresIn bytes)))
+          (cond b (callStep s letter (callBy (kindOf letter) (s .table) (jobNumber (drop headLen bytes))))
+          (cond c (writeOut s bytes (current (s .figures))) (cond d (readOut s bytes (current (s .figures))) (stopped s)))))
+      go true b c d h = figures-go (figuresIn bytes) (figuresOut (figuresIn bytes))
+      go false true c d h = record { counted = refl; goes = refl }
+      go false false true d h = write-goes (current (s .figures)) h
+      go false false false true h = read-goes (current (s .figures)) h
+      go false false false false h = absurd (false≢true h)
+
+  readable-goes : readable s bytes ≡ true → Goes s (serveOut s (letterOf bytes) bytes)
+  unfolding readable
+  readable-goes h = serve-goes (letterOf bytes) (both (isMarked bytes) (isWhole bytes (recordLen s (letterOf bytes))) h .1)
+
+-- ---- What is cut off is empty only at the end of input
+
+empty-take : (k : ℕ) (input : List ℕ) → 1 ≤ k → isEmpty (take k input) ≡ isEmpty input
+empty-take zero input h = absurd (omega arith)
+empty-take (suc k) [] h = refl
+empty-take (suc k) (x ∷ xs) h = eqb-other (length (take (suc k) (x ∷ xs))) 0 (λ e. omega arith) ∙ sym (eqb-other (length (x ∷ xs)) 0 (λ e. omega arith))
+
+-- the step of the next record, by what is left of the input
+abbrev stepOf : Session → List ℕ → Step
+stepOf s input = stepOut s (nextRecord s input)
+
+abbrev servedOf : Session → List ℕ → Step
+servedOf s input = serveOut s (letterOf (nextRecord s input)) (nextRecord s input)
+
+step-is : (s : Session) (input : List ℕ) (more : Bool) → ltb (s .count) maxRecords ≡ more
+    → stepOf s input ≡ cond (isEmpty input) (ended s) (must more (stopped s) (must (readable s (nextRecord s input)) (stopped s) (servedOf s input)))
+unfolding stepOut
+step-is s input more e = rw (empty-take (reach (recordLen s (letterOf input))) input (omega (arith, reaches s (letterOf input))), e)
+
+-- ---- Steps, by what the step gives
+
+module _ {s : Session} {input : List ℕ} where
+  last-as : (o : Step) → stepOf s input ≡ o → o .stops ≡ true → Steps s input (o .line)
+  last-as o e = subst (λ (x : Step). x .stops ≡ true → Steps s input (x .line)) e (λ h. lastStep h)
+
+  step-as : (o : Step) (out : List ℕ) → stepOf s input ≡ o → o .stops ≡ false → Steps (o .next) (behind s input) out → Steps s input (o .line ++ out)
+  step-as o out e = subst (λ (x : Step). x .stops ≡ false → Steps (x .next) (behind s input) out → Steps s input (x .line ++ out)) e (λ h r. step h r)
+
+-- ---- They print what the definition says
+
+prints : (left : ℕ) (s : Session) (input : List ℕ) → s .count + left ≡ maxRecords → Steps s input (printedFrom left s input)
+unfolding printedFrom
+prints zero s input h = go (isEmpty input) (step-is s input false (leb-fails (suc (s .count)) maxRecords (omega arith)))
+  where
+    go : (b : Bool) → stepOf s input ≡ cond b (ended s) (stopped s) → Steps s input (cond b endLine stopLine)
+    go true e = last-as (ended s) e refl
+    go false e = last-as (stopped s) e refl
+prints (suc left) s input h =
+    go (isEmpty input) (readable s (nextRecord s input)) (λ r. readable-goes s (nextRecord s input) r)
+    (λ e. prints left (servedOf s input .next) (behind s input) (omega (arith, e)))
+    (step-is s input true (leb-holds (suc (s .count)) maxRecords (omega arith)))
+  where
+    served : Step
+    served = servedOf s input
+
+    rest : List ℕ
+    rest = printedFrom left (served .next) (behind s input)
+
+    go : (b r : Bool) → (r ≡ true → Goes s served) → (served .next .count ≡ suc (s .count) → Steps (served .next) (behind s input) rest)
+        → stepOf s input ≡ cond b (ended s) (must r (stopped s) served)
+        → Steps s input (cond b endLine (must r stopLine (served .line ++ rest)))
+    go true r g more e = last-as (ended s) e refl
+    go false false g more e = last-as (stopped s) e refl
+    go false true g more e = step-as served rest e (g refl .goes) (more (g refl .counted))
+
+-- and nothing else
+same-out : {s : Session} {input o o′ : List ℕ} → Steps s input o → Steps s input o′ → o ≡ o′
+same-out (lastStep h) (lastStep g) = refl
+same-out (lastStep h) (step g r) = absurd (true≢false (sym h ∙ g))
+same-out (step h r) (lastStep g) = absurd (true≢false (sym g ∙ h))
+same-out {s} {input} (step h r) (step g r′) = ap (λ (t : List ℕ). stepOf s input .line ++ t) (same-out r r′)
+
+pub steps-print : StepsPrint
+unfolding printed
+steps-print input = (prints maxRecords atStart input refl, λ out r. same-out r (prints maxRecords atStart input refl))

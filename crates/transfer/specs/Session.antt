@@ -1,0 +1,25 @@
+-- What the transfer program keeps between two records. Assumes nothing.
+use mathlib.Core.List.{List}
+use mathlib.Core.Option.{Option, none}
+use Prim.Native.Nat.{ℕ, suc}
+use Rattle.construction_a.specs.Figures.{Params}
+use Rattle.jobs.specs.declared.Entry.{Entry}
+use Rattle.jobs.specs.Table.{emptyTable}
+
+-- the figures of the last accepted S, the job table, and how many records were served
+pub record Session : Type 0 where
+  pub figures : Option Params
+  pub table : List Entry
+  pub count : ℕ
+
+-- "The book starts empty": no figures, no number held, no record yet
+abbrev pub atStart : Session
+atStart = record { figures = none; table = emptyTable; count = 0 }
+
+-- "any record after the 4294967295th"
+abbrev pub maxRecords : ℕ
+maxRecords = 4294967295
+
+-- after one record more, with these figures and this table
+abbrev pub after : Session → Option Params → List Entry → Session
+after s f es = record { figures = f; table = es; count = suc (s .count) }
