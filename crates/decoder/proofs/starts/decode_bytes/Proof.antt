@@ -11,8 +11,8 @@ use Rattle.decoder.specs.Answer.{answerAs}
 use Rattle.decoder.specs.Exported.{lentAs, exportedAs}
 use Rattle.decoder.proofs.Bytes.{exported-length, exported-read, exported-refused, exported-served}
 use Rattle.decoder.proofs.Calls.{accepted-count}
-use Rattle.decoder.proofs.exported.decode_bytes.Statement.{statement}
-use Rattle.decoder.proofs.exported.decode_bytes.Tie as tie
+use Rattle.decoder.proofs.starts.decode_bytes.Statement.{statement}
+use Rattle.decoder.proofs.starts.decode_bytes.Tie as tie
 
 abbrev f : tie.Start → Params
 f s = figuresOf (s .args .layout)

@@ -11,8 +11,8 @@ use Rattle.construction_a.specs.Figures.{maxBursts}
 use Rattle.placements.specs.Bridge.{startsIn}
 use Rattle.decoder.specs.Exported.{startBytes}
 use Rattle.decoder.proofs.Bytes.{bytes-turn, bytes-done}
-use Rattle.decoder.proofs.exported.put_starts.Statement.{statement}
-use Rattle.decoder.proofs.exported.put_starts.Tie as tie
+use Rattle.decoder.proofs.starts.put_starts.Statement.{statement}
+use Rattle.decoder.proofs.starts.put_starts.Tie as tie
 
 abbrev Inv-loop : tie.InvT-loop
 Inv-loop bytes₀ at count j₀ bytes j = (j ≤ at .count) × (length bytes ≡ length bytes₀) × (take (2 * j) bytes ≡ take (2 * j) (startBytes (startsIn at)))

@@ -1,0 +1,49 @@
+// The word reader with its placement as bytes: what the reader for C does once the figures are known to fit. Inner functions. Assumes nothing.
+ghost use mathlib.Core.Path.{_≡_};
+ghost use Prim.Native.Nat.{_*_, _≤_};
+ghost use lib.ListN.{length};
+ghost use Rattle.construction_a.specs.Figures.{maxBursts};
+ghost use Rattle.params.specs.Given.{figuresOf, Fitting};
+ghost use Rattle.placements.specs.Bridge.{startsIn};
+ghost use Rattle.decoder.specs.Exported.{lentAs, startBytes, exportedOut};
+use crate::WordAnswer;
+use crate::decode_fitting;
+use params::Layout;
+use params::bytes::BYTE_VALUES;
+use placements::Placement;
+use refusals::Refusal;
+
+// Word read for figures that fit, with the placement as bytes. Refusals: 3 4 7 8 9.
+pub fn decode_bytes(layout: Layout, word: &[u8], message: &mut [u8], starts: &mut [u8]) -> u8
+    requires { ⌜ Fitting layout ⌝ }
+    ensures { λ r. ⌜ lentAs r (now (message .exit)) (now (starts .exit)) ≡ exportedOut (figuresOf layout) (now (word .entry)) (now (message .entry)) (now (starts .entry)) ⌝ }
+{
+    if starts.len() != 2 * layout.m {
+        return Refusal::LENGTH;
+    }
+    let decoded = decode_fitting(layout, word, message);
+    let answer = decoded.answer;
+    match answer {
+        WordAnswer::Refused(number) => number,
+        WordAnswer::Accepted(_) => {
+            put_starts(decoded.placement, starts);
+            Refusal::NONE
+        }
+    }
+}
+
+// The starts in use as bytes.
+fn put_starts(at: Placement, bytes: &mut [u8])
+    requires { ⌜ (at .count ≤ maxBursts) × (length (now bytes) ≡ 2 * at .count) ⌝ }
+    ensures { λ _. ⌜ now (bytes .exit) ≡ startBytes (startsIn at) ⌝ }
+{
+    let count = at.count as usize;
+    let mut j: usize = 0;
+    while j < count {
+        let s = at.starts[j];
+        let start = s as u64;
+        bytes[2 * j] = (start / BYTE_VALUES) as u8;
+        bytes[2 * j + 1] = (start % BYTE_VALUES) as u8;
+        j += 1;
+    }
+}
