@@ -9,7 +9,7 @@ ghost use Rattle.combinatorics.specs.Stretch.{has, members};
 ghost use Rattle.construction_a.specs.Figures.{maxBursts, blocks as blocksOf};
 ghost use Rattle.construction_a.specs.Reading;
 ghost use Rattle.construction_a.specs.Reading.{looksFixed};
-ghost use Rattle.params.specs.Given.{figuresOf, maxBlocks};
+ghost use Rattle.params.specs.Given.{figuresOf, maxBlocks, HeadsOf};
 ghost use Rattle.blocks.specs.Blocks.{fixedKind, indexKind, KindsOf};
 ghost use Rattle.heads.specs.Given.{Finding};
 ghost use Rattle.decoder.specs.Reader.{ofKind};
@@ -22,17 +22,18 @@ use placements::Placement;
 // Whether the index blocks are those read, and each fixed block starts with 0, by the kinds of a placement's blocks: otherwise refusal 9.
 pub fn agrees(
     layout: Layout,
+    heads: &[u16; Layout::MAX_HEADS],
     kinds: &[u8; Layout::MAX_BLOCKS],
     index: [u8; Placement::MAX],
     word: &[u8],
 ) -> bool
-    requires { ⌜ Finding layout (now word) ⌝ }
+    requires { ⌜ Finding layout (now word) × HeadsOf (figuresOf layout) (now heads) ⌝ }
     ensures { λ r. ⌜ ((ss : List ℕ) → KindsOf (figuresOf layout) ss (now (kinds .entry)) → r ≡ Rattle.construction_a.specs.Reading.agrees (figuresOf layout) (now (word .entry)) (take (layout .m) index) ss) ⌝ }
 {
     if !same_index(kinds, layout.parts * layout.m, index, layout.m) {
         return false;
     }
-    fixed_heads(layout, kinds, word)
+    fixed_heads(layout, heads, kinds, word)
 }
 
 // Whether the index blocks are the first m of those read.
@@ -63,15 +64,20 @@ fn same_index(
 }
 
 // Whether each fixed block starts with 0: it is examined as its own stretch of the word.
-fn fixed_heads(layout: Layout, kinds: &[u8; Layout::MAX_BLOCKS], word: &[u8]) -> bool
-    requires { ⌜ Finding layout (now word) ⌝ }
+fn fixed_heads(
+    layout: Layout,
+    heads: &[u16; Layout::MAX_HEADS],
+    kinds: &[u8; Layout::MAX_BLOCKS],
+    word: &[u8],
+) -> bool
+    requires { ⌜ Finding layout (now word) × HeadsOf (figuresOf layout) (now heads) ⌝ }
     ensures { λ r. ⌜ r ≡ not (has (blocksOf (figuresOf layout)) 0 (λ k. ofKind fixedKind (now (kinds .entry)) k && not (looksFixed (figuresOf layout) (now (word .entry)) k))) ⌝ }
 {
     let blocks = layout.parts * layout.m;
     let mut k: usize = 0;
     while k < blocks {
         if kinds[k] == FIXED {
-            let head = layout.block_head(k);
+            let head = layout.block_head(heads, k);
             if !looks_fixed(&word[head..]) {
                 return false;
             }

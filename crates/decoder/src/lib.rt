@@ -6,13 +6,14 @@ ghost use lib.ListN.{take};
 ghost use Rattle.construction_a.specs.Outcomes.{unread as unreadAs, decodeAs, decodeOut};
 ghost use Rattle.construction_a.specs.Reading.{readRank, read};
 ghost use Rattle.params.specs.Bridge.{given};
-ghost use Rattle.params.specs.Given.{figuresOf, Fitting};
+ghost use Rattle.params.specs.Given.{figuresOf, Fitting, HeadsOf};
 ghost use Rattle.decoder.specs.Answer.{decodedAs};
 ghost use Rattle.decoder.specs.DemandTwo.{DecodesExactly};
 ghost use Rattle.decoder.specs.Reader.{Lent, Ranked};
 use params::Layout;
 use params::LayoutAnswer;
 use params::Params;
+use params::heads::heads_of;
 use placements::Placement;
 use refusals::Refusal;
 
@@ -60,43 +61,49 @@ pub fn decode_fitting(layout: Layout, word: &[u8], message: &mut [u8]) -> Decode
     if !symbols::all_below(word, layout.q) {
         return unread(Refusal::SYMBOL);
     }
-    decode_found(layout, word, message)
+    decode_found(layout, &heads_of(layout), word, message)
 }
 
 // The same for a word that can be found. Refusals: 7 8 9.
-fn decode_found(layout: Layout, word: &[u8], message: &mut [u8]) -> Decoded
-    requires { ⌜ Lent layout (now word) (now message) ⌝ }
+fn decode_found(
+    layout: Layout,
+    heads: &[u16; Layout::MAX_HEADS],
+    word: &[u8],
+    message: &mut [u8],
+) -> Decoded
+    requires { ⌜ Lent layout (now word) (now message) × HeadsOf (figuresOf layout) (now heads) ⌝ }
     ensures { λ r. ⌜ decodedAs r (now (message .exit)) ≡ decodeAs (figuresOf layout) (now (message .entry)) (read (figuresOf layout) (now (word .entry))) ⌝ }
 {
-    let shown = heads::pattern::index_read(layout, word);
+    let shown = heads::pattern::index_read(layout, heads, word);
     if !shown.found {
         return unread(Refusal::PATTERN);
     }
     let index = shown.blocks;
-    let rank = heads::written::written_value(layout, word, index);
+    let rank = heads::written::written_value(layout, heads, word, index);
     if layout.placement_count <= rank {
         return unread(Refusal::VALUE);
     }
-    decode_rank(layout, index, rank, word, message)
+    decode_rank(layout, heads, index, rank, word, message)
 }
 
 // The same for the rank that index blocks spell. Refusal: 9. The message is taken where nothing can be refused any more.
 fn decode_rank(
     layout: Layout,
+    heads: &[u16; Layout::MAX_HEADS],
     index: [u8; Placement::MAX],
     rank: u64,
     word: &[u8],
     message: &mut [u8],
 ) -> Decoded
-    requires { ⌜ Ranked layout rank (now word) (now message) ⌝ }
+    requires { ⌜ Ranked layout rank (now word) (now message) × HeadsOf (figuresOf layout) (now heads) ⌝ }
     ensures { λ r. ⌜ decodedAs r (now (message .exit)) ≡ decodeAs (figuresOf layout) (now (message .entry)) (readRank (figuresOf layout) (now (word .entry)) (take (layout .m) index) rank) ⌝ }
 {
     let placement = Placement::unrank(layout.n as u32, layout.m as u32, layout.b as u32, rank);
     let kinds = blocks::kinds_of(layout, placement);
-    if !agree::agrees(layout, &kinds, index, word) {
+    if !agree::agrees(layout, heads, &kinds, index, word) {
         return unread(Refusal::DISAGREES);
     }
-    taking::take_message(layout, placement, &kinds, word, message);
+    taking::take_message(layout, placement, heads, &kinds, word, message);
     Decoded {
         answer: WordAnswer::Accepted(rank),
         placement,

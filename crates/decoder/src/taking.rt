@@ -3,7 +3,7 @@ ghost use mathlib.Core.Path.{_≡_};
 ghost use Rattle.cells.specs.Cells;
 ghost use Rattle.cells.specs.Cells.{pick};
 ghost use Rattle.construction_a.specs.Writing.{plan};
-ghost use Rattle.params.specs.Given.{figuresOf};
+ghost use Rattle.params.specs.Given.{figuresOf, HeadsOf};
 ghost use Rattle.placements.specs.Bridge.{startsIn};
 ghost use Rattle.blocks.specs.Blocks.{KindsOf};
 ghost use Rattle.decoder.specs.Reader.{Takeable};
@@ -14,17 +14,18 @@ use placements::Placement;
 pub fn take_message(
     layout: Layout,
     at: Placement,
+    heads: &[u16; Layout::MAX_HEADS],
     kinds: &[u8; Layout::MAX_BLOCKS],
     word: &[u8],
     message: &mut [u8],
 )
-    requires { ⌜ Takeable layout at (now word) (now message) × KindsOf (figuresOf layout) (startsIn at) (now kinds) ⌝ }
+    requires { ⌜ Takeable layout at (now word) (now message) × HeadsOf (figuresOf layout) (now heads) × KindsOf (figuresOf layout) (startsIn at) (now kinds) ⌝ }
     ensures { λ _. ⌜ now (message .exit) ≡ pick Rattle.cells.specs.Cells.message (plan (figuresOf layout) (startsIn at)) (now (word .entry)) ⌝ }
 {
-    let mut here = stretches::walk_from_start(layout, at);
+    let mut here = stretches::walk_from_start(layout, at, heads);
     let mut taken: usize = 0;
     while here.at < layout.n {
-        let stretch = stretches::next_stretch(layout, at, kinds, here);
+        let stretch = stretches::next_stretch(layout, at, heads, kinds, here);
         let from = here.at;
         let next = stretch.next;
         let to = next.at;

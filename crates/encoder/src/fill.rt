@@ -9,11 +9,12 @@ ghost use Rattle.construction_a.specs.Figures.{maxWord};
 ghost use Rattle.construction_a.specs.Writing.{plan, word as wordOf};
 ghost use Rattle.blocks.specs.Blocks.{KindsOf};
 ghost use Rattle.placements.specs.Bridge.{startsIn};
-ghost use Rattle.params.specs.Given.{figuresOf};
+ghost use Rattle.params.specs.Given.{figuresOf, HeadsOf};
 ghost use Rattle.encoder.specs.Fill.{Fillable, DigitsFor};
 ghost use Rattle.stretches.specs.Walk.{cellNamed};
 use crate::digits;
 use params::Layout;
+use params::heads::heads_of;
 use placements::Placement;
 
 // The word of a placement and a message.
@@ -25,26 +26,35 @@ pub fn fill(layout: Layout, at: Placement, message: &[u8], word: &mut [u8])
     let rank = at.rank(layout.b as u32);
     let digits = digits::spelled(layout.q, layout.m, layout.index_tail, rank);
     let count = layout.m * (layout.index_tail + 1);
-    fill_cells(layout, at, &kinds, &digits[..count], message, word);
+    fill_cells(
+        layout,
+        at,
+        &heads_of(layout),
+        &kinds,
+        &digits[..count],
+        message,
+        word,
+    );
 }
 
 // The cells of the word from left to right.
 fn fill_cells(
     layout: Layout,
     at: Placement,
+    heads: &[u16; Layout::MAX_HEADS],
     kinds: &[u8; Layout::MAX_BLOCKS],
     digits: &[u8],
     message: &[u8],
     word: &mut [u8],
 )
-    requires { ⌜ Fillable layout at (now message) (now word) × KindsOf (figuresOf layout) (startsIn at) (now kinds) × DigitsFor (figuresOf layout) (now digits) ⌝ }
+    requires { ⌜ Fillable layout at (now message) (now word) × HeadsOf (figuresOf layout) (now heads) × KindsOf (figuresOf layout) (startsIn at) (now kinds) × DigitsFor (figuresOf layout) (now digits) ⌝ }
     ensures { λ _. ⌜ now (word .exit) ≡ weave (plan (figuresOf layout) (startsIn at)) (now (digits .entry)) (now (message .entry)) ⌝ }
 {
-    let mut here = stretches::walk_from_start(layout, at);
+    let mut here = stretches::walk_from_start(layout, at, heads);
     let mut spelled: usize = 0;
     let mut sent: usize = 0;
     while here.at < layout.n {
-        let stretch = stretches::next_stretch(layout, at, kinds, here);
+        let stretch = stretches::next_stretch(layout, at, heads, kinds, here);
         let from = here.at;
         let next = stretch.next;
         let to = next.at;

@@ -5,7 +5,7 @@ ghost use lib.ListN.{length, getD};
 ghost use Rattle.combinatorics.specs.Stretch.{bit};
 ghost use Rattle.construction_a.specs.Figures.{blocks};
 ghost use Rattle.construction_a.specs.Reading.{looksFixed};
-ghost use Rattle.params.specs.Given.{figuresOf};
+ghost use Rattle.params.specs.Given.{figuresOf, HeadsOf};
 ghost use Rattle.heads.specs.Given.{Finding};
 ghost use Rattle.heads.specs.Looks.{startsFixed};
 use params::Layout;
@@ -14,15 +14,19 @@ use params::Layout;
 pub const LOOKS_FIXED: u8 = 1;
 
 // For each block of a found word whether it looks fixed: each is examined as its own stretch of the word.
-pub fn looks_of(layout: Layout, word: &[u8]) -> [u8; Layout::MAX_BLOCKS]
-    requires { ⌜ Finding layout (now word) ⌝ }
+pub fn looks_of(
+    layout: Layout,
+    heads: &[u16; Layout::MAX_HEADS],
+    word: &[u8],
+) -> [u8; Layout::MAX_BLOCKS]
+    requires { ⌜ Finding layout (now word) × HeadsOf (figuresOf layout) (now heads) ⌝ }
     ensures { λ r. ⌜ ((k : ℕ) → k < blocks (figuresOf layout) → getD r k 0 ≡ bit (looksFixed (figuresOf layout) (now (word .entry)) k)) ⌝ }
 {
     let blocks = layout.parts * layout.m;
     let mut looks = [0u8; Layout::MAX_BLOCKS];
     let mut k: usize = 0;
     while k < blocks {
-        let head = layout.block_head(k);
+        let head = layout.block_head(heads, k);
         if looks_fixed(&word[head..]) {
             looks[k] = LOOKS_FIXED;
         }

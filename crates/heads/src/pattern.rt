@@ -7,7 +7,7 @@ ghost use Prim.Native.Nat.{ℕ, _+_, _*_, _≤_, _<_};
 ghost use Rattle.combinatorics.specs.Stretch.{stretch};
 ghost use Rattle.construction_a.specs.Figures.{maxBursts, parts as partsOf};
 ghost use Rattle.construction_a.specs.Reading.{looksFixed, later, bareParts, openBlocks, indexInPart, collect, indexFound};
-ghost use Rattle.params.specs.Given.{figuresOf, maxBlocks};
+ghost use Rattle.params.specs.Given.{figuresOf, maxBlocks, HeadsOf};
 ghost use Rattle.heads.specs.Given.{Finding};
 ghost use Rattle.heads.specs.Looks.{looksIn};
 ghost use Rattle.heads.specs.Patterns.{Parted, candidatesOf, numbered, indexIn};
@@ -30,11 +30,15 @@ struct Candidates {
 }
 
 // The index blocks that a found word shows: otherwise refusal 7.
-pub fn index_read(layout: Layout, word: &[u8]) -> IndexBlocks
-    requires { ⌜ Finding layout (now word) ⌝ }
+pub fn index_read(
+    layout: Layout,
+    heads: &[u16; Layout::MAX_HEADS],
+    word: &[u8],
+) -> IndexBlocks
+    requires { ⌜ Finding layout (now word) × HeadsOf (figuresOf layout) (now heads) ⌝ }
     ensures { λ r. ⌜ indexIn (layout .m) r ≡ indexFound (partsOf (figuresOf layout)) (layout .m) (looksFixed (figuresOf layout) (now (word .entry))) ⌝ }
 {
-    index_found(looks_of(layout, word), layout.parts, layout.m)
+    index_found(looks_of(layout, heads, word), layout.parts, layout.m)
 }
 
 // The index blocks that the blocks which look fixed show: every block of the part without such a block, or of the later of two such parts, or one

@@ -4,14 +4,19 @@ ghost use Prim.Native.Nat.{_+_, _*_, _<_, min};
 ghost use lib.ListN.{take};
 ghost use Rattle.cells.specs.Digits.{span, value, places};
 ghost use Rattle.construction_a.specs.Reading.{written};
-ghost use Rattle.params.specs.Given.{figuresOf};
+ghost use Rattle.params.specs.Given.{figuresOf, HeadsOf};
 ghost use Rattle.heads.specs.Written.{Shown, LeadsIn};
 use params::Layout;
 use placements::Placement;
 
 // The value, or the count of placements where that is less: then it is refusal 8. The most significant digit comes first.
-pub fn written_value(layout: Layout, word: &[u8], blocks: [u8; Placement::MAX]) -> u64
-    requires { ⌜ Shown layout (now word) blocks ⌝ }
+pub fn written_value(
+    layout: Layout,
+    heads: &[u16; Layout::MAX_HEADS],
+    word: &[u8],
+    blocks: [u8; Placement::MAX],
+) -> u64
+    requires { ⌜ Shown layout (now word) blocks × HeadsOf (figuresOf layout) (now heads) ⌝ }
     ensures { λ r. ⌜ r ≡ min (written (figuresOf layout) (now (word .entry)) (take (layout .m) blocks)) (layout .«placement_count») ⌝ }
 {
     let cap = layout.placement_count;
@@ -19,7 +24,7 @@ pub fn written_value(layout: Layout, word: &[u8], blocks: [u8; Placement::MAX]) 
     let mut j: usize = 0;
     while j < layout.m {
         let block = blocks[j] as usize;
-        let head = layout.block_head(block);
+        let head = layout.block_head(heads, block);
         value = with_block(value, layout.q, layout.index_tail, &word[head..], cap);
         j += 1;
     }

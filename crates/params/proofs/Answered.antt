@@ -1,4 +1,4 @@
--- What a caller learns of a layout that was answered, and that it may ask for each block's first position. Assumes nothing.
+-- What a caller learns of a layout that was answered. Assumes nothing.
 use mathlib.Core.Path.{_≡_, sym, ap, _∙_, subst}
 use Prim.Native.Nat.{ℕ, _*_, _≤_, _<_}
 use native.Mathlib.Nat.{mul-le-mul}
@@ -12,7 +12,6 @@ use Rattle.params.specs.declared.Layout.{Layout}
 use Rattle.params.specs.declared.LayoutAnswer.{LayoutAnswer}
 use Rattle.params.specs.declared.LayoutAnswer.the-variants.{Fit, Refused}
 use Rattle.params.specs.Answer.{figuredAs, LaidOut, LaidIn}
-use Rattle.params.specs.Blocks.{HasHead}
 
 -- of an answer that was taken apart: a layout's figures can be served, and it is theirs
 pub fit-learnt : (f : Params) (r : LayoutAnswer) (l : Layout) → r ≡ Fit l → figuredAs r ≡ figuresOut f → LaidIn f r → Served f × LaidOut f l
@@ -54,9 +53,6 @@ bounds f l ok is =
       blocks-most = mul-le-mul {n₂ = maxBursts} {m₂ = maxBursts} p m;
       tail-room = omega arith;
     }
-
-pub has-head : (l : Layout) (k : ℕ) → Bounds l → k ≤ l .parts * l .m → HasHead l k
-has-head l k h w = record { some-parts = omega arith; some-blocks = omega arith; within = w }
 
 -- the first position of a block, by the figures
 pub head-is : (f : Params) (l : Layout) (k : ℕ) → LaidOut f l → blockHead (l .n) (l .parts) (l .m) k ≡ headOf f k

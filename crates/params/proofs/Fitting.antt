@@ -1,11 +1,13 @@
 -- What a layout of figures that fit gives: its bounds, and room for every block. Assumes nothing.
 use mathlib.Core.Path.{_≡_, sym, ap, _∙_, subst}
+use mathlib.Core.List.{List}
 use Prim.Native.Nat.{ℕ, suc, _+_, _*_, _/_, _≤_, _<_}
 use native.Mathlib.Nat.{mul-comm, mul-pos, le-mul-of-pos-right, le-div-iff-mul-le}
 use native.Mathlib.Omega.{arith}
+use lib.ListN.{getD}
 use Rattle.cells.specs.Cut.{blockHead}
 use Rattle.cells.proofs.Cut.{block-next, block-most}
-use Rattle.construction_a.specs.Figures.{Params, params, inRange, fits, parts, blocks, blockMin}
+use Rattle.construction_a.specs.Figures.{Params, params, maxWord, inRange, fits, parts, blocks, blockMin}
 use Rattle.construction_a.specs.Outcomes.{figuresOut}
 use Rattle.construction_a.proofs.Figures.{Served, serve}
 use Rattle.construction_a.proofs.Outcomes.{figured-fits}
@@ -13,7 +15,7 @@ use Rattle.params.specs.declared.Layout.{Layout}
 use Rattle.params.specs.declared.LayoutAnswer.{LayoutAnswer}
 use Rattle.params.specs.declared.LayoutAnswer.the-variants.{Fit}
 use Rattle.params.specs.Answer.{figuredAs, LaidOut, LaidIn}
-use Rattle.params.specs.Given.{maxBlocks, figuresOf, Fitting}
+use Rattle.params.specs.Given.{maxBlocks, figuresOf, Fitting, HeadsOf}
 use Rattle.params.proofs.Answered.{Bounds, bounds}
 
 same-figures : {f : Params} {n q m b : ℕ} → n ≡ f .n → q ≡ f .q → m ≡ f .m → b ≡ f .b → params n q m b ≡ f
@@ -71,3 +73,9 @@ module _ (l : Layout) (g : Fitting l) where
       let b = bound in
       let min : l .«block_min» ≡ l .n / (l .parts * l .m) = g .laid .min-is ∙ (rw (g .laid .parts-is)) in
       omega (arith, block-next (l .n) (l .parts) (l .m) k (omega arith), block-most (l .n) (l .parts) (l .m) (suc k) (omega arith) (omega arith) h)
+
+  -- no block starts past the word's end
+  pub heads-small : (heads : List ℕ) → HeadsOf (figuresOf l) heads → (k : ℕ) → k ≤ blocks (figuresOf l) → getD heads k 0 ≤ maxWord
+  heads-small heads h k w =
+      let f = figuresOf l in
+      omega (arith, h k w, block-most (f .n) (parts f) (f .m) k (omega (arith, served .three)) (served .some) w, bound .n-most)

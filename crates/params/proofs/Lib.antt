@@ -2,3 +2,4 @@ pub mod Capped
 pub mod Laying
 pub mod Answered
 pub mod Fitting
+mod Starting

@@ -2,12 +2,6 @@
 use Prim.Native.Nat.{ℕ, _*_, _≤_, _<_}
 use Rattle.params.specs.declared.Layout.{Layout}
 
--- a block's number, or that of the end behind the last block
-pub record HasHead (l : Layout) (k : ℕ) : Type 0 where
-  pub some-parts : 0 < l .parts
-  pub some-blocks : 0 < l .m
-  pub within : k ≤ l .parts * l .m
-
 -- a position of a word whose parts and blocks all have positions
 pub record HasPosition (l : Layout) (x : ℕ) : Type 0 where
   pub some-parts : 0 < l .parts

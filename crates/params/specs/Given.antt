@@ -1,8 +1,10 @@
 -- What inner functions of the layers above may count on: a layout of figures that fit. Assumes nothing.
 use mathlib.Core.Path.{_≡_}
 use mathlib.Core.Bool.{true}
-use Prim.Native.Nat.{ℕ, _*_}
-use Rattle.construction_a.specs.Figures.{Params, params, maxBursts, inRange, fits}
+use mathlib.Core.List.{List}
+use Prim.Native.Nat.{ℕ, _*_, _≤_}
+use lib.ListN.{getD}
+use Rattle.construction_a.specs.Figures.{Params, params, maxBursts, inRange, fits, blocks, headOf}
 use Rattle.params.specs.Answer.{LaidOut}
 use Rattle.params.specs.declared.Layout.{Layout}
 
@@ -19,3 +21,7 @@ pub record Fitting (l : Layout) : Type 0 where
   pub range : inRange (figuresOf l) ≡ true
   pub fit : fits (figuresOf l) ≡ true
   pub laid : LaidOut (figuresOf l) l
+
+-- the first position of each block, and behind them the word's length
+abbrev pub HeadsOf : Params → List ℕ → Type 0
+HeadsOf f heads = (k : ℕ) → k ≤ blocks f → getD heads k 0 ≡ headOf f k

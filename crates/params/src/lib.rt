@@ -8,11 +8,13 @@ ghost use Rattle.construction_a.specs.Outcomes.{figuresOut};
 ghost use Rattle.cells.specs.Cut.{blockHead, blockWith};
 ghost use Rattle.params.specs.Bridge.{given};
 ghost use Rattle.params.specs.Answer.{figuredAs, LaidIn};
-ghost use Rattle.params.specs.Blocks.{HasHead, HasPosition};
+ghost use Rattle.params.specs.Blocks.{HasPosition};
+ghost use Rattle.params.specs.Given.{figuresOf, Fitting, HeadsOf};
 use refusals::Refusal;
 
 pub mod bytes;
 pub mod cut;
+pub mod heads;
 mod tail;
 
 // The figures as a caller passes them: any numbers.
@@ -159,6 +161,9 @@ impl Layout {
     // The most blocks that a word can have.
     pub const MAX_BLOCKS: usize = (Params::MAX_BURSTS * Params::MAX_BURSTS) as usize;
 
+    // Room for the first position of every block, and for the word's length behind them.
+    pub const MAX_HEADS: usize = Layout::MAX_BLOCKS + 1;
+
     // The block that has position x.
     pub fn block_of(self, x: usize) -> usize
         requires { ⌜ HasPosition self x ⌝ }
@@ -170,18 +175,12 @@ impl Layout {
         part * self.m + cut::piece_of(len, self.m, x - from)
     }
 
-    // The first position of block k, counted through the word; the word's length for the number behind the last block's.
-    pub fn block_head(self, k: usize) -> usize
-        requires { ⌜ HasHead self k ⌝ }
+    // The first position of block k, counted through the word, from the array of all; the word's length for the number behind the last block's.
+    pub fn block_head(self, heads: &[u16; Layout::MAX_HEADS], k: usize) -> usize
+        requires { ⌜ Fitting self × HeadsOf (figuresOf self) (now heads) × (k ≤ self .parts * self .m) ⌝ }
         ensures { λ r. ⌜ r ≡ blockHead (self .n) (self .parts) (self .m) k ⌝ }
     {
-        let part = k / self.m;
-        let block = k % self.m;
-        let head = cut::piece_start(self.n, self.parts, part);
-        if block == 0 {
-            return head;
-        }
-        let len = cut::piece_len(self.n, self.parts, part);
-        head + cut::piece_start(len, self.m, block)
+        let head = heads[k];
+        head as usize
     }
 }

@@ -11,6 +11,7 @@ use Rattle.construction_a.specs.Figures.{Params, blocks, headOf, indexTail}
 use Rattle.construction_a.specs.Writing.{isBurst, isIndex, kindAt}
 use Rattle.stretches.specs.declared.Walk.{Walk}
 use Rattle.stretches.specs.declared.Stretch.{Stretch}
+use Rattle.stretches.specs.declared.Cells.{Cells}
 
 -- a kind of cell by its number
 abbrev pub cellNamed : ℕ → Cell
@@ -61,3 +62,9 @@ pub record Moving (f : Params) (ss : List ℕ) (w : Walk) (x : ℕ) : Type 0 whe
   pub edge : x ≤ w .edge
   pub burst-end : w .passed < length ss → x ≤ getD ss (w .passed) 0 + f .b
   pub heads : x < w .edge → w .head + headCells f ss (w .block) ≤ x
+
+-- cells of one kind, from where the walk stands up to a position that it can move to
+pub record Alike (f : Params) (ss : List ℕ) (w : Walk) (s : Cells) : Type 0 where
+  pub moves : Moving f ss w (s .to)
+  pub same : (y : ℕ) → w .at ≤ y → y < s .to → kindAt f ss y ≡ cellNamed (s .kind)
+  pub named : s .kind ≤ 3

@@ -4,8 +4,8 @@ ghost use Prim.Native.Nat.{suc, _<_, min};
 ghost use Rattle.construction_a.specs.Figures.{blocks, headOf};
 ghost use Rattle.blocks.specs.Blocks.{KindsOf};
 ghost use Rattle.placements.specs.Bridge.{startsIn, Placing};
-ghost use Rattle.params.specs.Given.{figuresOf, Fitting};
-ghost use Rattle.stretches.specs.Walk.{Walking, Come, Stretches, nextStart, passedBy, Moving};
+ghost use Rattle.params.specs.Given.{figuresOf, Fitting, HeadsOf};
+ghost use Rattle.stretches.specs.Walk.{Walking, Come, Alike, Stretches, nextStart, passedBy, Moving};
 use blocks::FIXED;
 use blocks::INDEX;
 use params::Layout;
@@ -35,54 +35,79 @@ pub struct Stretch {
     pub next: Walk,
 }
 
+// Cells of one kind, up to a position.
+struct Cells {
+    kind: u8,
+    to: usize,
+}
+
 // The stretch from where the walk stands.
 pub fn next_stretch(
     layout: Layout,
     at: Placement,
+    heads: &[u16; Layout::MAX_HEADS],
     kinds: &[u8; Layout::MAX_BLOCKS],
     walk: Walk,
 ) -> Stretch
-    requires { ⌜ Placing layout at × KindsOf (figuresOf layout) (startsIn at) (now kinds) × Walking (figuresOf layout) (startsIn at) walk ⌝ }
+    requires { ⌜ Placing layout at × HeadsOf (figuresOf layout) (now heads) × KindsOf (figuresOf layout) (startsIn at) (now kinds) × Walking (figuresOf layout) (startsIn at) walk ⌝ }
     ensures { λ r. ⌜ Stretches (figuresOf layout) (startsIn at) walk r ⌝ }
+{
+    let cells = cells_from(layout, at, kinds, walk);
+    Stretch {
+        kind: cells.kind,
+        next: moved(layout, at, heads, walk, cells.to),
+    }
+}
+
+// The cells of one kind from where the walk stands: a burst's, the head cells of a block, or the message up to the next burst or block.
+fn cells_from(
+    layout: Layout,
+    at: Placement,
+    kinds: &[u8; Layout::MAX_BLOCKS],
+    walk: Walk,
+) -> Cells
+    requires { ⌜ Placing layout at × KindsOf (figuresOf layout) (startsIn at) (now kinds) × Walking (figuresOf layout) (startsIn at) walk ⌝ }
+    ensures { λ r. ⌜ Alike (figuresOf layout) (startsIn at) walk r ⌝ }
 {
     let stop = next_start(layout, at, walk.passed);
     if stop <= walk.at {
-        return Stretch {
+        return Cells {
             kind: BURST_CELL,
-            next: moved(layout, at, walk, least(stop + layout.b, walk.edge)),
+            to: least(stop + layout.b, walk.edge),
         };
     }
     let block = walk.block;
     if walk.at == walk.head {
         if kinds[block] == FIXED {
-            return Stretch {
+            return Cells {
                 kind: FIXED_CELL,
-                next: moved(layout, at, walk, walk.at + 1),
+                to: walk.at + 1,
             };
         }
         if kinds[block] == INDEX {
-            return Stretch {
+            return Cells {
                 kind: DIGIT_CELL,
-                next: moved(layout, at, walk, walk.at + layout.index_tail + 1),
+                to: walk.at + layout.index_tail + 1,
             };
         }
     }
-    Stretch {
+    Cells {
         kind: MESSAGE_CELL,
-        next: moved(layout, at, walk, least(stop, walk.edge)),
+        to: least(stop, walk.edge),
     }
 }
 
 // The walk at the word's first cell.
-pub fn walk_from_start(layout: Layout, at: Placement) -> Walk
-    requires { ⌜ Placing layout at ⌝ }
+pub fn walk_from_start(layout: Layout, at: Placement, heads: &[u16; Layout::MAX_HEADS]) -> Walk
+    requires { ⌜ Placing layout at × HeadsOf (figuresOf layout) (now heads) ⌝ }
     ensures { λ r. ⌜ Come (figuresOf layout) (startsIn at) 0 r ⌝ }
 {
+    let edge = heads[1];
     Walk {
         at: 0,
         block: 0,
         head: 0,
-        edge: layout.block_head(1),
+        edge: edge as usize,
         passed: 0,
     }
 }
@@ -100,8 +125,14 @@ fn next_start(layout: Layout, at: Placement, burst: usize) -> usize
 }
 
 // The walk at a later position, at most the next block's first and the end of the burst that comes next.
-fn moved(layout: Layout, at: Placement, walk: Walk, to: usize) -> Walk
-    requires { ⌜ Placing layout at × Moving (figuresOf layout) (startsIn at) walk to ⌝ }
+fn moved(
+    layout: Layout,
+    at: Placement,
+    heads: &[u16; Layout::MAX_HEADS],
+    walk: Walk,
+    to: usize,
+) -> Walk
+    requires { ⌜ Placing layout at × HeadsOf (figuresOf layout) (now heads) × Moving (figuresOf layout) (startsIn at) walk to ⌝ }
     ensures { λ r. ⌜ Come (figuresOf layout) (startsIn at) to r ⌝ }
 {
     let passed = passed_at(layout, at, walk.passed, to);
@@ -119,7 +150,7 @@ fn moved(layout: Layout, at: Placement, walk: Walk, to: usize) -> Walk
         at: to,
         block,
         head: to,
-        edge: edge_of(layout, block),
+        edge: edge_of(layout, heads, block),
         passed,
     }
 }
@@ -140,12 +171,13 @@ fn passed_at(layout: Layout, at: Placement, burst: usize, to: usize) -> usize
 }
 
 // The first position behind a block of the word.
-fn edge_of(layout: Layout, block: usize) -> usize
-    requires { ⌜ Fitting layout ⌝ }
+fn edge_of(layout: Layout, heads: &[u16; Layout::MAX_HEADS], block: usize) -> usize
+    requires { ⌜ Fitting layout × HeadsOf (figuresOf layout) (now heads) ⌝ }
     ensures { λ r. ⌜ (block < blocks (figuresOf layout) → r ≡ headOf (figuresOf layout) (suc block)) ⌝ }
 {
     if block < layout.parts * layout.m {
-        return layout.block_head(block + 1);
+        let edge = heads[block + 1];
+        return edge as usize;
     }
     layout.n
 }

@@ -40,17 +40,22 @@ returns-3 c =
     c .unread3 .ensures (s .args .message .now)
     ∙ sym (decode-symbol (f s) (s .args .word .now) (s .args .message .now) (s .pre .range) (s .pre .fit) (c .before .before .before .before .before .if1 .left) (c .before .before .before .if2 .left ∙ s .pre .laid .len-is) (sym (c .before .before .all-below .ensures) ∙ not-true _ (c .before .if3 .taken)))
 
+heads-of-requires : tie.Need-heads-of-requires
+heads-of-requires c κs = search needs
+
 decode-found-requires : tie.Need-decode-found-requires
-decode-found-requires c κs = search needs
+decode-found-requires c κs =
+    let s = c .before .before .before .before .before .before .before .before .before .before .before in
+    (record { finding = record { layout = s .pre; complete = c .before .before .before .before .before .before .before .if1 .left }; room = c .before .before .before .before .before .if2 .left ∙ s .pre .laid .len-is }, c .before .before .heads-of .ensures)
 
 same-length : tie.Need-same-length
 same-length c = search needs
 
 returns-4 : tie.Need-returns-4
 returns-4 c =
-    let s = c .before .before .before .before .before .before .before .before .before .before .before .before in
+    let s = c .before .before .before .before .before .before .before .before .before .before .before .before .before .before in
     c .before .before .decode-found .ensures
-    ∙ sym (decode-read (f s) (s .args .word .now) (s .args .message .now) (s .pre .range) (s .pre .fit) (c .before .before .before .before .before .before .before .before .if1 .left) (c .before .before .before .before .before .before .if2 .left ∙ s .pre .laid .len-is) (sym (c .before .before .before .before .before .all-below .ensures) ∙ not-false _ (c .before .before .before .before .if3 .left)))
+    ∙ sym (decode-read (f s) (s .args .word .now) (s .args .message .now) (s .pre .range) (s .pre .fit) (c .before .before .before .before .before .before .before .before .before .before .if1 .left) (c .before .before .before .before .before .before .before .before .if2 .left ∙ s .pre .laid .len-is) (sym (c .before .before .before .before .before .before .before .all-below .ensures) ∙ not-false _ (c .before .before .before .before .before .before .if3 .left)))
 
 pub decode-fitting-spec : {M : Type 1} → statement M
 decode-fitting-spec =
@@ -63,6 +68,7 @@ decode-fitting-spec =
     all-below-requires
     unread-requires-3
     returns-3
+    heads-of-requires
     decode-found-requires
     same-length
     returns-4)

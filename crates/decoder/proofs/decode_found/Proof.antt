@@ -43,7 +43,7 @@ written-value-requires : tie.Need-written-value-requires
 written-value-requires c κs =
     let s = c .before .before .before .before .before .before in
     let a = c .before .before .before .index-read in
-    shown (s .args .layout) (s .args .word .now) (a .result) (s .pre .finding) (not-false _ (c .before .if1 .left)) (a .ensures)
+    (shown (s .args .layout) (s .args .word .now) (a .result) (s .pre .0 .finding) (not-false _ (c .before .if1 .left)) (a .ensures), s .pre .1)
 
 unread-requires-2 : tie.Need-unread-requires-2
 unread-requires-2 c κs = search needs
@@ -54,10 +54,12 @@ returns-2 c =
     let wv = c .before .before .before .written-value in
     let ks = take (s .args .layout .m) (c .before .before .before .before .before .before .before .index-read .result .blocks) in
     c .unread2 .ensures (s .args .message .now)
-    ∙ sym (ap (decodeAs (f s) (s .args .message .now)) (read-large (f s) (s .args .word .now) ks (found (c .before .before .before .before .before)) (omega (arith, wv .ensures, c .before .if2 .taken, s .pre .finding .layout .laid .count-is))))
+    ∙ sym (ap (decodeAs (f s) (s .args .message .now)) (read-large (f s) (s .args .word .now) ks (found (c .before .before .before .before .before)) (omega (arith, wv .ensures, c .before .if2 .taken, s .pre .0 .finding .layout .laid .count-is))))
 
 decode-rank-requires : tie.Need-decode-rank-requires
-decode-rank-requires c κs = search needs
+decode-rank-requires c κs =
+    let s = c .before .before .before .before .before .before .before .before .before .before in
+    (record { lent = s .pre .0; below = omega (arith, c .before .if2 .left, s .pre .0 .finding .layout .laid .count-is) }, s .pre .1)
 
 same-length : tie.Need-same-length
 same-length c = search needs

@@ -25,7 +25,7 @@ abbrev f : tie.Start → Params
 f s = figuresOf (s .args .layout)
 
 ok : (s : tie.Start) → Served (f s)
-ok s = served (s .args .layout) (s .pre .lent .finding .layout)
+ok s = served (s .args .layout) (s .pre .0 .lent .finding .layout)
 
 burst-fits : (s : tie.Start) → s .args .layout .b ≤ maxWord
 burst-fits s = omega (arith, ok s .short, ok s .range .n-most, div-le-self (f s .n) (parts (f s) * f s .m))
@@ -49,12 +49,12 @@ cast-unrank-3 c = omega (arith, burst-fits (c .before .before .before .before .b
 unrank-requires : tie.Need-unrank-requires
 unrank-requires c κs =
     let s = c .before .before .before .before .before in
-    (room-of (f s) (ok s), s .pre .below)
+    (room-of (f s) (ok s), s .pre .0 .below)
 
 kinds-of-requires : tie.Need-kinds-of-requires
 kinds-of-requires c κs =
     let s = c .before .before .before .before .before .before in
-    placing (s .args .layout) (s .args .rank) (c .unrank .result) (s .pre .lent .finding .layout) (s .pre .below) (c .unrank .ensures)
+    placing (s .args .layout) (s .args .rank) (c .unrank .result) (s .pre .0 .lent .finding .layout) (s .pre .0 .below) (c .unrank .ensures)
 
 agrees-requires : tie.Need-agrees-requires
 agrees-requires c κs = search needs
@@ -67,14 +67,14 @@ returns c =
     let s = c .before .before .before .before .before .before .before .before .before .before .before in
     let is = kinds-at (c .before .before .before .before) in
     c .unread .ensures (s .args .message .now)
-    ∙ sym (disagreeing (f s) (s .args .word .now) (take (s .args .layout .m) (s .args .index)) (s .args .message .now) (s .args .rank) (s .pre .below)
+    ∙ sym (disagreeing (f s) (s .args .word .now) (take (s .args .layout .m) (s .args .index)) (s .args .message .now) (s .args .rank) (s .pre .0 .below)
     (sym (c .before .before .agrees .ensures (placementOf (f s) (s .args .rank)) is) ∙ not-true _ (c .before .if1 .taken)))
 
 take-message-requires : tie.Need-take-message-requires
 take-message-requires c κs =
     let s = c .before .before .before .before .before .before .before .before .before .before .before .before in
     let un = c .before .before .before .before .before .before .unrank in
-    (record { lent = s .pre .lent; placing = placing (s .args .layout) (s .args .rank) (un .result) (s .pre .lent .finding .layout) (s .pre .below) (un .ensures) }, c .before .before .before .before .before .kinds-of .ensures)
+    (record { lent = s .pre .0 .lent; placing = placing (s .args .layout) (s .args .rank) (un .result) (s .pre .0 .lent .finding .layout) (s .pre .0 .below) (un .ensures) }, s .pre .1, c .before .before .before .before .before .kinds-of .ensures)
 
 same-length : tie.Need-same-length
 same-length c = search needs
@@ -86,7 +86,7 @@ returns-2 c =
     let ss = placementOf (f s) (s .args .rank) in
     let w = s .args .word .now in
     let is = kinds-at (c .before .before .before .before .before .before .before .before) in
-    agreeing (f s) w (take (s .args .layout .m) (s .args .index)) (s .args .message .now) (s .args .rank) (s .pre .below) (heldAs (un .result)) (c .before .before .take-message .last .1 .1 .1 .1 .0) (ok s)
+    agreeing (f s) w (take (s .args .layout .m) (s .args .index)) (s .args .message .now) (s .args .rank) (s .pre .0 .below) (heldAs (un .result)) (c .before .before .take-message .last .1 .1 .1 .1 .1 .0) (ok s)
     (sym (c .before .before .before .before .before .before .agrees .ensures ss is) ∙ not-false _ (c .before .before .before .before .before .if1 .left)) (un .ensures)
     (c .before .before .take-message .ensures ∙ ap (λ (r : List ℕ). pick messageCell (plan (f s) r) w) (starts-held {p = un .result} ss (un .ensures)))
 

@@ -20,7 +20,7 @@ returns c =
     let l = s .args .layout in
     let at = s .args .at in
     let g = s .pre .0 in
-    come-same (figuresOf l) (served l (g .layout)) (startsIn at) (starts-placed l at g) (starts-count l at g) (s .args .walk) (s .args .to) (s .pre .1) _ refl refl refl refl
+    come-same (figuresOf l) (served l (g .layout)) (startsIn at) (starts-placed l at g) (starts-count l at g) (s .args .walk) (s .args .to) (s .pre .2) _ refl refl refl refl
     (c .before .before .passed-at .ensures) (c .if1 .taken)
 
 add-block : tie.Need-add-block
@@ -28,7 +28,7 @@ add-block c =
     let s = c .before .before .before .before in
     let l = s .args .layout in
     let g = s .pre .0 .layout in
-    omega (arith, s .pre .1 .walking .block-in, blocks-most l g)
+    omega (arith, s .pre .2 .walking .block-in, blocks-most l g)
 
 edge-of-requires : tie.Need-edge-of-requires
 edge-of-requires c κs = search needs
@@ -40,7 +40,7 @@ returns-2 c =
     let at = s .args .at in
     let g = s .pre .0 in
     let one = add-one (s .args .walk .block) in
-    come-next (figuresOf l) (served l (g .layout)) (startsIn at) (starts-placed l at g) (starts-count l at g) (s .args .walk) (s .args .to) (s .pre .1) _ refl one refl
+    come-next (figuresOf l) (served l (g .layout)) (startsIn at) (starts-placed l at g) (starts-count l at g) (s .args .walk) (s .args .to) (s .pre .2) _ refl one refl
     (rw one at (c .edge-of .ensures)) (c .before .before .before .before .passed-at .ensures) (c .before .before .if1 .left)
 
 pub moved-spec : {M : Type 1} → statement M

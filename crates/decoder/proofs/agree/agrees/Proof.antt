@@ -17,12 +17,12 @@ use Rattle.decoder.proofs.agree.agrees.Statement.{statement}
 use Rattle.decoder.proofs.agree.agrees.Tie as tie
 
 mul-same-index : tie.Need-mul-same-index
-mul-same-index c = omega (arith, bound (c .before .before .args .layout) (c .before .before .pre .layout))
+mul-same-index c = omega (arith, bound (c .before .before .args .layout) (c .before .before .pre .0 .layout))
 
 same-index-requires : tie.Need-same-index-requires
 same-index-requires c κs =
     let s = c .before .before in
-    (blocks-fit (s .args .layout) (s .pre .layout), bound (s .args .layout) (s .pre .layout) .m-most)
+    (blocks-fit (s .args .layout) (s .pre .0 .layout), bound (s .args .layout) (s .pre .0 .layout) .m-most)
 
 -- what the first test says of the word's blocks
 shown : (c : tie.After-same-index) → c .same-index .result ≡ sameList (members (blocks (figuresOf (c .before .before .before .args .layout))) 0 (ofKind indexKind (c .before .before .before .args .kinds .now)))
@@ -30,7 +30,7 @@ shown : (c : tie.After-same-index) → c .same-index .result ≡ sameList (membe
 shown c =
     let a = c .before .before .before .args in
     c .same-index .ensures
-    ∙ ap (λ (n : ℕ). sameList (members n 0 (ofKind indexKind (a .kinds .now))) (take (a .layout .m) (a .index))) (blocks-is (a .layout) (c .before .before .before .pre .layout))
+    ∙ ap (λ (n : ℕ). sameList (members n 0 (ofKind indexKind (a .kinds .now))) (take (a .layout .m) (a .index))) (blocks-is (a .layout) (c .before .before .before .pre .0 .layout))
 
 returns : tie.Need-returns
 returns c =

@@ -12,7 +12,6 @@ use Rattle.combinatorics.proofs.Stretch.{has-start, has-here, has-on, has-over}
 use Rattle.cells.specs.Cut.{blockHead}
 use Rattle.construction_a.specs.Figures.{blocks as blocksOf}
 use Rattle.construction_a.specs.Reading.{looksFixed}
-use Rattle.params.proofs.Answered.{has-head}
 use Rattle.params.proofs.Fitting.{bound, blocks-is, head-room}
 use Rattle.params.specs.Given.{figuresOf}
 use Rattle.blocks.specs.Blocks.{fixedKind}
@@ -23,12 +22,12 @@ use Rattle.decoder.proofs.agree.fixed_heads.Statement.{statement}
 use Rattle.decoder.proofs.agree.fixed_heads.Tie as tie
 
 abbrev Inv-loop : tie.InvT-loop
-Inv-loop layout kinds word blocks k₀ k =
+Inv-loop layout heads kinds word blocks k₀ k =
     (k ≤ blocks) × (blocks ≡ layout .parts * layout .m)
     × (has (blocks - k) k (λ x. ofKind fixedKind kinds x && not (looksFixed (figuresOf layout) word x)) ≡ has blocks 0 (λ x. ofKind fixedKind kinds x && not (looksFixed (figuresOf layout) word x)))
 
 abbrev μ-loop : tie.MeasureT-loop
-μ-loop layout kinds word blocks k₀ k = blocks - k
+μ-loop layout heads kinds word blocks k₀ k = blocks - k
 
 abbrev Start : Type 0
 Start = tie.Start Inv-loop μ-loop
@@ -38,25 +37,25 @@ abbrev Off : Start → ℕ → Bool
 Off s = λ x. ofKind fixedKind (s .args .kinds .now) x && not (looksFixed (figuresOf (s .args .layout)) (s .args .word .now) x)
 
 by-blocks : (s : Start) → has (s .args .layout .parts * s .args .layout .m) 0 (Off s) ≡ has (blocksOf (figuresOf (s .args .layout))) 0 (Off s)
-by-blocks s = ap (λ (n : ℕ). has n 0 (Off s)) (blocks-is (s .args .layout) (s .pre .layout))
+by-blocks s = ap (λ (n : ℕ). has n 0 (Off s)) (blocks-is (s .args .layout) (s .pre .0 .layout))
 
 room : (s : Start) (k at : ℕ) → k < s .args .layout .parts * s .args .layout .m → at ≡ blockHead (s .args .layout .n) (s .args .layout .parts) (s .args .layout .m) k
     → at < length (s .args .word .now)
-room s k at h e = omega (arith, s .pre .complete, head-room (s .args .layout) (s .pre .layout) k h)
+room s k at h e = omega (arith, s .pre .0 .complete, head-room (s .args .layout) (s .pre .0 .layout) k h)
 
 mul-blocks : tie.Need-mul-blocks Inv-loop μ-loop
-mul-blocks c = omega (arith, bound (c .before .before .args .layout) (c .before .before .pre .layout))
+mul-blocks c = omega (arith, bound (c .before .before .args .layout) (c .before .before .pre .0 .layout))
 
 loop-holds : tie.Need-loop-holds Inv-loop μ-loop
 loop-holds c = (omega arith, refl, has-start (c .before .before .args .layout .parts * c .before .before .args .layout .m) (Off (c .before .before)))
 
 element-copy-out-if1 : tie.Need-element-copy-out-if1 Inv-loop μ-loop
-element-copy-out-if1 c = omega (arith, bound (c .before .before .before .before .args .layout) (c .before .before .before .before .pre .layout))
+element-copy-out-if1 c = omega (arith, bound (c .before .before .before .before .args .layout) (c .before .before .before .before .pre .0 .layout))
 
 block-head-requires : tie.Need-block-head-requires Inv-loop μ-loop
 block-head-requires c κs =
     let s = c .before .before .before .before .before .before in
-    has-head (s .args .layout) (c .before .before .before .loop .k) (bound (s .args .layout) (s .pre .layout)) (omega arith)
+    (s .pre .0 .layout, s .pre .1, omega arith)
 
 sub-looks-fixed : tie.Need-sub-looks-fixed Inv-loop μ-loop
 sub-looks-fixed c =
@@ -84,12 +83,12 @@ returns c =
     let l = s .args .layout in
     let w = s .args .word .now in
     let e : looksFixed (figuresOf l) w (t .k) ≡ false =
-    sym (stretch-looks l (s .pre .layout) w (t .k) (c .before .before .before .block-head .result) (c .before .before .before .block-head .ensures)) ∙ sym (c .before .looks-fixed .ensures) ∙ not-true _ (c .if2 .taken) in
+    sym (stretch-looks l (s .pre .0 .layout) w (t .k) (c .before .before .before .block-head .result) (c .before .before .before .block-head .ensures)) ∙ sym (c .before .looks-fixed .ensures) ∙ not-true _ (c .if2 .taken) in
     let off : Off s (t .k) ≡ true = rw (marked fixedKind (s .args .kinds .now) (t .k) (c .before .before .before .before .if1 .taken), e) in
     ap not (sym (has-here (l .parts * l .m) (t .k) (Off s) (omega arith) off) ∙ t .inv .2 ∙ by-blocks s)
 
 add-k : tie.Need-add-k Inv-loop μ-loop
-add-k c = omega (arith, bound (c .before .before .before .before .before .before .args .layout) (c .before .before .before .before .before .before .pre .layout))
+add-k c = omega (arith, bound (c .before .before .before .before .before .before .args .layout) (c .before .before .before .before .before .before .pre .0 .layout))
 
 loop-less : tie.Need-loop-less Inv-loop μ-loop
 loop-less c = search needs
@@ -105,7 +104,7 @@ loop-again c =
     ⊎-elim
     (λ u.
     let e : looksFixed (figuresOf l) w (t .k) ≡ true =
-    sym (stretch-looks l (s .pre .layout) w (t .k) (u .1 .result) (u .1 .ensures)) ∙ sym (u .3 .ensures) ∙ not-false _ (u .4 .left) in
+    sym (stretch-looks l (s .pre .0 .layout) w (t .k) (u .1 .result) (u .1 .ensures)) ∙ sym (u .3 .ensures) ∙ not-false _ (u .4 .left) in
     (omega arith, refl, on (rw (marked fixedKind (s .args .kinds .now) (t .k) (u .0 .taken), e))))
     (λ u. (omega arith, refl, on (rw (unmarked fixedKind (s .args .kinds .now) (t .k) (u .left)))))
     (c .if1 .came)

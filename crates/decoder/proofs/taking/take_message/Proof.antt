@@ -21,12 +21,12 @@ use Rattle.decoder.proofs.taking.take_message.Statement.{statement}
 use Rattle.decoder.proofs.taking.take_message.Tie as tie
 
 abbrev Inv-loop : tie.InvT-loop
-Inv-loop layout at kinds word message₀ here₀ taken₀ message here taken =
+Inv-loop layout at heads kinds word message₀ here₀ taken₀ message here taken =
     (here .at ≤ layout .n) × Come (figuresOf layout) (startsIn at) (here .at) here
     × Taken (messageLen (figuresOf layout)) (kindAt (figuresOf layout) (startsIn at)) word (here .at) message taken
 
 abbrev μ-loop : tie.MeasureT-loop
-μ-loop layout at kinds word message₀ here₀ taken₀ message here taken = layout .n - here .at
+μ-loop layout at heads kinds word message₀ here₀ taken₀ message here taken = layout .n - here .at
 
 -- ---- What the contract lends
 
@@ -72,7 +72,7 @@ part-size c =
     length-take-le (t .taken + (to - t .here .at) - t .taken) (drop (t .taken) (t .message)) (omega (arith, length-drop (t .taken) (t .message), room c)) ∙ omega arith
 
 walk-from-start-requires : tie.Need-walk-from-start-requires Inv-loop μ-loop
-walk-from-start-requires c κs = c .before .before .pre .0 .placing
+walk-from-start-requires c κs = let s = c .before .before in (s .pre .0 .placing, s .pre .1)
 
 loop-holds : tie.Need-loop-holds Inv-loop μ-loop
 loop-holds c =
@@ -89,7 +89,7 @@ next-stretch-requires : tie.Need-next-stretch-requires Inv-loop μ-loop
 next-stretch-requires c κs =
     let s = c .before .before .before .before .before .before .before in
     let t = c .before .before .before .loop in
-    (s .pre .0 .placing, s .pre .1, t .inv .1 .goes-on (omega arith))
+    (s .pre .0 .placing, s .pre .1, s .pre .2, t .inv .1 .goes-on (omega arith))
 
 sub-end : tie.Need-sub-end Inv-loop μ-loop
 sub-end c = omega (arith, c .before .before .before .next-stretch .ensures .onward)

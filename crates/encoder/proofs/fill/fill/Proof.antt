@@ -48,31 +48,34 @@ add-count c = let s = c .before .before .before .before .before .before .before 
 mul-count : tie.Need-mul-count
 mul-count c = let s = c .before .before .before .before .before .before .before .before in rw (add-one (l s .«index_tail»)) (omega (arith, count-most (l s) (fit s)))
 
+heads-of-requires : tie.Need-heads-of-requires
+heads-of-requires c κs = search needs
+
 array-share-prefix-digits : tie.Need-array-share-prefix-digits
-array-share-prefix-digits c = let s = c .before .before .before .before .before .before .before .before .before in rw (add-one (l s .«index_tail»)) (omega (arith, count-most (l s) (fit s)))
+array-share-prefix-digits c = let s = c .before .before .before .before .before .before .before .before .before .before .before in rw (add-one (l s .«index_tail»)) (omega (arith, count-most (l s) (fit s)))
 
 slice-aggregate-fill-cells : tie.Need-slice-aggregate-fill-cells
 slice-aggregate-fill-cells c =
-    let s = c .before .before .before .before .before .before .before .before .before .before in
-    let spelled = c .before .before .before .before .spelled in
+    let s = c .before .before .before .before .before .before .before .before .before .before .before .before in
+    let spelled = c .before .before .before .before .before .before .spelled in
     let count = spelled-count (l s .q) (l s .m) (l s .«index_tail») _ (spelled .result) (spelled .ensures) in
     omega (arith, count, ap (λ (y : ℕ). l s .m * y) (add-one (l s .«index_tail»)))
 
 fill-cells-requires : tie.Need-fill-cells-requires
 fill-cells-requires c κs =
-    let s = c .before .before .before .before .before .before .before .before .before .before .before in
-    let spelled = c .before .before .before .before .before .spelled in
+    let s = c .before .before .before .before .before .before .before .before .before .before .before .before .before in
+    let spelled = c .before .before .before .before .before .before .before .spelled in
     let count = spelled-count (l s .q) (l s .m) (l s .«index_tail») _ (spelled .result) (spelled .ensures) in
-    (s .pre, c .before .before .before .before .before .before .before .before .kinds-of .ensures, omega (arith, count, ap (λ (y : ℕ). l s .m * suc y) (fit s .laid .tail-is)))
+    (s .pre, c .before .before .before .before .heads-of .ensures, c .before .before .before .before .before .before .before .before .before .before .kinds-of .ensures, omega (arith, count, ap (λ (y : ℕ). l s .m * suc y) (fit s .laid .tail-is)))
 
 same-length : tie.Need-same-length
 same-length c = search needs
 
 returns : tie.Need-returns
 returns c =
-    let s = c .before .before .before .before .before .before .before .before .before .before .before .before .before .before in
-    let spelled = c .before .before .before .before .before .before .before .before .spelled in
-    let rank = c .before .before .before .before .before .before .before .before .before .rank in
+    let s = c .before .before .before .before .before .before .before .before .before .before .before .before .before .before .before .before in
+    let spelled = c .before .before .before .before .before .before .before .before .before .before .spelled in
+    let rank = c .before .before .before .before .before .before .before .before .before .before .before .rank in
     word-of (l s) (fit s) (startsIn (s .args .at)) (spelled .result) (s .args .message .now) _ (rank .result) (rank .ensures) (spelled .ensures)
     (c .before .before .fill-cells .ensures)
 
@@ -86,6 +89,7 @@ fill-spec =
     spelled-requires
     add-count
     mul-count
+    heads-of-requires
     array-share-prefix-digits
     slice-aggregate-fill-cells
     fill-cells-requires

@@ -20,10 +20,10 @@ use Rattle.encoder.proofs.fill.fill_cells.Statement.{statement}
 use Rattle.encoder.proofs.fill.fill_cells.Tie as tie
 
 abbrev Inv-loop : tie.InvT-loop
-Inv-loop layout at kinds digits ms word₀ here₀ spelled₀ sent₀ word here spelled sent = (here .at ≤ layout .n) × Come (figuresOf layout) (startsIn at) (here .at) here × Filled (layout .n) (kindAt (figuresOf layout) (startsIn at)) digits ms (here .at) word spelled sent
+Inv-loop layout at heads kinds digits ms word₀ here₀ spelled₀ sent₀ word here spelled sent = (here .at ≤ layout .n) × Come (figuresOf layout) (startsIn at) (here .at) here × Filled (layout .n) (kindAt (figuresOf layout) (startsIn at)) digits ms (here .at) word spelled sent
 
 abbrev μ-loop : tie.MeasureT-loop
-μ-loop layout at kinds digits ms word₀ here₀ spelled₀ sent₀ word here spelled sent = layout .n - here .at
+μ-loop layout at heads kinds digits ms word₀ here₀ spelled₀ sent₀ word here spelled sent = layout .n - here .at
 
 -- ---- What the contract lends
 
@@ -41,7 +41,7 @@ ok s = served (s .args .layout) (s .pre .0 .placing .layout)
 
 all-digits : (s : Start) → tally digit (tabulate (s .args .layout .n) 0 (kd s)) ≤ length (s .args .digits .now)
 all-digits s =
-    omega (arith, s .pre .2, digits-all (f s) (ok s) (startsIn (s .args .at)) (starts-placed (s .args .layout) (s .args .at) (s .pre .0 .placing)) (starts-count (s .args .layout) (s .args .at) (s .pre .0 .placing)))
+    omega (arith, s .pre .3, digits-all (f s) (ok s) (startsIn (s .args .at)) (starts-placed (s .args .layout) (s .args .at) (s .pre .0 .placing)) (starts-count (s .args .layout) (s .args .at) (s .pre .0 .placing)))
 
 all-message : (s : Start) → tally messageCell (tabulate (s .args .layout .n) 0 (kd s)) ≤ length (s .args .message .now)
 all-message s =
@@ -68,7 +68,7 @@ room c =
     (omega (arith, st .onward, st .within, n-most, most .0), omega (arith, st .onward, st .within, n-most, most .1))
 
 walk-from-start-requires : tie.Need-walk-from-start-requires Inv-loop μ-loop
-walk-from-start-requires c κs = c .before .before .before .pre .0 .placing
+walk-from-start-requires c κs = let s = c .before .before .before in (s .pre .0 .placing, s .pre .1)
 
 loop-holds : tie.Need-loop-holds Inv-loop μ-loop
 loop-holds c =
@@ -84,7 +84,7 @@ next-stretch-requires : tie.Need-next-stretch-requires Inv-loop μ-loop
 next-stretch-requires c κs =
     let s = c .before .before .before .before .before .before .before .before in
     let l = c .before .before .before .loop in
-    (s .pre .0 .placing, s .pre .1, l .inv .1 .goes-on (omega arith))
+    (s .pre .0 .placing, s .pre .1, s .pre .2, l .inv .1 .goes-on (omega arith))
 
 sub-fill-stretch : tie.Need-sub-fill-stretch Inv-loop μ-loop
 sub-fill-stretch c = omega (arith, c .before .next-stretch .ensures .onward)

@@ -7,7 +7,6 @@ use native.Mathlib.Omega.{arith}
 use borrow.Author.Needs.{needs}
 use lib.ListN.{length, length-set}
 use Rattle.construction_a.specs.Reading.{looksFixed}
-use Rattle.params.proofs.Answered.{has-head}
 use Rattle.params.specs.Given.{figuresOf, maxBlocks}
 use Rattle.heads.proofs.Looking.{Marked, marked-none, marked-in, marked-out, marked-all, part-length, stretch-looks}
 use Rattle.params.proofs.Fitting.{bound, blocks-is, head-room}
@@ -15,13 +14,13 @@ use Rattle.heads.proofs.looks.looks_of.Statement.{statement}
 use Rattle.heads.proofs.looks.looks_of.Tie as tie
 
 abbrev Inv-loop : tie.InvT-loop
-Inv-loop layout word blocks looks₀ k₀ looks k = (k ≤ blocks) × (blocks ≡ layout .parts * layout .m) × (length looks ≡ maxBlocks) × Marked (looksFixed (figuresOf layout) word) k looks
+Inv-loop layout heads word blocks looks₀ k₀ looks k = (k ≤ blocks) × (blocks ≡ layout .parts * layout .m) × (length looks ≡ maxBlocks) × Marked (looksFixed (figuresOf layout) word) k looks
 
 abbrev μ-loop : tie.MeasureT-loop
-μ-loop layout word blocks looks₀ k₀ looks k = blocks - k
+μ-loop layout heads word blocks looks₀ k₀ looks k = blocks - k
 
 mul-blocks : tie.Need-mul-blocks Inv-loop μ-loop
-mul-blocks c = omega (arith, bound (c .before .before .args .layout) (c .before .before .pre .layout))
+mul-blocks c = omega (arith, bound (c .before .before .args .layout) (c .before .before .pre .0 .layout))
 
 loop-holds : tie.Need-loop-holds Inv-loop μ-loop
 loop-holds c = (omega arith, refl, refl, marked-none (looksFixed (figuresOf (c .before .before .args .layout)) (c .before .before .args .word .now)) maxBlocks)
@@ -29,17 +28,17 @@ loop-holds c = (omega arith, refl, refl, marked-none (looksFixed (figuresOf (c .
 block-head-requires : tie.Need-block-head-requires Inv-loop μ-loop
 block-head-requires c κs =
     let s = c .before .before .before .before in
-    has-head (s .args .layout) (c .before .loop .k) (bound (s .args .layout) (s .pre .layout)) (omega arith)
+    (s .pre .0 .layout, s .pre .1, omega arith)
 
 sub-looks-fixed : tie.Need-sub-looks-fixed Inv-loop μ-loop
 sub-looks-fixed c =
     let s = c .before .before .before .before .before in
-    omega (arith, c .block-head .ensures, head-room (s .args .layout) (s .pre .layout) (c .before .before .loop .k) (omega arith))
+    omega (arith, c .block-head .ensures, head-room (s .args .layout) (s .pre .0 .layout) (c .before .before .loop .k) (omega arith))
 
 part-looks-fixed-start : tie.Need-part-looks-fixed-start Inv-loop μ-loop
 part-looks-fixed-start c =
     let s = c .before .before .before .before .before in
-    omega (arith, c .block-head .ensures, head-room (s .args .layout) (s .pre .layout) (c .before .before .loop .k) (omega arith))
+    omega (arith, c .block-head .ensures, head-room (s .args .layout) (s .pre .0 .layout) (c .before .before .loop .k) (omega arith))
 
 part-looks-fixed-end : tie.Need-part-looks-fixed-end Inv-loop μ-loop
 part-looks-fixed-end c = search needs
@@ -48,13 +47,13 @@ looks-fixed-requires : tie.Need-looks-fixed-requires Inv-loop μ-loop
 looks-fixed-requires c κs =
     let s = c .before .before .before .before .before .before in
     rw (part-length (c .before .block-head .result) (s .args .word .now))
-    (omega (arith, c .before .block-head .ensures, head-room (s .args .layout) (s .pre .layout) (c .before .before .before .loop .k) (omega arith)))
+    (omega (arith, c .before .block-head .ensures, head-room (s .args .layout) (s .pre .0 .layout) (c .before .before .before .loop .k) (omega arith)))
 
 array-write-looks : tie.Need-array-write-looks Inv-loop μ-loop
-array-write-looks c = omega (arith, bound (c .before .before .before .before .before .before .before .before .args .layout) (c .before .before .before .before .before .before .before .before .pre .layout))
+array-write-looks c = omega (arith, bound (c .before .before .before .before .before .before .before .before .args .layout) (c .before .before .before .before .before .before .before .before .pre .0 .layout))
 
 add-k : tie.Need-add-k Inv-loop μ-loop
-add-k c = omega (arith, bound (c .before .before .before .before .before .before .before .before .args .layout) (c .before .before .before .before .before .before .before .before .pre .layout))
+add-k c = omega (arith, bound (c .before .before .before .before .before .before .before .before .args .layout) (c .before .before .before .before .before .before .before .before .pre .0 .layout))
 
 loop-less : tie.Need-loop-less Inv-loop μ-loop
 loop-less c = search needs
@@ -64,7 +63,7 @@ loop-again c =
     let s = c .before .before .before .before .before .before .before .before in
     let t = c .before .before .before .before .before .loop in
     let l = s .args .layout in
-    let h = s .pre .layout in
+    let h = s .pre .0 .layout in
     let w = s .args .word .now in
     let S : ℕ → Bool = looksFixed (figuresOf l) w in
     let e : c .before .looks-fixed .result ≡ S (t .k) = c .before .looks-fixed .ensures ∙ stretch-looks l h w (t .k) (c .before .before .before .block-head .result) (c .before .before .before .block-head .ensures) in
@@ -77,7 +76,7 @@ returns : tie.Need-returns Inv-loop μ-loop
 returns c =
     let s = c .before .before .before .before in
     let t = c .before .loop in
-    λ x g. marked-all (looksFixed (figuresOf (s .args .layout)) (s .args .word .now)) (t .k) (t .looks) (t .inv .3) x (omega (arith, blocks-is (s .args .layout) (s .pre .layout)))
+    λ x g. marked-all (looksFixed (figuresOf (s .args .layout)) (s .args .word .now)) (t .k) (t .looks) (t .inv .3) x (omega (arith, blocks-is (s .args .layout) (s .pre .0 .layout)))
 
 pub looks-of-spec : {M : Type 1} → statement M
 looks-of-spec =

@@ -5,7 +5,7 @@ use native.Mathlib.Omega.{arith}
 use borrow.Author.Needs.{needs}
 use lib.ListN.{length, getD, take, drop}
 use Rattle.construction_a.specs.Figures.{headOf}
-use Rattle.params.proofs.Answered.{has-head, head-is}
+use Rattle.params.proofs.Answered.{head-is}
 use Rattle.params.specs.Given.{figuresOf}
 use Rattle.params.proofs.Fitting.{bound, block-in, head-room}
 use Rattle.heads.proofs.Looking.{part-at, part-head, part-length}
@@ -14,48 +14,48 @@ use Rattle.heads.proofs.written.written_value.Statement.{statement}
 use Rattle.heads.proofs.written.written_value.Tie as tie
 
 abbrev Inv-loop : tie.InvT-loop
-Inv-loop layout word blocks cap value₀ j₀ value j = (j ≤ layout .m) × (cap ≡ layout .«placement_count») × Summed (figuresOf layout) word blocks cap j value
+Inv-loop layout heads word blocks cap value₀ j₀ value j = (j ≤ layout .m) × (cap ≡ layout .«placement_count») × Summed (figuresOf layout) word blocks cap j value
 
 abbrev μ-loop : tie.MeasureT-loop
-μ-loop layout word blocks cap value₀ j₀ value j = layout .m - j
+μ-loop layout heads word blocks cap value₀ j₀ value j = layout .m - j
 
 loop-holds : tie.Need-loop-holds Inv-loop μ-loop
 loop-holds c =
     let s = c .before in
     let l = s .args .layout in
-    (omega arith, refl, summed-none (figuresOf l) (s .args .word .now) (s .args .t3) (l .«placement_count») (bound l (s .pre .finding .layout) .q-least))
+    (omega arith, refl, summed-none (figuresOf l) (s .args .word .now) (s .args .t4) (l .«placement_count») (bound l (s .pre .0 .finding .layout) .q-least))
 
 array-read-block : tie.Need-array-read-block Inv-loop μ-loop
-array-read-block c = omega (arith, bound (c .before .before .before .before .args .layout) (c .before .before .before .before .pre .finding .layout) .m-most)
+array-read-block c = omega (arith, bound (c .before .before .before .before .args .layout) (c .before .before .before .before .pre .0 .finding .layout) .m-most)
 
 cast-block : tie.Need-cast-block Inv-loop μ-loop
 cast-block c =
     let s = c .before .before .before .before in
     let l = s .args .layout in
-    let h = s .pre .finding .layout in
-    omega (arith, block-in l h (s .pre .within (c .before .before .loop .j) (omega arith)), bound l h)
+    let h = s .pre .0 .finding .layout in
+    omega (arith, block-in l h (s .pre .0 .within (c .before .before .loop .j) (omega arith)), bound l h)
 
 block-head-requires : tie.Need-block-head-requires Inv-loop μ-loop
 block-head-requires c κs =
     let s = c .before .before .before .before in
     let l = s .args .layout in
-    let h = s .pre .finding .layout in
-    let k = block-in l h (s .pre .within (c .before .before .loop .j) (omega arith)) in
-    has-head l (getD (s .args .t3) (c .before .before .loop .j) 0) (bound l h) (omega arith)
+    let h = s .pre .0 .finding .layout in
+    let k = block-in l h (s .pre .0 .within (c .before .before .loop .j) (omega arith)) in
+    (h, s .pre .1, omega arith)
 
 sub-with-block : tie.Need-sub-with-block Inv-loop μ-loop
 sub-with-block c =
     let s = c .before .before .before .before .before in
     let l = s .args .layout in
-    let h = s .pre .finding .layout in
-    omega (arith, c .block-head .ensures, head-room l h (getD (s .args .t3) (c .before .before .before .loop .j) 0) (block-in l h (s .pre .within (c .before .before .before .loop .j) (omega arith))))
+    let h = s .pre .0 .finding .layout in
+    omega (arith, c .block-head .ensures, head-room l h (getD (s .args .t4) (c .before .before .before .loop .j) 0) (block-in l h (s .pre .0 .within (c .before .before .before .loop .j) (omega arith))))
 
 part-with-block-start : tie.Need-part-with-block-start Inv-loop μ-loop
 part-with-block-start c =
     let s = c .before .before .before .before .before in
     let l = s .args .layout in
-    let h = s .pre .finding .layout in
-    omega (arith, c .block-head .ensures, head-room l h (getD (s .args .t3) (c .before .before .before .loop .j) 0) (block-in l h (s .pre .within (c .before .before .before .loop .j) (omega arith))))
+    let h = s .pre .0 .finding .layout in
+    omega (arith, c .block-head .ensures, head-room l h (getD (s .args .t4) (c .before .before .before .loop .j) 0) (block-in l h (s .pre .0 .within (c .before .before .before .loop .j) (omega arith))))
 
 part-with-block-end : tie.Need-part-with-block-end Inv-loop μ-loop
 part-with-block-end c = search needs
@@ -65,18 +65,18 @@ with-block-requires c κs =
     let s = c .before .before .before .before .before .before in
     let j = c .before .before .before .before .loop .j in
     let l = s .args .layout in
-    let h = s .pre .finding .layout in
+    let h = s .pre .0 .finding .layout in
     let w = s .args .word .now in
-    let k = getD (s .args .t3) j 0 in
+    let k = getD (s .args .t4) j 0 in
     let at = c .before .block-head .result in
     record {
       alphabet = bound l h .q-least;
-      room = rw (part-length at w) (omega (arith, c .before .block-head .ensures, head-room l h k (block-in l h (s .pre .within j (omega arith)))));
-      lead = rw (part-head at w) (open-lead (figuresOf l) w k at (c .before .block-head .ensures ∙ head-is (figuresOf l) l k (h .laid)) (s .pre .open-heads j (omega arith)));
+      room = rw (part-length at w) (omega (arith, c .before .block-head .ensures, head-room l h k (block-in l h (s .pre .0 .within j (omega arith)))));
+      lead = rw (part-head at w) (open-lead (figuresOf l) w k at (c .before .block-head .ensures ∙ head-is (figuresOf l) l k (h .laid)) (s .pre .0 .open-heads j (omega arith)));
     }
 
 add-j : tie.Need-add-j Inv-loop μ-loop
-add-j c = omega (arith, bound (c .before .before .before .before .before .before .before .args .layout) (c .before .before .before .before .before .before .before .pre .finding .layout) .m-most)
+add-j c = omega (arith, bound (c .before .before .before .before .before .before .before .args .layout) (c .before .before .before .before .before .before .before .pre .0 .finding .layout) .m-most)
 
 loop-less : tie.Need-loop-less Inv-loop μ-loop
 loop-less c = search needs
@@ -86,15 +86,15 @@ loop-again c =
     let s = c .before .before .before .before .before .before .before in
     let t = c .before .before .before .before .before .loop in
     let l = s .args .layout in
-    let h = s .pre .finding .layout in
+    let h = s .pre .0 .finding .layout in
     let w = s .args .word .now in
-    let k = getD (s .args .t3) (t .j) 0 in
+    let k = getD (s .args .t4) (t .j) 0 in
     let at = c .before .before .block-head .result in
     let e : at ≡ headOf (figuresOf l) k = c .before .before .block-head .ensures ∙ head-is (figuresOf l) l k (h .laid) in (
       omega arith,
       refl,
       rw (c .with-block .ensures, h .laid .tail-is)
-          (summed-on (figuresOf l) w (s .args .t3) (l .«placement_count») (bound l h .q-least) (t .j) (t .value) (take (length w - at) (drop at w))
+          (summed-on (figuresOf l) w (s .args .t4) (l .«placement_count») (bound l h .q-least) (t .j) (t .value) (take (length w - at) (drop at w))
           (omega arith) (omega (arith, bound l h .m-most)) (λ i _. part-at at w i ∙ ap (λ (y : ℕ). getD w (y + i) 0) e) (t .inv .2)),
     )
 
@@ -103,7 +103,7 @@ returns c =
     let s = c .before .before .before .before in
     let t = c .before .before .loop in
     let l = s .args .layout in
-    summed-all (figuresOf l) (s .args .word .now) (s .args .t3) (l .«placement_count») (bound l (s .pre .finding .layout) .q-least) (t .j) (t .value) (omega arith) (t .inv .2)
+    summed-all (figuresOf l) (s .args .word .now) (s .args .t4) (l .«placement_count») (bound l (s .pre .0 .finding .layout) .q-least) (t .j) (t .value) (omega arith) (t .inv .2)
 
 pub written-value-spec : {M : Type 1} → statement M
 written-value-spec =

@@ -1,64 +1,32 @@
--- `Layout::block_head` meets its contract: the part's start, and the block's within the part. Assumes nothing.
-use mathlib.Core.Path.{_≡_, sym, ap, ap₂, _∙_}
-use Prim.Native.Nat.{ℕ, _+_, _%_}
-use native.Mathlib.Nat.{mod-lt}
+-- `Layout::block_head` meets its contract: the array has it. Assumes nothing.
+use mathlib.Core.Path.{_≡_, sym, _∙_}
+use Prim.Native.Nat.{_≤_}
 use native.Mathlib.Omega.{arith}
-use borrow.Author.Needs.{needs}
-use Rattle.cells.specs.Cut.{pieceStart, blockHead, blockAt}
-use Rattle.cells.proofs.Cut.{block-most, part-head, part-most, part-below}
+use Rattle.construction_a.specs.Figures.{blocks}
+use Rattle.params.specs.Given.{figuresOf}
+use Rattle.params.proofs.Answered.{head-is}
+use Rattle.params.proofs.Fitting.{blocks-is, blocks-fit, heads-small}
 use Rattle.params.proofs.Layout.block_head.Statement.{statement}
 use Rattle.params.proofs.Layout.block_head.Tie as tie
 
-div-part : tie.Need-div-part
-div-part c = search needs
+within : (s : tie.Start) → s .args .k ≤ blocks (figuresOf (s .args .self))
+within s = omega (arith, blocks-is (s .args .self) (s .pre .0), s .pre .2)
 
-rem-block : tie.Need-rem-block
-rem-block c = search needs
+mul-head : tie.Need-mul-head
+mul-head c = omega (arith, blocks-fit (c .args .self) (c .pre .0), c .pre .2)
 
-piece-start-requires : tie.Need-piece-start-requires
-piece-start-requires c κs =
-    let s = c .before .before in
-    let l = s .args .self in
-    omega (arith, s .pre, part-most (l .parts) (l .m) (s .args .k) (s .pre .some-blocks) (s .pre .within))
+element-copy-out-head : tie.Need-element-copy-out-head
+element-copy-out-head c = omega (arith, blocks-fit (c .args .self) (c .pre .0), c .pre .2)
+
+cast-result : tie.Need-cast-result
+cast-result c =
+    let s = c .before in
+    omega (arith, heads-small (s .args .self) (s .pre .0) (s .args .heads .now) (s .pre .1) (s .args .k) (within s))
 
 returns : tie.Need-returns
 returns c =
-    let s = c .before .before .before .before in
-    let l = s .args .self in
-    c .before .piece-start .ensures ∙ sym (part-head (l .n) (l .parts) (l .m) (s .args .k) (c .if1 .taken))
-
-piece-len-requires : tie.Need-piece-len-requires
-piece-len-requires c κs =
-    let s = c .before .before .before .before in
-    let l = s .args .self in
-    omega (arith, s .pre, part-below (l .parts) (l .m) (s .args .k) (c .if1 .left) (s .pre .within))
-
-piece-start-requires-2 : tie.Need-piece-start-requires-2
-piece-start-requires-2 c κs =
-    let s = c .before .before .before .before .before in
-    (s .pre .some-blocks, omega (arith, mod-lt (s .args .k) (s .pre .some-blocks)))
-
-sum-is : (c : tie.After-piece-start2)
-    → (let s = c .before .before .before .before .before .before in
-    c .before .before .before .piece-start .result + c .piece-start2 .result ≡ blockHead (s .args .self .n) (s .args .self .parts) (s .args .self .m) (s .args .k))
-unfolding blockHead blockAt
-sum-is c =
-    let s = c .before .before .before .before .before .before in
-    let l = s .args .self in
-    let j = s .args .k % l .m in
-    ap₂ (λ (x y : ℕ). x + y) (c .before .before .before .piece-start .ensures)
-    (c .piece-start2 .ensures ∙ ap (λ (t : ℕ). pieceStart t (l .m) j) (c .before .piece-len .ensures))
-
-add-result : tie.Need-add-result
-add-result c =
-    let s = c .before .before .before .before .before .before in
-    let l = s .args .self in
-    omega (arith, sum-is c, block-most (l .n) (l .parts) (l .m) (s .args .k) (s .pre .some-parts) (s .pre .some-blocks) (s .pre .within))
-
-returns-2 : tie.Need-returns-2
-returns-2 c = sum-is c
+    let s = c .before in
+    s .pre .1 (s .args .k) (within s) ∙ sym (head-is (figuresOf (s .args .self)) (s .args .self) (s .args .k) (s .pre .0 .laid))
 
 pub block-head-spec : {M : Type 1} → statement M
-block-head-spec =
-    tie.close
-    (tie.spec div-part rem-block piece-start-requires returns piece-len-requires piece-start-requires-2 add-result returns-2)
+block-head-spec = tie.close (tie.spec mul-head element-copy-out-head cast-result returns)

@@ -1,0 +1,90 @@
+-- `with_part` meets its contract: the first j blocks of the part have their entries, and those before the part stand. Assumes nothing.
+use mathlib.Core.Path.{_≡_, refl, sym, ap, _∙_}
+use Prim.Native.Nat.{ℕ, suc, _+_, _-_, _≤_, _<_}
+use native.Mathlib.Omega.{arith}
+use borrow.Author.Needs.{needs}
+use lib.ListN.{length, getD, length-set}
+use Rattle.cells.specs.Cut.{pieceStart}
+use Rattle.cells.proofs.Cut.{piece-most}
+use Rattle.construction_a.specs.Figures.{maxWord}
+use Rattle.params.specs.Given.{maxBlocks}
+use Rattle.params.proofs.Starting.{set-stays, entry-more}
+use Rattle.params.proofs.heads.with_part.Statement.{statement}
+use Rattle.params.proofs.heads.with_part.Tie as tie
+
+abbrev Inv-loop : tie.InvT-loop
+Inv-loop first m from len next₀ j₀ next j =
+    (j ≤ m) × (length next ≡ suc maxBlocks) × ((k : ℕ) → k < first → getD next k 0 ≡ getD next₀ k 0)
+    × ((x : ℕ) → x < j → getD next (first + x) 0 ≡ from + pieceStart len m x)
+
+abbrev μ-loop : tie.MeasureT-loop
+μ-loop first m from len next₀ j₀ next j = m - j
+
+loop-holds : tie.Need-loop-holds Inv-loop μ-loop
+loop-holds c = (omega arith, omega arith, λ k h. refl, λ x h. absurd (omega arith))
+
+piece-start-requires : tie.Need-piece-start-requires Inv-loop μ-loop
+piece-start-requires c κs = (c .before .before .pre .0, omega arith)
+
+small : (c : tie.After-piece-start Inv-loop μ-loop) → c .before .before .before .args .from + c .piece-start .result ≤ maxWord
+small c =
+    let s = c .before .before in
+    let a = s .before .args in
+    omega (arith, c .piece-start .ensures, piece-most (a .len) (a .m) (s .loop .j) (s .before .pre .0) (omega arith), s .before .pre .2)
+
+add-head : tie.Need-add-head Inv-loop μ-loop
+add-head c = omega (arith, small c)
+
+cast-next : tie.Need-cast-next Inv-loop μ-loop
+cast-next c = omega (arith, small c)
+
+add-next : tie.Need-add-next Inv-loop μ-loop
+add-next c = omega (arith, c .before .before .before .pre .1)
+
+mul-next : tie.Need-mul-next Inv-loop μ-loop
+mul-next c = omega (arith, c .before .before .before .pre .1)
+
+array-write-next : tie.Need-array-write-next Inv-loop μ-loop
+array-write-next c = omega (arith, c .before .before .before .pre .1)
+
+add-j : tie.Need-add-j Inv-loop μ-loop
+add-j c = omega arith
+
+loop-less : tie.Need-loop-less Inv-loop μ-loop
+loop-less c = omega arith
+
+loop-again : tie.Need-loop-again Inv-loop μ-loop
+loop-again c =
+    let s = c .before .before in
+    let a = s .before .args in
+    let head = a .from + c .piece-start .result in
+    let l = s .loop .inv .1 in
+    (omega arith,
+     simp length-set l,
+     λ k h. set-stays (s .loop .next) (a .first + s .loop .j) head k (omega arith) ∙ s .loop .inv .2 k h,
+     entry-more (s .loop .next) (a .first) (s .loop .j) head (λ x. a .from + pieceStart (a .len) (a .m) x) (omega (arith, s .before .pre .1, l))
+     (ap (λ (y : ℕ). a .from + y) (c .piece-start .ensures)) (s .loop .inv .3))
+
+returns : tie.Need-returns Inv-loop μ-loop
+returns c =
+    let s = c .before in
+    let e : s .loop .j ≡ s .before .args .m = omega arith in
+    (s .loop .inv .2, λ j h. s .loop .inv .3 j (omega arith))
+
+pub with-part-spec : {M : Type 1} → statement M
+with-part-spec =
+    tie.close
+    (tie.spec
+    Inv-loop
+    μ-loop
+    loop-holds
+    piece-start-requires
+    add-head
+    cast-next
+    add-next
+    mul-next
+    array-write-next
+    add-j
+    loop-less
+    loop-again
+    returns)

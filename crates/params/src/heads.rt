@@ -1,0 +1,51 @@
+// Where the blocks of a word start, worked out once for a reading or a writing, which asks for it many times. Assumes nothing.
+ghost use mathlib.Core.Path.{_≡_};
+ghost use Prim.Native.Nat.{ℕ, _+_, _≤_, _<_};
+ghost use lib.ListN.{getD};
+ghost use Rattle.cells.specs.Cut.{pieceStart};
+ghost use Rattle.construction_a.specs.Figures.{maxWord};
+ghost use Rattle.params.specs.Given.{maxBlocks, figuresOf, Fitting, HeadsOf};
+use crate::Layout;
+use crate::cut;
+
+// The first position of each block, counted through the word, and behind them the word's length.
+pub fn heads_of(layout: Layout) -> [u16; Layout::MAX_HEADS]
+    requires { ⌜ Fitting layout ⌝ }
+    ensures { λ r. ⌜ HeadsOf (figuresOf layout) r ⌝ }
+{
+    let parts = layout.parts;
+    let m = layout.m;
+    let mut heads = [0u16; Layout::MAX_HEADS];
+    let mut i: usize = 0;
+    while i < parts {
+        let from = cut::piece_start(layout.n, parts, i);
+        let len = cut::piece_len(layout.n, parts, i);
+        let next = with_part(heads, i * m, m, from, len);
+        heads = next;
+        i += 1;
+    }
+    heads[parts * m] = layout.n as u16;
+    heads
+}
+
+// The same with the m blocks of a part of this length: their numbers go from `first` on, their positions from `from` on.
+fn with_part(
+    heads: [u16; Layout::MAX_HEADS],
+    first: usize,
+    m: usize,
+    from: usize,
+    len: usize,
+) -> [u16; Layout::MAX_HEADS]
+    requires { ⌜ (0 < m) × (first + m ≤ maxBlocks) × (from + len ≤ maxWord) ⌝ }
+    ensures before { λ r. ⌜ ((k : ℕ) → k < first → getD r k 0 ≡ getD heads k 0) ⌝ }
+    ensures part { λ r. ⌜ ((j : ℕ) → j < m → getD r (first + j) 0 ≡ from + pieceStart len m j) ⌝ }
+{
+    let mut next = heads;
+    let mut j: usize = 0;
+    while j < m {
+        let head = from + cut::piece_start(len, m, j);
+        next[first + j] = head as u16;
+        j += 1;
+    }
+    next
+}

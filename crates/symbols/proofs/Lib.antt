@@ -1,0 +1,2 @@
+-- The modules of laws. Assumes nothing.
+mod Bound
