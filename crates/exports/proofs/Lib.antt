@@ -1,2 +1,3 @@
 pub mod StartLaws
 pub mod Words
+pub mod TableLaws

@@ -1,2 +1,4 @@
 pub mod Starts
 pub mod Words
+pub mod Table
+pub mod Jobs

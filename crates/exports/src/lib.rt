@@ -11,6 +11,7 @@ use params::Params;
 use params::bytes;
 
 mod starts;
+mod table;
 
 // Word read, as the decoder has it: this archive is then the only one to link. Refusals: 1 2 3 4 7 8 9.
 #[no_mangle]
