@@ -1,3 +1,4 @@
 pub mod StartLaws
 pub mod Words
 pub mod TableLaws
+pub mod JobLaws

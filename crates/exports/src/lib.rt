@@ -4,11 +4,14 @@ ghost use mathlib.Core.Path.{_≡_};
 ghost use Rattle.construction_a.specs.Figures.{params};
 ghost use Rattle.construction_a.specs.Outcomes.{unwritten};
 ghost use Rattle.decoder.specs.Exported.{lentAs, exportedOut, messageLenOut};
+ghost use Rattle.jobcodec.specs.Given.{seen};
 ghost use Rattle.exports.specs.Words.{encodeBytesOut, covers, coverBytesOut, payloadLenOut};
+ghost use Rattle.exports.specs.Jobs.{called, callBytesOut, jobWriteBytesOut, jobReadBytesOut};
 use decoder::exported;
 use params::LayoutAnswer;
 use params::Params;
 use params::bytes;
+use refusals::Refusal;
 
 mod starts;
 mod table;
@@ -85,4 +88,78 @@ pub extern "C" fn burgzemi_cover(
         LayoutAnswer::Refused(number) => number,
         LayoutAnswer::Fit(_) => starts::cover_bytes(figures, map, starts),
     }
+}
+
+// A call on the job table: the letter O opens, C cancels, F finishes. Refusals: 3 for the table's length, 11 for another letter, 1 for a slot whose
+// state is none of the three; then the call's own.
+#[no_mangle]
+pub extern "C" fn burgzemi_call(table: &mut [u8], letter: u8, number: u32) -> u8
+    ensures { λ r. ⌜ called r (now (table .exit)) ≡ callBytesOut (now (table .entry)) letter number ⌝ }
+{
+    if table.len() != table::TABLE_LEN {
+        return Refusal::LENGTH;
+    }
+    if !jobs::is_letter(letter) {
+        return Refusal::RECORD;
+    }
+    if !table::states_known(table) {
+        return Refusal::INVALID;
+    }
+    let before = table::table_in(table);
+    let out = before.call(letter, number);
+    if out.answer != Refusal::NONE {
+        return out.answer;
+    }
+    table::put_table(out.table, table);
+    Refusal::NONE
+}
+
+// Job write: the word of a placement and a payload whose job the table has open. Refusals: 1 2 10 3 5 12 14.
+#[no_mangle]
+pub extern "C" fn burgzemi_job_write(
+    n: u32,
+    q: u32,
+    m: u32,
+    b: u32,
+    table: &[u8],
+    starts: &[u8],
+    payload: &[u8],
+    word: &mut [u8],
+) -> u8
+    ensures { λ r. ⌜ unwritten (now (word .exit)) r ≡ jobWriteBytesOut (params n q m b) (now (table .entry)) (now (starts .entry)) (now (payload .entry)) (now (word .entry)) ⌝ }
+{
+    let figures = Params { n, q, m, b };
+    if table.len() != table::TABLE_LEN {
+        return table::without_table(figures);
+    }
+    if !table::states_known(table) {
+        return Refusal::INVALID;
+    }
+    let at = starts::placement_from(starts, m);
+    let held = table::table_in(table);
+    jobcodec::job_write(figures, held, at, payload, word)
+}
+
+// Job read: the payload of a found word whose job the table has open. Refusals: 1 2, 10 for K, 3 4 7 8 9, 10, 12 14.
+#[no_mangle]
+pub extern "C" fn burgzemi_job_read(
+    n: u32,
+    q: u32,
+    m: u32,
+    b: u32,
+    table: &[u8],
+    word: &[u8],
+    payload: &mut [u8],
+) -> u8
+    ensures { λ r. ⌜ seen r (now (payload .exit)) ≡ jobReadBytesOut (params n q m b) (now (table .entry)) (now (word .entry)) (now (payload .entry)) ⌝ }
+{
+    let figures = Params { n, q, m, b };
+    if table.len() != table::TABLE_LEN {
+        return table::without_table(figures);
+    }
+    if !table::states_known(table) {
+        return Refusal::INVALID;
+    }
+    let held = table::table_in(table);
+    jobcodec::job_read(figures, held, word, payload)
 }

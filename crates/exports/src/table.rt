@@ -2,11 +2,17 @@
 ghost use mathlib.Core.Path.{_≡_};
 ghost use lib.ListN.{length};
 ghost use Rattle.jobs.specs.Slots.{entries};
+ghost use Rattle.params.specs.Bridge.{given};
+ghost use Rattle.exports.specs.Jobs.{withoutTable};
 ghost use Rattle.exports.specs.Table.{slotLen, tableLen, entryOf, statesKnown, tableIn, slotBytes, entryBytes, tableBytes};
 use jobs::Entry;
 use jobs::JobTable;
 use jobs::Slot;
+use params::LayoutAnswer;
+use params::Params;
+use params::bytes;
 use params::bytes::BYTE_VALUES;
+use refusals::Refusal;
 
 // A state and a number of four bytes.
 const SLOT_LEN: usize = 5;
@@ -19,6 +25,22 @@ const FREE: u8 = 0;
 const OPEN: u8 = 1;
 
 const CANCELLED: u8 = 2;
+
+// What a job is refused with where the table has another length, so that no slot is looked at: 1 2 10, or else 3.
+pub fn without_table(figures: Params) -> u8
+    ensures { λ r. ⌜ r ≡ withoutTable (given figures) ⌝ }
+{
+    let answer = Params::figures(figures.n, figures.q, figures.m, figures.b);
+    match answer {
+        LayoutAnswer::Refused(number) => number,
+        LayoutAnswer::Fit(layout) => {
+            if bytes::payload_len(layout.q, layout.message_len) < jobcodec::MIN_PAYLOAD {
+                return Refusal::PAYLOAD;
+            }
+            Refusal::LENGTH
+        }
+    }
+}
 
 // Whether each slot has one of the three states.
 pub fn states_known(bytes: &[u8]) -> bool
