@@ -41,7 +41,7 @@ module _ (bytes : List ℕ) (letter number : ℕ) where
       call-state s = rw (eqb-same (length bytes) tableLen size, l, s)
 
       module _ (s : statesKnown bytes ≡ true) (out : TableOut) (e : out ≡ callBy (kindOf letter) (tableIn bytes) number) where
-        as-called : callBytesOut bytes letter number ≡ calledAs bytes out
+        pub as-called : callBytesOut bytes letter number ≡ calledAs bytes out
         unfolding callBytesOut
         as-called = rw (eqb-same (length bytes) tableLen size, l, s, e)
 

@@ -133,7 +133,7 @@ pub slot-long : (state number : ℕ) → length (slotBytes state number) ≡ slo
 unfolding spell
 slot-long state number = refl
 
-entry-long : (e : Entry) → length (entryBytes e) ≡ slotLen
+pub entry-long : (e : Entry) → length (entryBytes e) ≡ slotLen
 entry-long Free = slot-long 0 0
 entry-long (Open x) = slot-long 1 x
 entry-long (Cancelled x) = slot-long 2 x

@@ -2,3 +2,4 @@ pub mod Starts
 pub mod Words
 pub mod Table
 pub mod Jobs
+pub mod Follows

@@ -1,10 +1,11 @@
 -- The job table in lent bytes: 64 slots of 5 bytes each. Assumes nothing.
-use mathlib.Core.Bool.{Bool, cond}
+use mathlib.Core.Path.{_≡_}
+use mathlib.Core.Bool.{Bool, true, cond}
 use mathlib.Core.List.{List, _∷_, flatMap}
-use Prim.Native.Nat.{ℕ, _+_, _*_}
-use lib.Dec.{eqb}
-use lib.ListN.{getD, drop, replicate}
-use Rattle.combinatorics.specs.Lists.{allBelow}
+use Prim.Native.Nat.{ℕ, _+_, _*_, _^_}
+use lib.Dec.{ltb, eqb}
+use lib.ListN.{length, getD, drop, replicate}
+use Rattle.combinatorics.specs.Lists.{all, allBelow}
 use Rattle.combinatorics.specs.Stretch.{tabulate}
 use Rattle.cells.specs.Bytes.{byteValues}
 use Rattle.cells.specs.Digits.{plain, spell}
@@ -59,3 +60,20 @@ entryBytes (Cancelled x) = slotBytes 2 x
 
 unfoldable pub tableBytes : List Entry → List ℕ
 tableBytes es = flatMap entryBytes es
+
+-- ---- Written and read back it is the same
+
+-- a number of 32 bits, as every job number is
+abbrev pub hasRoom : Entry → Bool
+hasRoom Free = true
+hasRoom (Open x) = ltb x (byteValues ^ 4)
+hasRoom (Cancelled x) = ltb x (byteValues ^ 4)
+
+pub record IsTable (es : List Entry) : Type 0 where
+  pub many : length es ≡ slotCount
+  pub numbers : all hasRoom es ≡ true
+
+pub record ReadBack (es : List Entry) : Type 0 where
+  pub size : length (tableBytes es) ≡ tableLen
+  pub known : statesKnown (tableBytes es) ≡ true
+  pub same : tableIn (tableBytes es) ≡ es
