@@ -1,5 +1,5 @@
 -- Calls on a table in bytes, one after the other, answer as the ledger does. Assumes nothing.
-use mathlib.Core.Path.{_≡_, refl, sym, ap, ap₂, _∙_, subst}
+use mathlib.Core.Path.{_≡_, refl, sym, ap, _∙_}
 use mathlib.Core.Logic.{_≢_}
 use mathlib.Core.Bool.{Bool, true}
 use mathlib.Core.List.{List, [], _∷_}
@@ -15,12 +15,11 @@ use Rattle.jobs.specs.declared.Entry.{Entry}
 use Rattle.jobs.specs.declared.Entry.the-variants.{Free, Open, Cancelled}
 use Rattle.jobs.specs.Jobs.{Kind, opening, cancelling, finishing, Call}
 use Rattle.jobs.specs.Replay.{kindOf, callBy}
-use Rattle.jobs.specs.Simulation.{Follows}
 use Rattle.jobs.specs.Table.{isFree, holds, lookup, emptyTable, TableOut, refuse, accept, replaceFirst, put, twice, decide, openAt, cancelAt, finishAt, callAs, callOut, answersFrom, tableFrom}
 use Rattle.jobs.proofs.Simulates.{simulation-from-empty}
 use Rattle.exports.specs.Table.{tableIn, tableBytes, hasRoom, IsTable}
-use Rattle.exports.specs.Jobs.{CallLent, called, calledAs, callBytesOut}
-use Rattle.exports.specs.Follows.{letterOf, callOn, answersOn, bytesAfter, emptyBytes, numbered, BytesFollow}
+use Rattle.exports.specs.Jobs.{called, calledAs}
+use Rattle.exports.specs.Follows.{letterOf, callOn, answersOn, bytesAfter, numbered, BytesFollow}
 use Rattle.exports.proofs.TableBack.{table-back, empty-bytes, empty-table}
 use Rattle.exports.proofs.JobLaws.{as-called}
 

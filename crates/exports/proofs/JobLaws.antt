@@ -1,14 +1,14 @@
 -- Laws of calls, job write and job read on a table in bytes, refusal by refusal. Assumes nothing.
-use mathlib.Core.Path.{_≡_, refl, sym, ap, _∙_}
+use mathlib.Core.Path.{_≡_, refl, sym, ap₂, _∙_}
 use mathlib.Core.Logic.{_≢_}
-use mathlib.Core.Bool.{Bool, true, false, not, _&&_}
-use mathlib.Core.List.{List, []}
+use mathlib.Core.Bool.{Bool, true, false, _&&_}
+use mathlib.Core.List.{List}
 use Prim.Native.Nat.{ℕ, _*_, _≤_, _<_}
 use native.Mathlib.Omega.{arith}
-use lib.Dec.{leb, eqb}
+use lib.Dec.{eqb}
 use lib.ListN.{length}
-use Rattle.refusals.specs.Refusals.{must, served, invalid, unfit, wrongLength, badPayload, badRecord}
-use Rattle.combinatorics.proofs.Cases.{by-eq, by-bool, eqb-same, eqb-other, leb-holds, leb-fails}
+use Rattle.refusals.specs.Refusals.{must, served, invalid, wrongLength, badPayload, badRecord}
+use Rattle.combinatorics.proofs.Cases.{by-bool, eqb-same, eqb-other, leb-holds, leb-fails}
 use Rattle.cells.specs.Bytes.{payloadLen}
 use Rattle.construction_a.specs.Figures.{Params, maxBursts, inRange, fits, messageLen}
 use Rattle.construction_a.specs.Outcomes.{unserved, figuresOut, unwritten}
@@ -18,7 +18,8 @@ use Rattle.jobs.specs.Replay.{kindOf, callBy, isLetter}
 use Rattle.jobs.specs.Table.{TableOut, twice}
 use Rattle.payloads.specs.Payload.{carriesJob}
 use Rattle.jobcodec.specs.JobWrite.{jobWriteOut}
-use Rattle.jobcodec.specs.JobRead.{withhold, jobReading, jobReadOut}
+use Rattle.jobcodec.specs.JobRead.{JobRead, withhold, jobReading, jobReadOut}
+use Rattle.jobcodec.specs.Given.{seen}
 use Rattle.exports.specs.Starts.{placementFrom}
 use Rattle.exports.specs.Table.{tableLen, statesKnown, tableIn, tableBytes}
 use Rattle.exports.specs.Jobs.{called, calledAs, callBytesOut, jobWriteBytesOut, jobReadBytesOut, withoutTable}
@@ -106,6 +107,10 @@ module _ (f : Params) (table starts payload out : List ℕ) where
         (λ i. rw i)
 
 -- ---- Job read
+
+-- what a caller is told: the answer, and what the lent payload then holds
+pub all-seen : {p : List ℕ} {n : ℕ} (o : JobRead) → p ≡ o .payload → n ≡ o .answer → seen n p ≡ o
+all-seen o = ap₂ (λ (p : List ℕ) (n : ℕ). seen n p)
 
 module _ (f : Params) (table w out : List ℕ) where
   pub read-other : length table ≢ tableLen → withhold out (withoutTable f) ≡ jobReadBytesOut f table w out

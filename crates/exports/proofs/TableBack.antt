@@ -1,8 +1,8 @@
 -- The job table written as bytes and read back is the same, and the empty one is all 0. Assumes nothing.
 use mathlib.Core.Path.{_≡_, refl, sym, ap, ap₂, _∙_}
 use mathlib.Core.Bool.{true}
-use mathlib.Core.List.{List, [], _∷_, _++_, flatMap, append-assoc, append-nil}
-use Prim.Native.Nat.{ℕ, zero, suc, _+_, _*_, _^_, _<_}
+use mathlib.Core.List.{List, [], _∷_, _++_, flatMap}
+use Prim.Native.Nat.{ℕ, suc, _+_, _*_, _^_, _<_}
 use native.Mathlib.Omega.{arith}
 use borrow.Author.Tests.{leb-true}
 use lib.Dec.{ltb}
@@ -12,14 +12,13 @@ use Rattle.combinatorics.specs.Lists.{all, allBelow}
 use Rattle.combinatorics.specs.Stretch.{tabulate}
 use Rattle.combinatorics.proofs.Lists.{both}
 use Rattle.cells.specs.Bytes.{byteValues}
-use Rattle.cells.specs.Digits.{plain, span, spell, value}
+use Rattle.cells.specs.Digits.{plain, span, spell}
 use Rattle.cells.proofs.Digits.{length-spell, span-plain, value-front, value-spell}
 use Rattle.jobs.specs.declared.Entry.{Entry}
 use Rattle.jobs.specs.declared.Entry.the-variants.{Free, Open, Cancelled}
-use Rattle.jobs.specs.Jobs.{slotCount}
 use Rattle.jobs.specs.Table.{emptyTable}
 use Rattle.payloads.specs.Payload.{jobNumber}
-use Rattle.exports.specs.Table.{slotLen, tableLen, stateCount, entryOf, stateAt, entryAt, states, statesKnown, tableIn, slotBytes, entryBytes, tableBytes, hasRoom, IsTable, ReadBack}
+use Rattle.exports.specs.Table.{slotLen, tableLen, stateCount, entryOf, stateAt, entryAt, statesKnown, tableIn, entryBytes, tableBytes, hasRoom, IsTable, ReadBack}
 use Rattle.exports.proofs.TableLaws.{entry-long}
 
 -- ---- One slot, with anything behind it

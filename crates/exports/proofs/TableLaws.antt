@@ -16,7 +16,7 @@ use Rattle.combinatorics.proofs.Cases.{eqb-same, eqb-other, leb-holds, leb-fail
 use Rattle.combinatorics.proofs.Lists.{all-fails, all-later, all-over}
 use Rattle.combinatorics.proofs.Stretch.{length-tabulate, tabulate-at}
 use Rattle.cells.specs.Bytes.{byteValues}
-use Rattle.cells.specs.Digits.{plain, span, spell}
+use Rattle.cells.specs.Digits.{plain, spell}
 use Rattle.cells.proofs.Walk.{rest-is}
 use Rattle.jobs.specs.declared.Entry.{Entry}
 use Rattle.jobs.specs.declared.Entry.the-variants.{Free, Open, Cancelled}

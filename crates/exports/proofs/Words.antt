@@ -1,19 +1,19 @@
 -- Laws of word write and covering on bytes, refusal by refusal. Assumes nothing.
-use mathlib.Core.Path.{_≡_, sym, ap, _∙_}
+use mathlib.Core.Path.{_≡_, sym, ap, ap₂, _∙_}
 use mathlib.Core.Logic.{_≢_}
-use mathlib.Core.Bool.{true, _&&_}
+use mathlib.Core.Bool.{true}
 use mathlib.Core.List.{List, []}
 use Prim.Native.Nat.{ℕ, suc, _*_, _≤_, _<_}
 use native.Mathlib.Omega.{arith}
 use borrow.Author.Tests.{leb-true}
-use lib.Dec.{leb, eqb}
+use lib.Dec.{eqb}
 use lib.ListN.{length}
-use Rattle.refusals.specs.Refusals.{must, served, invalid, unfit, wrongLength, badSymbol, uncovered}
+use Rattle.refusals.specs.Refusals.{must, served, invalid, unfit, wrongLength}
 use Rattle.combinatorics.specs.Bursts.{coverRank}
 use Rattle.combinatorics.specs.Lists.{allBelow}
 use Rattle.combinatorics.proofs.Cases.{by-eq, by-bool, eqb-same, eqb-other, leb-holds, leb-fails}
 use Rattle.construction_a.specs.Figures.{Params, maxBursts, inRange, fits, placementCount}
-use Rattle.construction_a.specs.Outcomes.{Held, held, inUse, worn, unserved, figuresOut, unwritten, encodeOut, Covered, unplaced, coverOut}
+use Rattle.construction_a.specs.Outcomes.{Held, held, inUse, worn, unserved, figuresOut, Encoded, unwritten, encodeOut, Covered, unplaced, coverOut}
 use Rattle.construction_a.specs.Writing.{placementOf}
 use Rattle.construction_a.proofs.Figures.{ranged, serve, placed-starts}
 use Rattle.construction_a.proofs.Outcomes.{figures-invalid, figures-unfit, refused-alike}
@@ -36,6 +36,10 @@ module _ (m : ℕ) (bytes : List ℕ) where
 
   pub placed-all : m ≤ maxBursts → length bytes ≡ 2 * m → held (startsFrom bytes) ≡ placementFrom m bytes
   placed-all h e = rw (leb-holds m maxBursts h, eqb-same (length bytes) (2 * m) e)
+
+-- what a caller of word write is told: the answer, and what the lent word then holds
+pub all-told : {w : List ℕ} {n : ℕ} (o : Encoded) → w ≡ o .word → n ≡ o .answer → unwritten w n ≡ o
+all-told o = ap₂ (λ (w : List ℕ) (n : ℕ). unwritten w n)
 
 -- ---- "word write 1 2 3 5 4": a placement without starts is refused where the bytes of the starts are
 

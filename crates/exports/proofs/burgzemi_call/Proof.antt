@@ -1,5 +1,5 @@
 -- `burgzemi_call` meets its contract: 3, 11, 1, or what the call answers, with the table as bytes. Assumes nothing.
-use mathlib.Core.Path.{_≡_, sym, ap, _∙_}
+use mathlib.Core.Path.{sym, ap, _∙_}
 use mathlib.Core.List.{List}
 use borrow.Author.Needs.{needs}
 use borrow.Author.Tests.{not-true, not-false}

@@ -1,11 +1,10 @@
 -- `burgzemi_encode` meets its contract: word write with the placement that the bytes are. Assumes nothing.
-use mathlib.Core.Path.{ap, ap₂, _∙_}
-use mathlib.Core.List.{List}
-use Prim.Native.Nat.{ℕ}
+use mathlib.Core.Path.{ap, _∙_}
 use borrow.Author.Needs.{needs}
 use Rattle.construction_a.specs.Figures.{params}
-use Rattle.construction_a.specs.Outcomes.{Held, unwritten, encodeOut}
-use Rattle.exports.proofs.Words.{encode-bytes}
+use Rattle.construction_a.specs.Outcomes.{Held, encodeOut}
+use Rattle.placements.specs.Bridge.{heldAs}
+use Rattle.exports.proofs.Words.{all-told, encode-bytes}
 use Rattle.exports.proofs.burgzemi_encode.Statement.{statement}
 use Rattle.exports.proofs.burgzemi_encode.Tie as tie
 
@@ -23,7 +22,7 @@ returns c =
     let a = c .before .before .before .before .before .before .before .before .args in
     let f = params (a .n) (a .q) (a .m) (a .b) in
     let call = c .before .before .encode in
-    ap₂ (λ (w : List ℕ) (n : ℕ). unwritten w n) (call .ensures .1) (call .ensures .0)
+    all-told (encodeOut f (heldAs (c .before .before .before .before .placement-from .result)) (a .message .now) (a .word .now)) (call .ensures .1) (call .ensures .0)
     ∙ ap (λ (h : Held). encodeOut f h (a .message .now) (a .word .now)) (c .before .before .before .before .placement-from .ensures)
     ∙ encode-bytes f (a .starts .now) (a .message .now) (a .word .now)
 

@@ -1,14 +1,13 @@
 -- `burgzemi_job_read` meets its contract: what a job without a table is refused with, 1, or what job read answers. Assumes nothing.
-use mathlib.Core.Path.{_≡_, sym, ap, ap₂, _∙_}
+use mathlib.Core.Path.{sym, ap, _∙_}
 use mathlib.Core.List.{List}
-use Prim.Native.Nat.{ℕ}
 use borrow.Author.Needs.{needs}
 use borrow.Author.Tests.{not-true, not-false}
-use Rattle.construction_a.specs.Figures.{Params, params}
+use Rattle.construction_a.specs.Figures.{params}
 use Rattle.jobs.specs.declared.Entry.{Entry}
+use Rattle.jobs.specs.Slots.{entries}
 use Rattle.jobcodec.specs.JobRead.{withhold, jobReadOut}
-use Rattle.jobcodec.specs.Given.{seen}
-use Rattle.exports.proofs.JobLaws.{read-other, read-state, read-whole}
+use Rattle.exports.proofs.JobLaws.{all-seen, read-other, read-state, read-whole}
 use Rattle.exports.proofs.burgzemi_job_read.Statement.{statement}
 use Rattle.exports.proofs.burgzemi_job_read.Tie as tie
 
@@ -42,7 +41,7 @@ returns-3 : tie.Need-returns-3
 returns-3 c =
     let a = c .before .before .before .before .before .before .before .before .before .before .before .args in
     let f = params (a .n) (a .q) (a .m) (a .b) in
-    ap₂ (λ (p : List ℕ) (n : ℕ). seen n p) (c .before .before .job-read .ensures .1) (c .before .before .job-read .ensures .0)
+    all-seen (jobReadOut f (entries (c .before .before .before .before .table-in .result)) (a .word .now) (a .payload .now)) (c .before .before .job-read .ensures .1) (c .before .before .job-read .ensures .0)
     ∙ ap (λ (es : List Entry). jobReadOut f es (a .word .now) (a .payload .now)) (c .before .before .before .before .table-in .ensures)
     ∙ read-whole f (a .table .now) (a .word .now) (a .payload .now) (c .before .before .before .before .before .before .before .if1 .left) (sym (c .before .before .before .before .before .before .states-known .ensures) ∙ not-false _ (c .before .before .before .before .before .if2 .left))
 

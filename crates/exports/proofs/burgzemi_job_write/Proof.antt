@@ -1,13 +1,15 @@
 -- `burgzemi_job_write` meets its contract: what a job without a table is refused with, 1, or what job write answers. Assumes nothing.
-use mathlib.Core.Path.{_≡_, sym, ap, ap₂, _∙_}
+use mathlib.Core.Path.{sym, ap, ap₂, _∙_}
 use mathlib.Core.List.{List}
-use Prim.Native.Nat.{ℕ}
 use borrow.Author.Needs.{needs}
 use borrow.Author.Tests.{not-true, not-false}
-use Rattle.construction_a.specs.Figures.{Params, params}
+use Rattle.construction_a.specs.Figures.{params}
 use Rattle.construction_a.specs.Outcomes.{Held, unwritten}
+use Rattle.placements.specs.Bridge.{heldAs}
 use Rattle.jobs.specs.declared.Entry.{Entry}
+use Rattle.jobs.specs.Slots.{entries}
 use Rattle.jobcodec.specs.JobWrite.{jobWriteOut}
+use Rattle.exports.proofs.Words.{all-told}
 use Rattle.exports.proofs.JobLaws.{write-other, write-state, write-whole}
 use Rattle.exports.proofs.burgzemi_job_write.Statement.{statement}
 use Rattle.exports.proofs.burgzemi_job_write.Tie as tie
@@ -46,7 +48,7 @@ returns-3 c =
     let a = c .before .before .before .before .before .before .before .before .before .before .before .before .before .args in
     let f = params (a .n) (a .q) (a .m) (a .b) in
     let call = c .before .before .job-write in
-    ap₂ (λ (w : List ℕ) (n : ℕ). unwritten w n) (call .ensures .1) (call .ensures .0)
+    all-told (jobWriteOut f (entries (c .before .before .before .before .table-in .result)) (heldAs (c .before .before .before .before .before .placement-from .result)) (a .payload .now) (a .word .now)) (call .ensures .1) (call .ensures .0)
     ∙ ap₂ (λ (es : List Entry) (h : Held). jobWriteOut f es h (a .payload .now) (a .word .now)) (c .before .before .before .before .table-in .ensures) (c .before .before .before .before .before .placement-from .ensures)
     ∙ write-whole f (a .table .now) (a .starts .now) (a .payload .now) (a .word .now) (c .before .before .before .before .before .before .before .before .if1 .left) (sym (c .before .before .before .before .before .before .before .states-known .ensures) ∙ not-false _ (c .before .before .before .before .before .before .if2 .left))
 

@@ -1,12 +1,11 @@
 -- `burgzemi_payload_len` meets its contract. Assumes nothing.
 use mathlib.Core.Path.{_≡_, sym, ap, _∙_}
-use Prim.Native.Nat.{ℕ, _≤_}
+use Prim.Native.Nat.{_≤_}
 use native.Mathlib.Nat.{div-le-self}
 use native.Mathlib.Omega.{arith}
 use borrow.Author.Needs.{needs}
 use Rattle.cells.specs.Bytes.{byteWidth, payloadLen}
 use Rattle.construction_a.specs.Figures.{Params, params, messageLen}
-use Rattle.construction_a.specs.Outcomes.{FiguresOut}
 use Rattle.params.specs.Answer.{figuredAs}
 use Rattle.params.specs.Given.{figuresOf, Fitting}
 use Rattle.params.specs.declared.Layout.{Layout}

@@ -3,7 +3,7 @@ use mathlib.Core.Path.{_≡_, sym, ap, _∙_}
 use Prim.Native.Nat.{_+_, _-_, _*_, _≤_}
 use native.Mathlib.Omega.{arith}
 use borrow.Author.Needs.{needs}
-use lib.ListN.{length, getD, take, drop, length-map, length-drop, List·getD-map}
+use lib.ListN.{length, drop, length-map, length-drop, List·getD-map}
 use lib.Seq.{length-take-le}
 use Rattle.jobs.specs.declared.Slot.{Slot}
 use Rattle.jobs.specs.Jobs.{slotCount}
