@@ -1,4 +1,8 @@
-/* Burgzemi's word reader for C. Link with libdecoder.a, which `rt staticlib decoder` proves and writes to target/staticlib/. */
+/*
+ * Burgzemi's functions for C and other languages, proved. Link with one archive of target/staticlib/ and no second:
+ *   libdecoder.a, by `rt staticlib decoder`, has the word reader alone: burgzemi_message_len and burgzemi_decode;
+ *   libexports.a, by `rt staticlib exports`, has every function of this file, those two included.
+ */
 #ifndef BURGZEMI_H
 #define BURGZEMI_H
 
@@ -9,11 +13,11 @@
 extern "C" {
 #endif
 
-/* What a call answers: 0, or why it was refused. The reader answers 0 to 4 and 7 to 9; the others are the numbers of the whole system. */
+/* What a call answers: 0, or why it was refused. Each function below says which of these it answers, in the order in which they are looked for. */
 enum burgzemi_answer {
     BURGZEMI_SERVED = 0,
     /* from the input */
-    BURGZEMI_INVALID = 1,      /* a figure out of range, or a job table with one number twice */
+    BURGZEMI_INVALID = 1,      /* a figure out of range, or a job table with one number twice or with an unknown state */
     BURGZEMI_UNFIT = 2,        /* the figures don't fit: m * b is above n, or a block is too short for a burst and an index block's head */
     BURGZEMI_LENGTH = 3,       /* a list, a placement or a buffer has another length than the figures give */
     BURGZEMI_SYMBOL = 4,       /* a symbol of q or more, or a byte above 1 in a defect map */
@@ -23,7 +27,7 @@ enum burgzemi_answer {
     BURGZEMI_VALUE = 8,        /* the value at the heads of the index blocks is no rank */
     BURGZEMI_DISAGREES = 9,    /* the placement of that rank has other index blocks, or a fixed block that doesn't start with 0 */
     BURGZEMI_PAYLOAD = 10,     /* no room for a job, a byte's symbols that spell 256 or more, or a leftover symbol other than 0 */
-    BURGZEMI_RECORD = 11,      /* a record unreadable, or one too many */
+    BURGZEMI_RECORD = 11,      /* a record unreadable or one too many, or a call's letter that is none of O, C, F */
     /* from the state of the job table */
     BURGZEMI_CANCELLED = 12,   /* the job number is cancelled */
     BURGZEMI_ALREADY_OPEN = 13,
@@ -35,8 +39,19 @@ enum burgzemi_answer {
 #define BURGZEMI_MAX_WORD 1024
 #define BURGZEMI_MAX_BURSTS 6
 
-/* What burgzemi_message_len answers for figures that are refused. */
+/* What burgzemi_message_len and burgzemi_payload_len answer for figures that are refused. */
 #define BURGZEMI_NO_LENGTH UINT32_MAX
+
+/* The bytes of a job table: 64 slots of 5, a state (0 free, 1 open, 2 cancelled) and the job number, high byte first. All 0 is the empty table. */
+#define BURGZEMI_TABLE_SLOTS 64
+#define BURGZEMI_TABLE_LEN 320
+
+/*
+ * Of every function here: each buffer comes with its own length, and as many of its bytes are read or written at most. Buffers of one call must not
+ * overlap, and none is NULL, also where its length is 0. One that is only written need not be initialised. A refusal leaves every buffer as it was.
+ * Each function always returns and touches no other memory, which is what its proof says of any code here; it keeps nothing between calls, so that
+ * several threads may call it at once with buffers of their own.
+ */
 
 /*
  * How many symbols the message of a word has, 0 included: k of the figures n (symbols of a word, 3 to 1024), q (each symbol is a byte below
@@ -51,15 +66,68 @@ uint32_t burgzemi_message_len(uint32_t n, uint32_t q, uint32_t m, uint32_t b);
  *
  * Refusals, in the order in which they are looked for: 1 and 2 for the figures; 3 where word_len is not n, message_len not k or starts_len
  * not 2 * m; 4 for a symbol of q or more; 7, 8 and 9 for a word that no writing and no damage inside the bursts can give.
- *
- * word_len bytes from `word` are read, and at most the buffers' own bytes are written; they need not be initialised. The three must not
- * overlap, and none is NULL, also where its length is 0. The reader always returns and touches no other memory, which is what its proof says
- * of any code here; it keeps nothing between calls, so that several threads may call it at once with buffers of their own.
  */
 uint8_t burgzemi_decode(uint32_t n, uint32_t q, uint32_t m, uint32_t b,
                         const uint8_t *word, size_t word_len,
                         uint8_t *message, size_t message_len,
                         uint8_t *starts, size_t starts_len);
+
+/* ---- In libexports.a alone ---- */
+
+/* How many bytes the payload of a job has, the job number's 4 included: K of the figures. BURGZEMI_NO_LENGTH where burgzemi_message_len answers it. */
+uint32_t burgzemi_payload_len(uint32_t n, uint32_t q, uint32_t m, uint32_t b);
+
+/*
+ * Writes the word of a placement, given by its m starts of 2 bytes each, and of a message of k symbols into `word`, of n bytes.
+ *
+ * Refusals: 1 and 2 for the figures; 3 where starts_len is not 2 * m, message_len not k or word_len not n; 5 for starts too close, descending or past
+ * the end; 4 for a symbol of q or more.
+ */
+uint8_t burgzemi_encode(uint32_t n, uint32_t q, uint32_t m, uint32_t b,
+                        const uint8_t *starts, size_t starts_len,
+                        const uint8_t *message, size_t message_len,
+                        uint8_t *word, size_t word_len);
+
+/*
+ * Puts the starts of the placement of least rank whose bursts cover every defect into `starts`, 2 bytes each. `map` has n bytes, 1 where a position is
+ * defective and 0 elsewhere.
+ *
+ * Refusals: 1 and 2 for the figures; 3 where map_len is not n or starts_len not 2 * m; 4 for a byte above 1; 6 where no placement covers the map.
+ */
+uint8_t burgzemi_cover(uint32_t n, uint32_t q, uint32_t m, uint32_t b,
+                       const uint8_t *map, size_t map_len,
+                       uint8_t *starts, size_t starts_len);
+
+/*
+ * Makes a call on the job table, which then holds what it has afterwards: letter 'O' opens the number, 'C' cancels it, 'F' finishes it.
+ *
+ * Refusals: 3 where table_len is not BURGZEMI_TABLE_LEN; 11 for another letter; 1 for a state above 2 or one number in two slots; then
+ * 12 13 15 for opening, 12 15 for cancelling, 12 14 for finishing.
+ */
+uint8_t burgzemi_call(uint8_t *table, size_t table_len, uint8_t letter, uint32_t number);
+
+/*
+ * Writes a job's payload of K bytes, which begin with its number, high byte first, into `word`, of n bytes. The job must be open.
+ *
+ * Refusals: 1 for the figures and for the slots of a table of BURGZEMI_TABLE_LEN bytes, as above; 2 for the figures; 10 where K is below 5; 3 where
+ * table_len is not BURGZEMI_TABLE_LEN, starts_len not 2 * m, payload_len not K or word_len not n; 5 for the starts; 12 and 14 for the job.
+ */
+uint8_t burgzemi_job_write(uint32_t n, uint32_t q, uint32_t m, uint32_t b,
+                           const uint8_t *table, size_t table_len,
+                           const uint8_t *starts, size_t starts_len,
+                           const uint8_t *payload, size_t payload_len,
+                           uint8_t *word, size_t word_len);
+
+/*
+ * Reads a found word of n symbols and puts the payload that it carries into `payload`, of K bytes. Its job must be open.
+ *
+ * Refusals: 1, 2 and 10 as for writing; 3 where table_len is not BURGZEMI_TABLE_LEN, word_len not n or payload_len not K; 4 7 8 9 for the word; 10 for
+ * a message that spells no payload; 12 and 14 for the job.
+ */
+uint8_t burgzemi_job_read(uint32_t n, uint32_t q, uint32_t m, uint32_t b,
+                          const uint8_t *table, size_t table_len,
+                          const uint8_t *word, size_t word_len,
+                          uint8_t *payload, size_t payload_len);
 
 #ifdef __cplusplus
 }

@@ -19,7 +19,7 @@ use refusals::Refusal;
 
 mod agree;
 pub mod exported;
-mod starts;
+pub mod starts;
 mod taking;
 
 // What a found word is answered with: its rank where it is accepted, or the refusal.

@@ -33,7 +33,7 @@ pub fn decode_bytes(layout: Layout, word: &[u8], message: &mut [u8], starts: &mu
 }
 
 // The starts in use as bytes.
-fn put_starts(at: Placement, bytes: &mut [u8])
+pub fn put_starts(at: Placement, bytes: &mut [u8])
     requires { ⌜ (at .count ≤ maxBursts) × (length (now bytes) ≡ 2 * at .count) ⌝ }
     ensures { λ _. ⌜ now (bytes .exit) ≡ startBytes (startsIn at) ⌝ }
 {

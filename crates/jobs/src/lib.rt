@@ -254,7 +254,8 @@ fn all_letters(letters: &[u8]) -> bool
     true
 }
 
-fn is_letter(letter: u8) -> bool
+// Whether a call has this letter.
+pub fn is_letter(letter: u8) -> bool
     ensures { λ r. ⌜ r ≡ isLetter letter ⌝ }
 {
     match letter {

@@ -13,11 +13,11 @@ pub record Measured (q width count : ℕ) (message : List ℕ) : Type 0 where
   pub width-is : width ≡ byteWidth q
   pub count-is : count ≡ payloadLen q (length message)
 
--- a byte that so many symbols can spell
-pub record Spellable (q byte width : ℕ) : Type 0 where
+-- a number that so many symbols can spell
+pub record Spellable (q value width : ℕ) : Type 0 where
   pub alphabet : 2 ≤ q
   pub bytes : q ≤ maxAlphabet
-  pub below : byte < q ^ width
+  pub below : value < q ^ width
 
 -- symbols enough, and no more than a byte can take
 pub record Valued (q width : ℕ) (symbols : List ℕ) : Type 0 where

@@ -1,4 +1,4 @@
--- `spell_byte` meets its contract: the symbols from i on are made. Assumes nothing.
+-- `spell_value` meets its contract: the symbols from i on are made. Assumes nothing.
 use mathlib.Core.Path.{_≡_, refl, subst}
 use Prim.Native.Nat.{ℕ, _≤_}
 use native.Mathlib.Nat.{mod-lt}
@@ -6,19 +6,19 @@ use native.Mathlib.Omega.{arith}
 use borrow.Author.Needs.{needs}
 use lib.ListN.{length}
 use Rattle.payloads.proofs.Spelling.{Made, made-none, made-turn, made-all}
-use Rattle.payloads.proofs.spell_byte.Statement.{statement}
-use Rattle.payloads.proofs.spell_byte.Tie as tie
+use Rattle.payloads.proofs.spell_value.Statement.{statement}
+use Rattle.payloads.proofs.spell_value.Tie as tie
 
 abbrev Inv-loop : tie.InvT-loop
-Inv-loop q byte symbols₀ left₀ i₀ symbols left i = (i ≤ length symbols₀) × Made q (length symbols₀) byte i left symbols
+Inv-loop q value symbols₀ left₀ i₀ symbols left i = (i ≤ length symbols₀) × Made q (length symbols₀) value i left symbols
 
 abbrev μ-loop : tie.MeasureT-loop
-μ-loop q byte symbols₀ left₀ i₀ symbols left i = i
+μ-loop q value symbols₀ left₀ i₀ symbols left i = i
 
 loop-holds : tie.Need-loop-holds Inv-loop μ-loop
 loop-holds c =
     let a = c .args in
-    (omega arith, made-none (a .q) (length (a .symbols .now)) (a .byte) (c .pre .alphabet) (a .symbols .now) refl (c .pre .below))
+    (omega arith, made-none (a .q) (length (a .symbols .now)) (a .value) (c .pre .alphabet) (a .symbols .now) refl (c .pre .below))
 
 sub-i : tie.Need-sub-i Inv-loop μ-loop
 sub-i c = search needs
@@ -43,7 +43,7 @@ loop-again c =
     let s = c .before .before in
     let a = s .args in
     let t = c .before .loop in
-    (omega arith, made-turn (a .q) (length (a .symbols .now)) (a .byte) (s .pre .alphabet) (t .i) (t .left) (t .symbols) (omega arith) (t .inv .0) (t .inv .1))
+    (omega arith, made-turn (a .q) (length (a .symbols .now)) (a .value) (s .pre .alphabet) (t .i) (t .left) (t .symbols) (omega arith) (t .inv .0) (t .inv .1))
 
 same-length : tie.Need-same-length Inv-loop μ-loop
 same-length c = c .before .loop .inv .1 .size
@@ -54,11 +54,11 @@ returns c =
     let a = s .args in
     let t = c .before .loop in
     let e : t .i ≡ 0 = omega arith in
-    made-all (a .q) (length (a .symbols .now)) (a .byte) (s .pre .alphabet) (t .left) (t .symbols)
-    (subst (λ (x : ℕ). Made (a .q) (length (a .symbols .now)) (a .byte) x (t .left) (t .symbols)) e (t .inv .1))
+    made-all (a .q) (length (a .symbols .now)) (a .value) (s .pre .alphabet) (t .left) (t .symbols)
+    (subst (λ (x : ℕ). Made (a .q) (length (a .symbols .now)) (a .value) x (t .left) (t .symbols)) e (t .inv .1))
 
-pub spell-byte-spec : {M : Type 1} → statement M
-spell-byte-spec =
+pub spell-value-spec : {M : Type 1} → statement M
+spell-value-spec =
     tie.close
     (tie.spec
     Inv-loop

@@ -1,0 +1,250 @@
+/* Calls the functions of libexports.a on document 01's bench strips and its transfer example, and sees that each refusal comes in its place and leaves
+ * every buffer as it was. Ends with 0 where all is right. */
+#include "burgzemi.h"
+
+#include <stdio.h>
+#include <string.h>
+
+static int wrong;
+
+/* The answer that is wanted, and the bytes that a buffer should then hold. */
+static void see(const char *what, unsigned answer, unsigned wanted, const uint8_t *buffer, const uint8_t *expected, size_t len)
+{
+    if (answer != wanted || memcmp(buffer, expected, len) != 0) {
+        printf("exports: %s: answer %u, wanted %u, buffer %s\n", what, answer, wanted, memcmp(buffer, expected, len) == 0 ? "as it should be" : "other");
+        wrong = 1;
+    }
+}
+
+static void length(const char *what, uint32_t got, uint32_t wanted)
+{
+    if (got != wanted) {
+        printf("exports: %s: length %u, wanted %u\n", what, (unsigned)got, (unsigned)wanted);
+        wrong = 1;
+    }
+}
+
+/* A buffer that holds what no function writes into one of its kind as a whole. */
+static const uint8_t untouched[64] = {
+    0xA5, 0x5A, 0xA5, 0x5A, 0xA5, 0x5A, 0xA5, 0x5A, 0xA5, 0x5A, 0xA5, 0x5A, 0xA5, 0x5A, 0xA5, 0x5A,
+    0xA5, 0x5A, 0xA5, 0x5A, 0xA5, 0x5A, 0xA5, 0x5A, 0xA5, 0x5A, 0xA5, 0x5A, 0xA5, 0x5A, 0xA5, 0x5A,
+    0xA5, 0x5A, 0xA5, 0x5A, 0xA5, 0x5A, 0xA5, 0x5A, 0xA5, 0x5A, 0xA5, 0x5A, 0xA5, 0x5A, 0xA5, 0x5A,
+    0xA5, 0x5A, 0xA5, 0x5A, 0xA5, 0x5A, 0xA5, 0x5A, 0xA5, 0x5A, 0xA5, 0x5A, 0xA5, 0x5A, 0xA5, 0x5A,
+};
+
+/* ---- Word write: n 30, q 2, m 1, b 3; start 12, message all 1 */
+
+static const uint8_t first_word[30] = {0, 1, 1, 1, 1, 1, 1, 1, 1, 1, 1, 1, 0, 0, 0, 1, 1, 1, 1, 1, 1, 0, 1, 1, 0, 0, 1, 1, 1, 1};
+
+static void first_strip(const char *what, unsigned wanted, uint32_t q, uint32_t b, uint16_t start, size_t starts_len, uint8_t last, size_t message_len, size_t word_len)
+{
+    uint8_t starts[4] = {(uint8_t)(start >> 8), (uint8_t)start, 0, 0}, message[24], word[64];
+    memset(message, 1, sizeof message);
+    message[19] = last;
+    memcpy(word, untouched, sizeof word);
+    unsigned answer = burgzemi_encode(30, q, 1, b, starts, starts_len, message, message_len, word, word_len);
+    see(what, answer, wanted, word, wanted == BURGZEMI_SERVED ? first_word : untouched, 30);
+    see(what, answer, wanted, word + 30, untouched + 30, sizeof word - 30);
+}
+
+static void words(void)
+{
+    first_strip("first strip", BURGZEMI_SERVED, 2, 3, 12, 2, 1, 20, 30);
+    first_strip("q of 1", BURGZEMI_INVALID, 1, 6, 12, 1, 2, 21, 29);
+    first_strip("b of 6", BURGZEMI_UNFIT, 2, 6, 12, 1, 2, 21, 29);
+    first_strip("starts short", BURGZEMI_LENGTH, 2, 3, 28, 1, 2, 20, 30);
+    first_strip("starts odd", BURGZEMI_LENGTH, 2, 3, 28, 3, 2, 20, 30);
+    first_strip("starts long", BURGZEMI_LENGTH, 2, 3, 12, 4, 1, 20, 30);
+    first_strip("no starts", BURGZEMI_LENGTH, 2, 3, 12, 0, 1, 20, 30);
+    first_strip("message long", BURGZEMI_LENGTH, 2, 3, 12, 2, 1, 21, 30);
+    first_strip("word long", BURGZEMI_LENGTH, 2, 3, 12, 2, 1, 20, 31);
+    first_strip("start past the end, a symbol of 2", BURGZEMI_STARTS, 2, 3, 28, 2, 2, 20, 30);
+    first_strip("start of two bytes", BURGZEMI_STARTS, 2, 3, 256 + 12, 2, 1, 20, 30);
+    first_strip("a symbol of 2", BURGZEMI_SYMBOL, 2, 3, 12, 2, 2, 20, 30);
+
+    /* Two bursts; the index blocks begin 1 0 0 and 3 3 0. */
+    static const uint8_t second_word[61] = "111111110000000011111001111111330111111101111111110111111111";
+    uint8_t starts[4] = {0, 8, 0, 12}, message[44], word[60], expected[60];
+    memset(message, 1, sizeof message);
+    for (int i = 0; i < 60; i++)
+        expected[i] = (uint8_t)(second_word[i] - '0');
+    see("starts 8 and 12", burgzemi_encode(60, 4, 2, 4, starts, 4, message, 44, word, 60), BURGZEMI_SERVED, word, expected, 60);
+    starts[3] = 11;
+    see("starts 8 and 11", burgzemi_encode(60, 4, 2, 4, starts, 4, message, 44, word, 60), BURGZEMI_STARTS, word, expected, 60);
+    static const uint8_t least_word[3] = {0, 1, 0};
+    starts[1] = 0;
+    see("no message", burgzemi_encode(3, 4, 1, 1, starts, 2, message, 0, word, 3), BURGZEMI_SERVED, word, least_word, 3);
+    see("q of 3", burgzemi_encode(3, 3, 1, 1, starts, 2, message, 0, word, 3), BURGZEMI_UNFIT, word, least_word, 3);
+
+    length("message", burgzemi_message_len(30, 2, 1, 3), 20);
+    length("payload of the first strip", burgzemi_payload_len(30, 2, 1, 3), 2);
+    length("payload of the transfer example", burgzemi_payload_len(15, 256, 1, 2), 11);
+    length("payload of no message", burgzemi_payload_len(3, 4, 1, 1), 0);
+    length("payload of b 6", burgzemi_payload_len(30, 2, 1, 6), BURGZEMI_NO_LENGTH);
+    length("payload of m 7", burgzemi_payload_len(30, 2, 7, 3), BURGZEMI_NO_LENGTH);
+}
+
+/* ---- Covering: n 30, q 2, m 1, b 3 */
+
+static void covering(const char *what, unsigned wanted, uint32_t b, int one, int other, uint8_t worn, size_t map_len, size_t starts_len, uint8_t start)
+{
+    uint8_t map[32] = {0}, starts[4], expected[4];
+    if (one >= 0)
+        map[one] = worn;
+    if (other >= 0)
+        map[other] = worn;
+    memcpy(starts, untouched, sizeof starts);
+    memcpy(expected, untouched, sizeof expected);
+    unsigned answer = burgzemi_cover(30, 2, 1, b, map, map_len, starts, starts_len);
+    if (wanted == BURGZEMI_SERVED) {
+        expected[0] = 0;
+        expected[1] = start;
+    }
+    see(what, answer, wanted, starts, expected, sizeof starts);
+}
+
+static void maps(void)
+{
+    covering("27 and 29", BURGZEMI_SERVED, 3, 27, 29, 1, 30, 2, 27);
+    covering("no worn position", BURGZEMI_SERVED, 3, -1, -1, 1, 30, 2, 0);
+    covering("12", BURGZEMI_SERVED, 3, 12, -1, 1, 30, 2, 10);
+    covering("26 and 29", BURGZEMI_UNCOVERED, 3, 26, 29, 1, 30, 2, 0);
+    covering("26 and 29 with bytes of 2", BURGZEMI_SYMBOL, 3, 26, 29, 2, 30, 2, 0);
+    covering("map long", BURGZEMI_LENGTH, 3, 26, 29, 2, 31, 2, 0);
+    covering("starts long", BURGZEMI_LENGTH, 3, 26, 29, 2, 30, 4, 0);
+    covering("starts short", BURGZEMI_LENGTH, 3, 27, 29, 1, 30, 1, 0);
+    covering("b of 6", BURGZEMI_UNFIT, 6, 26, 29, 2, 31, 3, 0);
+    covering("b of 0", BURGZEMI_INVALID, 0, 26, 29, 2, 31, 3, 0);
+}
+
+/* ---- Calls on a table, and jobs */
+
+static void set_slot(uint8_t *table, int i, uint8_t state, uint32_t number)
+{
+    uint8_t slot[5] = {state, (uint8_t)(number >> 24), (uint8_t)(number >> 16), (uint8_t)(number >> 8), (uint8_t)number};
+    memcpy(table + 5 * i, slot, 5);
+}
+
+static void calls(void)
+{
+    uint8_t table[BURGZEMI_TABLE_LEN] = {0}, expected[BURGZEMI_TABLE_LEN] = {0};
+#define CALL(what, letter, number, wanted) see(what, burgzemi_call(table, sizeof table, letter, number), wanted, table, expected, sizeof table)
+    for (uint32_t n = 1; n <= 64; n++) {
+        set_slot(expected, (int)n - 1, 1, n);
+        CALL("1 to 64 opened", 'O', n, BURGZEMI_SERVED);
+    }
+    CALL("65 opened", 'O', 65, BURGZEMI_FULL);
+    CALL("65 cancelled", 'C', 65, BURGZEMI_FULL);
+    CALL("64 opened again", 'O', 64, BURGZEMI_ALREADY_OPEN);
+    set_slot(expected, 0, 0, 0);
+    CALL("1 finished", 'F', 1, BURGZEMI_SERVED);
+    CALL("1 finished again", 'F', 1, BURGZEMI_NOT_OPEN);
+    set_slot(expected, 0, 1, 65);
+    CALL("65 opened in the free slot", 'O', 65, BURGZEMI_SERVED);
+    set_slot(expected, 1, 2, 2);
+    CALL("2 cancelled", 'C', 2, BURGZEMI_SERVED);
+    CALL("2 opened", 'O', 2, BURGZEMI_CANCELLED);
+    CALL("2 finished", 'F', 2, BURGZEMI_CANCELLED);
+    CALL("small o", 'o', 2, BURGZEMI_RECORD);
+
+    memset(table, 0, sizeof table);
+    memset(expected, 0, sizeof expected);
+    set_slot(expected, 0, 2, 9);
+    CALL("unknown 9 cancelled", 'C', 9, BURGZEMI_SERVED);
+    CALL("9 opened", 'O', 9, BURGZEMI_CANCELLED);
+    set_slot(expected, 1, 1, 0xFEDCBA98);
+    CALL("a number of four bytes", 'O', 0xFEDCBA98, BURGZEMI_SERVED);
+
+    set_slot(table, 63, 1, 9);
+    set_slot(expected, 63, 1, 9);
+    CALL("9 in two slots", 'O', 10, BURGZEMI_INVALID);
+    set_slot(table, 63, 3, 10);
+    set_slot(expected, 63, 3, 10);
+    CALL("a state of 3", 'O', 10, BURGZEMI_INVALID);
+    CALL("a state of 3 and no letter", 'X', 10, BURGZEMI_RECORD);
+#undef CALL
+    see("a byte short", burgzemi_call(table, sizeof table - 1, 'X', 10), BURGZEMI_LENGTH, table, expected, sizeof table);
+    see("no table", burgzemi_call(table, 0, 'O', 10), BURGZEMI_LENGTH, table, expected, sizeof table);
+}
+
+/* The transfer example: n 15, q 256, m 1, b 2; start 6, job 7. */
+static const uint8_t payload7[11] = {0, 0, 0, 7, 0x41, 0x42, 0x43, 0x44, 0x45, 0x46, 0x47};
+static const uint8_t written7[15] = {0, 0, 0, 0, 7, 0x41, 0, 0, 0x42, 0x43, 7, 0x44, 0x45, 0x46, 0x47};
+static const uint8_t found7[15] = {0, 0, 0, 0, 7, 0x41, 0xFF, 0xFF, 0x42, 0x43, 7, 0x44, 0x45, 0x46, 0x47};
+
+static void write7(const char *what, unsigned wanted, uint32_t q, uint32_t b, const uint8_t *table, size_t table_len, uint8_t start, size_t starts_len, size_t payload_len, size_t word_len)
+{
+    uint8_t starts[4] = {0, start, 0, 0}, word[16];
+    memcpy(word, untouched, sizeof word);
+    unsigned answer = burgzemi_job_write(15, q, 1, b, table, table_len, starts, starts_len, payload7, payload_len, word, word_len);
+    see(what, answer, wanted, word, wanted == BURGZEMI_SERVED ? written7 : untouched, 15);
+}
+
+static void read7(const char *what, unsigned wanted, uint32_t q, uint32_t b, const uint8_t *table, size_t table_len, const uint8_t *word, size_t word_len, size_t payload_len)
+{
+    uint8_t payload[16];
+    memcpy(payload, untouched, sizeof payload);
+    unsigned answer = burgzemi_job_read(15, q, 1, b, table, table_len, word, word_len, payload, payload_len);
+    see(what, answer, wanted, payload, wanted == BURGZEMI_SERVED ? payload7 : untouched, 11);
+}
+
+static void transfer_example(void)
+{
+    uint8_t table[BURGZEMI_TABLE_LEN] = {0}, empty[BURGZEMI_TABLE_LEN] = {0}, word[16];
+    size_t len = sizeof table;
+    if (burgzemi_call(table, len, 'O', 7) != BURGZEMI_SERVED)
+        wrong = 1;
+    write7("job 7 written", BURGZEMI_SERVED, 256, 2, table, len, 6, 2, 11, 15);
+    read7("job 7 read", BURGZEMI_SERVED, 256, 2, table, len, found7, 15, 11);
+    write7("job 7 not open, written", BURGZEMI_NOT_OPEN, 256, 2, empty, len, 6, 2, 11, 15);
+    read7("job 7 not open, read", BURGZEMI_NOT_OPEN, 256, 2, empty, len, found7, 15, 11);
+
+    /* 1 2 10 3 5, each beside what would be refused later */
+    write7("q of 257, written", BURGZEMI_INVALID, 257, 9, empty, len, 14, 1, 4, 14);
+    write7("b of 9, written", BURGZEMI_UNFIT, 256, 9, empty, len - 1, 14, 1, 4, 14);
+    write7("three symbols for a byte, written", BURGZEMI_PAYLOAD, 15, 2, empty, 0, 14, 1, 4, 14);
+    write7("table short, written", BURGZEMI_LENGTH, 256, 2, table, len - 1, 14, 2, 11, 15);
+    write7("starts odd, written", BURGZEMI_LENGTH, 256, 2, empty, len, 14, 3, 11, 15);
+    write7("payload short, written", BURGZEMI_LENGTH, 256, 2, empty, len, 14, 2, 10, 15);
+    write7("word short, written", BURGZEMI_LENGTH, 256, 2, empty, len, 14, 2, 11, 14);
+    write7("past the end, written", BURGZEMI_STARTS, 256, 2, empty, len, 14, 2, 11, 15);
+
+    /* 1 2 10 3 4 7 and 10 */
+    read7("q of 257, read", BURGZEMI_INVALID, 257, 9, empty, len, found7, 14, 10);
+    read7("b of 9, read", BURGZEMI_UNFIT, 256, 9, empty, len, found7, 14, 10);
+    read7("three symbols for a byte, read", BURGZEMI_PAYLOAD, 15, 2, empty, 1, found7, 14, 10);
+    read7("table short, read", BURGZEMI_LENGTH, 256, 2, table, len - 1, found7, 15, 11);
+    read7("word short, read", BURGZEMI_LENGTH, 256, 2, table, len, found7, 14, 11);
+    read7("payload short, read", BURGZEMI_LENGTH, 256, 2, table, len, found7, 15, 10);
+    memset(word, 1, sizeof word);
+    read7("no pattern", BURGZEMI_PATTERN, 256, 2, empty, len, word, 15, 11);
+
+    /* A state of 3 is 1, but not in a table of another length. */
+    uint8_t unknown[BURGZEMI_TABLE_LEN];
+    memcpy(unknown, table, len);
+    unknown[315] = 3;
+    write7("a state of 3, written", BURGZEMI_INVALID, 256, 9, unknown, len, 14, 1, 4, 14);
+    read7("a state of 3, read", BURGZEMI_INVALID, 256, 9, unknown, len, word, 14, 10);
+    memcpy(unknown, table, len);
+    set_slot(unknown, 40, 2, 7);
+    write7("7 in two slots, written", BURGZEMI_INVALID, 256, 9, unknown, len, 14, 1, 4, 14);
+    read7("7 in two slots, read", BURGZEMI_INVALID, 256, 9, unknown, len, word, 14, 10);
+    write7("7 in two slots of a short table", BURGZEMI_LENGTH, 256, 2, unknown, len - 1, 6, 2, 11, 15);
+    read7("7 in two slots of a short table", BURGZEMI_LENGTH, 256, 2, unknown, len - 1, found7, 15, 11);
+
+    if (burgzemi_call(table, len, 'C', 7) != BURGZEMI_SERVED)
+        wrong = 1;
+    write7("job 7 cancelled, written", BURGZEMI_CANCELLED, 256, 2, table, len, 6, 2, 11, 15);
+    read7("job 7 cancelled, read", BURGZEMI_CANCELLED, 256, 2, table, len, found7, 15, 11);
+    if (burgzemi_call(table, len, 'O', 7) != BURGZEMI_CANCELLED)
+        wrong = 1;
+}
+
+int main(void)
+{
+    words();
+    maps();
+    calls();
+    transfer_example();
+    return wrong;
+}

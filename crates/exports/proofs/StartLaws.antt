@@ -1,0 +1,78 @@
+-- Laws of starts in bytes: written and read back they are the same, and how a loop reads them. Assumes nothing.
+use mathlib.Core.Path.{_≡_, refl, sym, ap, _∙_}
+use mathlib.Core.Bool.{true, _&&_}
+use mathlib.Core.List.{List, [], _∷_, _++_}
+use Prim.Native.Nat.{ℕ, zero, suc, _+_, _-_, _*_, _/_, _%_, _<_}
+use native.Mathlib.Numerals.{add-one}
+use native.Mathlib.Omega.{arith}
+use borrow.Author.Tests.{leb-true}
+use lib.Dec.{ltb}
+use lib.ListN.{length, getD, take, set, replicate}
+use lib.Seq.{append-snoc, length-take-le, set-at, take-all, take-suc}
+use Rattle.combinatorics.specs.Lists.{all, allBelow}
+use Rattle.combinatorics.proofs.Lists.{both}
+use Rattle.cells.specs.Bytes.{byteValues}
+use Rattle.construction_a.specs.Figures.{maxBursts}
+use Rattle.construction_a.specs.Outcomes.{held}
+use Rattle.decoder.specs.Exported.{startBytes}
+use Rattle.exports.specs.Starts.{startsFrom}
+
+-- ---- There and back
+
+pub starts-back : (ss : List ℕ) → startsFrom (startBytes ss) ≡ ss
+unfolding startsFrom startBytes
+starts-back [] = refl
+starts-back (s ∷ ss) =
+    let e : s / byteValues * byteValues + s % byteValues ≡ s = omega arith in
+    rw (e, starts-back ss)
+
+-- two numbers of one byte each
+high-byte : (x y : ℕ) → y < byteValues → (x * byteValues + y) / byteValues ≡ x
+high-byte x y h = omega arith
+
+low-byte : (x y : ℕ) → y < byteValues → (x * byteValues + y) % byteValues ≡ y
+low-byte x y h = omega arith
+
+pub bytes-back : (bs : List ℕ) (m : ℕ) → length bs ≡ 2 * m → allBelow byteValues bs ≡ true → startBytes (startsFrom bs) ≡ bs
+unfolding startsFrom startBytes all
+bytes-back [] m e h = refl
+bytes-back (x ∷ []) m e h = absurd (omega arith)
+bytes-back (x ∷ y ∷ bs) zero e h = absurd (omega arith)
+bytes-back (x ∷ y ∷ bs) (suc m) e h =
+    let b = both (ltb x byteValues) (ltb y byteValues && allBelow byteValues bs) h in
+    let d = both (ltb y byteValues) (allBelow byteValues bs) (b .1) in
+    let l : y < byteValues = leb-true (suc y) byteValues (d .0) in
+    rw (high-byte x y l, low-byte x y l, bytes-back bs m (omega arith) (d .1))
+
+-- ---- As a loop reads them
+
+pub length-starts : (bs : List ℕ) (m : ℕ) → length bs ≡ 2 * m → length (startsFrom bs) ≡ m
+unfolding startsFrom
+length-starts [] m e = omega arith
+length-starts (x ∷ []) m e = absurd (omega arith)
+length-starts (x ∷ y ∷ bs) zero e = absurd (omega arith)
+length-starts (x ∷ y ∷ bs) (suc m) e = ap suc (length-starts bs m (omega arith))
+
+pub start-at : (bs : List ℕ) (j : ℕ) → 2 * j + 1 < length bs → getD (startsFrom bs) j 0 ≡ getD bs (2 * j) 0 * byteValues + getD bs (2 * j + 1) 0
+unfolding startsFrom
+start-at [] j h = absurd (omega arith)
+start-at (x ∷ []) j h = absurd (omega arith)
+start-at (x ∷ y ∷ bs) zero h = refl
+start-at (x ∷ y ∷ bs) (suc j) h =
+    let d : 2 * suc j + 1 ≡ suc (suc (2 * j + 1)) = omega arith in
+    let e : 2 * suc j ≡ suc (suc (2 * j)) = omega arith in
+    rw (d, e) (start-at bs j (omega arith))
+
+-- the first j starts, and 0 in the other places
+abbrev pub begun : List ℕ → ℕ → List ℕ
+begun ss j = take j ss ++ replicate (maxBursts - j) 0
+
+pub begun-next : (ss : List ℕ) (j : ℕ) → j < length ss → j < maxBursts → set (begun ss j) j (getD ss j 0) ≡ begun ss (j + 1)
+begun-next ss j h k =
+    let z : maxBursts - j ≡ suc (maxBursts - suc j) = omega arith in
+    rw (add-one j, z, take-suc ss j 0 h)
+    (set-at (take j ss) 0 (replicate (maxBursts - suc j) 0) (getD ss j 0) j (length-take-le j ss (omega arith))
+    ∙ sym (append-snoc (take j ss) (getD ss j 0) (replicate (maxBursts - suc j) 0)))
+
+pub begun-all : (ss : List ℕ) (m : ℕ) → length ss ≡ m → record { starts = begun ss m; count = m } ≡ held ss
+begun-all ss m e = rw (e, take-all m ss (omega arith))

@@ -1,0 +1,59 @@
+-- `put_entry` meets its contract. Assumes nothing.
+use mathlib.Core.Path.{sym, ap, _∙_}
+use borrow.Author.Needs.{needs}
+use Rattle.exports.specs.Table.{entryBytes}
+use Rattle.exports.proofs.table.put_entry.Statement.{statement}
+use Rattle.exports.proofs.table.put_entry.Tie as tie
+
+enum-told : tie.Need-enum-told
+enum-told c = search needs
+
+put-slot-requires : tie.Need-put-slot-requires
+put-slot-requires c κs = search needs
+
+enum-known-entry : tie.Need-enum-known-entry
+enum-known-entry c = search needs
+
+put-slot-requires-2 : tie.Need-put-slot-requires-2
+put-slot-requires-2 c κs = search needs
+
+enum-known-entry-2 : tie.Need-enum-known-entry-2
+enum-known-entry-2 c = search needs
+
+put-slot-requires-3 : tie.Need-put-slot-requires-3
+put-slot-requires-3 c κs = search needs
+
+same-length : tie.Need-same-length
+same-length c = search needs
+
+returns : tie.Need-returns
+returns c = c .before .before .put-slot .ensures ∙ sym (ap entryBytes (c .before .before .before .before .enum-told .given .1))
+
+same-length-2 : tie.Need-same-length-2
+same-length-2 c = search needs
+
+returns-2 : tie.Need-returns-2
+returns-2 c = c .before .before .put-slot2 .ensures ∙ sym (ap entryBytes (c .before .before .before .before .before .entry .given .1))
+
+same-length-3 : tie.Need-same-length-3
+same-length-3 c = search needs
+
+returns-3 : tie.Need-returns-3
+returns-3 c = c .before .before .put-slot3 .ensures ∙ sym (ap entryBytes (c .before .before .before .before .before .entry2 .given .1))
+
+pub put-entry-spec : {M : Type 1} → statement M
+put-entry-spec =
+    tie.close
+    (tie.spec
+    enum-told
+    put-slot-requires
+    enum-known-entry
+    put-slot-requires-2
+    enum-known-entry-2
+    put-slot-requires-3
+    same-length
+    returns
+    same-length-2
+    returns-2
+    same-length-3
+    returns-3)

@@ -1,0 +1,43 @@
+-- 'Demand 3 in these terms', the part about the list of calls, for a table in bytes: made one after the other on 320 bytes of 0, the calls answer as the
+-- ledger does. Assumes nothing.
+use mathlib.Core.Path.{_≡_}
+use mathlib.Core.Bool.{Bool, true}
+use mathlib.Core.List.{List, [], _∷_}
+use Prim.Native.Nat.{ℕ, _^_}
+use lib.Dec.{ltb}
+use lib.ListN.{replicate}
+use Rattle.combinatorics.specs.Lists.{all}
+use Rattle.cells.specs.Bytes.{byteValues}
+use Rattle.jobs.specs.Jobs.{Kind, opening, cancelling, finishing, Call}
+use Rattle.jobs.specs.Simulation.{Follows}
+use Rattle.exports.specs.Table.{tableLen, tableIn}
+use Rattle.exports.specs.Jobs.{CallLent, callBytesOut}
+
+-- "O (open), C (cancel), F (finish)"
+abbrev pub letterOf : Kind → ℕ
+letterOf opening = 79
+letterOf cancelling = 67
+letterOf finishing = 70
+
+abbrev pub callOn : List ℕ → Call → CallLent
+callOn bytes c = callBytesOut bytes (letterOf (c .kind)) (c .number)
+
+-- the answers of the calls, each given the bytes that the one before left
+unfoldable pub answersOn : List ℕ → List Call → List ℕ
+answersOn bytes [] = []
+answersOn bytes (c ∷ cs) = callOn bytes c .answer ∷ answersOn (callOn bytes c .table) cs
+
+-- the bytes that the last one leaves
+unfoldable pub bytesAfter : List ℕ → List Call → List ℕ
+bytesAfter bytes [] = bytes
+bytesAfter bytes (c ∷ cs) = bytesAfter (callOn bytes c .table) cs
+
+abbrev pub emptyBytes : List ℕ
+emptyBytes = replicate tableLen 0
+
+-- a job number has 32 bits
+abbrev pub numbered : Call → Bool
+numbered c = ltb (c .number) (byteValues ^ 4)
+
+abbrev pub BytesFollow : Type 0
+BytesFollow = (calls : List Call) → all numbered calls ≡ true → Follows [] calls (answersOn emptyBytes calls) (tableIn (bytesAfter emptyBytes calls))

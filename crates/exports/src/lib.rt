@@ -1,0 +1,165 @@
+// The entry points for programs in other languages, on figures as numbers and lent bytes. Each answers 0 or the refusal, which leaves every lent
+// buffer as it was. Assumes nothing.
+ghost use mathlib.Core.Path.{_≡_};
+ghost use Rattle.construction_a.specs.Figures.{params};
+ghost use Rattle.construction_a.specs.Outcomes.{unwritten};
+ghost use Rattle.decoder.specs.Exported.{lentAs, exportedOut, messageLenOut};
+ghost use Rattle.jobcodec.specs.Given.{seen};
+ghost use Rattle.exports.specs.Words.{encodeBytesOut, covers, coverBytesOut, payloadLenOut};
+ghost use Rattle.exports.specs.Jobs.{called, callBytesOut, jobWriteBytesOut, jobReadBytesOut};
+use decoder::exported;
+use params::LayoutAnswer;
+use params::Params;
+use params::bytes;
+use refusals::Refusal;
+
+mod starts;
+mod table;
+
+// Word read, as the decoder has it: this archive is then the only one to link. Refusals: 1 2 3 4 7 8 9.
+#[no_mangle]
+pub extern "C" fn burgzemi_decode(
+    n: u32,
+    q: u32,
+    m: u32,
+    b: u32,
+    word: &[u8],
+    message: &mut [u8],
+    starts: &mut [u8],
+) -> u8
+    ensures { λ r. ⌜ lentAs r (now (message .exit)) (now (starts .exit)) ≡ exportedOut (params n q m b) (now (word .entry)) (now (message .entry)) (now (starts .entry)) ⌝ }
+{
+    exported::burgzemi_decode(n, q, m, b, word, message, starts)
+}
+
+// How many symbols a message has; NO_LENGTH for figures that are refused.
+#[no_mangle]
+pub extern "C" fn burgzemi_message_len(n: u32, q: u32, m: u32, b: u32) -> u32
+    ensures { λ r. ⌜ r ≡ messageLenOut (params n q m b) ⌝ }
+{
+    exported::burgzemi_message_len(n, q, m, b)
+}
+
+// How many bytes a payload has, the job number's four included; NO_LENGTH for figures that are refused.
+#[no_mangle]
+pub extern "C" fn burgzemi_payload_len(n: u32, q: u32, m: u32, b: u32) -> u32
+    ensures { λ r. ⌜ r ≡ payloadLenOut (params n q m b) ⌝ }
+{
+    let answer = Params::figures(n, q, m, b);
+    match answer {
+        LayoutAnswer::Refused(_) => exported::NO_LENGTH,
+        LayoutAnswer::Fit(layout) => bytes::payload_len(layout.q, layout.message_len) as u32,
+    }
+}
+
+// Word write: the word of a placement, whose starts are 2 bytes each and the high byte first, and of a message. Refusals: 1 2 3 5 4.
+#[no_mangle]
+pub extern "C" fn burgzemi_encode(
+    n: u32,
+    q: u32,
+    m: u32,
+    b: u32,
+    starts: &[u8],
+    message: &[u8],
+    word: &mut [u8],
+) -> u8
+    ensures { λ r. ⌜ unwritten (now (word .exit)) r ≡ encodeBytesOut (params n q m b) (now (starts .entry)) (now (message .entry)) (now (word .entry)) ⌝ }
+{
+    let figures = Params { n, q, m, b };
+    let at = starts::placement_from(starts, m);
+    encoder::encode(figures, at, message, word)
+}
+
+// Covering: the starts of the placement of least rank that covers the defect map. Refusals: 1 2 3 4 6.
+#[no_mangle]
+pub extern "C" fn burgzemi_cover(
+    n: u32,
+    q: u32,
+    m: u32,
+    b: u32,
+    map: &[u8],
+    starts: &mut [u8],
+) -> u8
+    ensures { λ r. ⌜ covers r (now (starts .exit)) ≡ coverBytesOut (params n q m b) (now (map .entry)) (now (starts .entry)) ⌝ }
+{
+    let figures = Params { n, q, m, b };
+    let answer = Params::figures(n, q, m, b);
+    match answer {
+        LayoutAnswer::Refused(number) => number,
+        LayoutAnswer::Fit(_) => starts::cover_bytes(figures, map, starts),
+    }
+}
+
+// A call on the job table: the letter O opens, C cancels, F finishes. Refusals: 3 for the table's length, 11 for another letter, 1 for a slot whose
+// state is none of the three; then the call's own.
+#[no_mangle]
+pub extern "C" fn burgzemi_call(table: &mut [u8], letter: u8, number: u32) -> u8
+    ensures { λ r. ⌜ called r (now (table .exit)) ≡ callBytesOut (now (table .entry)) letter number ⌝ }
+{
+    if table.len() != table::TABLE_LEN {
+        return Refusal::LENGTH;
+    }
+    if !jobs::is_letter(letter) {
+        return Refusal::RECORD;
+    }
+    if !table::states_known(table) {
+        return Refusal::INVALID;
+    }
+    let before = table::table_in(table);
+    let out = before.call(letter, number);
+    if out.answer != Refusal::NONE {
+        return out.answer;
+    }
+    table::put_table(out.table, table);
+    Refusal::NONE
+}
+
+// Job write: the word of a placement and a payload whose job the table has open. Refusals: 1 2 10 3 5 12 14.
+#[no_mangle]
+pub extern "C" fn burgzemi_job_write(
+    n: u32,
+    q: u32,
+    m: u32,
+    b: u32,
+    table: &[u8],
+    starts: &[u8],
+    payload: &[u8],
+    word: &mut [u8],
+) -> u8
+    ensures { λ r. ⌜ unwritten (now (word .exit)) r ≡ jobWriteBytesOut (params n q m b) (now (table .entry)) (now (starts .entry)) (now (payload .entry)) (now (word .entry)) ⌝ }
+{
+    let figures = Params { n, q, m, b };
+    if table.len() != table::TABLE_LEN {
+        return table::without_table(figures);
+    }
+    if !table::states_known(table) {
+        return Refusal::INVALID;
+    }
+    let at = starts::placement_from(starts, m);
+    let held = table::table_in(table);
+    jobcodec::job_write(figures, held, at, payload, word)
+}
+
+// Job read: the payload of a found word whose job the table has open. Refusals: 1 2, 10 for K, 3 4 7 8 9, 10, 12 14.
+#[no_mangle]
+pub extern "C" fn burgzemi_job_read(
+    n: u32,
+    q: u32,
+    m: u32,
+    b: u32,
+    table: &[u8],
+    word: &[u8],
+    payload: &mut [u8],
+) -> u8
+    ensures { λ r. ⌜ seen r (now (payload .exit)) ≡ jobReadBytesOut (params n q m b) (now (table .entry)) (now (word .entry)) (now (payload .entry)) ⌝ }
+{
+    let figures = Params { n, q, m, b };
+    if table.len() != table::TABLE_LEN {
+        return table::without_table(figures);
+    }
+    if !table::states_known(table) {
+        return Refusal::INVALID;
+    }
+    let held = table::table_in(table);
+    jobcodec::job_read(figures, held, word, payload)
+}
