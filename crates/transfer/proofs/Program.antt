@@ -3,8 +3,9 @@ use mathlib.Core.Path.{_≡_, refl, sym, ap, subst, _∙_}
 use mathlib.Core.Bool.{Bool, true, false, cond, false≢true, true≢false}
 use mathlib.Core.List.{List, [], _∷_, _++_}
 use mathlib.Core.Option.{Option, none, some}
-use Prim.Native.Nat.{ℕ, zero, suc, _+_, _≤_}
+use Prim.Native.Nat.{ℕ, zero, suc, _+_, _≤_, _<_}
 use native.Mathlib.Omega.{arith}
+use borrow.Author.Tests.{ltb-true}
 use lib.Dec.{eqb, ltb}
 use lib.ListN.{length, take, drop}
 use Rattle.refusals.specs.Refusals.{must}
@@ -57,6 +58,22 @@ module _ (s : Session) (bytes : List ℕ) where
   readable-goes : readable s bytes ≡ true → Goes s (serveOut s (letterOf bytes) bytes)
   unfolding readable
   readable-goes h = serve-goes (letterOf bytes) (both (isMarked bytes) (isWhole bytes (recordLen s (letterOf bytes))) h .1)
+
+-- a step that goes on serves a record that may still be served, and counts it
+pub step-counts : (s : Session) (bytes : List ℕ) → stepOut s bytes .stops ≡ false → (s .count < maxRecords) × (stepOut s bytes .next .count ≡ suc (s .count))
+unfolding stepOut
+step-counts s bytes = go (isEmpty bytes) (ltb (s .count) maxRecords) refl (readable s bytes) (λ r. readable-goes s bytes r)
+  where
+    served : Step
+    served = serveOut s (letterOf bytes) bytes
+
+    go : (a b : Bool) → ltb (s .count) maxRecords ≡ b → (c : Bool) → (c ≡ true → Goes s served)
+        → cond a (ended s) (must b (stopped s) (must c (stopped s) served)) .stops ≡ false
+        → (s .count < maxRecords) × (cond a (ended s) (must b (stopped s) (must c (stopped s) served)) .next .count ≡ suc (s .count))
+    go true b e c g h = absurd (true≢false h)
+    go false false e c g h = absurd (true≢false h)
+    go false true e false g h = absurd (true≢false h)
+    go false true e true g h = (ltb-true (s .count) maxRecords e, g refl .counted)
 
 -- ---- What is cut off is empty only at the end of input
 
