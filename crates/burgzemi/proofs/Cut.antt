@@ -43,9 +43,16 @@ module _ (s : Session) (w : List ℕ) where
   unfolding neededFor
   needed-unmarked e = rw e (either (ltb (length w) headLen))
 
-  needed-marked : headLen ≤ length w → isMarked w ≡ true → neededFor s w ≡ reach (recordLen s (letterOf w))
+  pub needed-marked : headLen ≤ length w → isMarked w ≡ true → neededFor s w ≡ reach (recordLen s (letterOf w))
   unfolding neededFor
   needed-marked h e = rw (le-ltb (length w) headLen h, e)
+
+  -- mark and letter at least
+  pub needed-least : headLen ≤ neededFor s w
+  needed-least =
+      by-le headLen (length w) (λ b. headLen ≤ neededFor s w)
+      (λ h. by-bool (isMarked w) (λ e. omega (arith, needed-marked h e, reaches s (letterOf w))) (λ e. omega (arith, needed-unmarked e)))
+      (λ h. omega (arith, needed-short h))
 
   -- by the first two bytes
   pub needed-first : getD w 0 0 ≢ 76 → neededFor s w ≡ headLen
@@ -93,7 +100,7 @@ module _ (s : Session) (w : List ℕ) where
   short-or-not {P} short long = by-le headLen (length w) (λ b. P) long short
 
   -- bytes without the mark stop the program, however many of them are handed over
-  unmarked : (k : ℕ) → headLen ≤ k → headLen ≤ length w → isMarked w ≡ false → stepOut s (take k w) ≡ stopped s
+  pub unmarked : (k : ℕ) → headLen ≤ k → headLen ≤ length w → isMarked w ≡ false → stepOut s (take k w) ≡ stopped s
   unfolding stepOut readable
   unmarked k g h e =
       let n : length (take k w) ≢ 0 = λ z. omega (arith, length-take k w, z) in

@@ -83,7 +83,7 @@ empty-take (suc k) [] h = refl
 empty-take (suc k) (x ∷ xs) h = eqb-other (length (take (suc k) (x ∷ xs))) 0 (λ e. omega arith) ∙ sym (eqb-other (length (x ∷ xs)) 0 (λ e. omega arith))
 
 -- the step of the next record, by what is left of the input
-abbrev stepOf : Session → List ℕ → Step
+abbrev pub stepOf : Session → List ℕ → Step
 stepOf s input = stepOut s (nextRecord s input)
 
 abbrev servedOf : Session → List ℕ → Step
@@ -97,10 +97,10 @@ step-is s input more e = rw (empty-take (reach (recordLen s (letterOf input))) i
 -- ---- Steps, by what the step gives
 
 module _ {s : Session} {input : List ℕ} where
-  last-as : (o : Step) → stepOf s input ≡ o → o .stops ≡ true → Steps s input (o .line)
+  pub last-as : (o : Step) → stepOf s input ≡ o → o .stops ≡ true → Steps s input (o .line)
   last-as o e = subst (λ (x : Step). x .stops ≡ true → Steps s input (x .line)) e (λ h. lastStep h)
 
-  step-as : (o : Step) (out : List ℕ) → stepOf s input ≡ o → o .stops ≡ false → Steps (o .next) (behind s input) out → Steps s input (o .line ++ out)
+  pub step-as : (o : Step) (out : List ℕ) → stepOf s input ≡ o → o .stops ≡ false → Steps (o .next) (behind s input) out → Steps s input (o .line ++ out)
   step-as o out e = subst (λ (x : Step). x .stops ≡ false → Steps (x .next) (behind s input) out → Steps s input (x .line ++ out)) e (λ h r. step h r)
 
 -- ---- They print what the definition says
