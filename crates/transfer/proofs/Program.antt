@@ -3,8 +3,9 @@ use mathlib.Core.Path.{_≡_, refl, sym, ap, subst, _∙_}
 use mathlib.Core.Bool.{Bool, true, false, cond, false≢true, true≢false}
 use mathlib.Core.List.{List, [], _∷_, _++_}
 use mathlib.Core.Option.{Option, none, some}
-use Prim.Native.Nat.{ℕ, zero, suc, _+_, _≤_}
+use Prim.Native.Nat.{ℕ, zero, suc, _+_, _≤_, _<_}
 use native.Mathlib.Omega.{arith}
+use borrow.Author.Tests.{ltb-true}
 use lib.Dec.{eqb, ltb}
 use lib.ListN.{length, take, drop}
 use Rattle.refusals.specs.Refusals.{must}
@@ -58,6 +59,22 @@ module _ (s : Session) (bytes : List ℕ) where
   unfolding readable
   readable-goes h = serve-goes (letterOf bytes) (both (isMarked bytes) (isWhole bytes (recordLen s (letterOf bytes))) h .1)
 
+-- a step that goes on serves a record that may still be served, and counts it
+pub step-counts : (s : Session) (bytes : List ℕ) → stepOut s bytes .stops ≡ false → (s .count < maxRecords) × (stepOut s bytes .next .count ≡ suc (s .count))
+unfolding stepOut
+step-counts s bytes = go (isEmpty bytes) (ltb (s .count) maxRecords) refl (readable s bytes) (λ r. readable-goes s bytes r)
+  where
+    served : Step
+    served = serveOut s (letterOf bytes) bytes
+
+    go : (a b : Bool) → ltb (s .count) maxRecords ≡ b → (c : Bool) → (c ≡ true → Goes s served)
+        → cond a (ended s) (must b (stopped s) (must c (stopped s) served)) .stops ≡ false
+        → (s .count < maxRecords) × (cond a (ended s) (must b (stopped s) (must c (stopped s) served)) .next .count ≡ suc (s .count))
+    go true b e c g h = absurd (true≢false h)
+    go false false e c g h = absurd (true≢false h)
+    go false true e false g h = absurd (true≢false h)
+    go false true e true g h = (ltb-true (s .count) maxRecords e, g refl .counted)
+
 -- ---- What is cut off is empty only at the end of input
 
 empty-take : (k : ℕ) (input : List ℕ) → 1 ≤ k → isEmpty (take k input) ≡ isEmpty input
@@ -66,7 +83,7 @@ empty-take (suc k) [] h = refl
 empty-take (suc k) (x ∷ xs) h = eqb-other (length (take (suc k) (x ∷ xs))) 0 (λ e. omega arith) ∙ sym (eqb-other (length (x ∷ xs)) 0 (λ e. omega arith))
 
 -- the step of the next record, by what is left of the input
-abbrev stepOf : Session → List ℕ → Step
+abbrev pub stepOf : Session → List ℕ → Step
 stepOf s input = stepOut s (nextRecord s input)
 
 abbrev servedOf : Session → List ℕ → Step
@@ -80,10 +97,10 @@ step-is s input more e = rw (empty-take (reach (recordLen s (letterOf input))) i
 -- ---- Steps, by what the step gives
 
 module _ {s : Session} {input : List ℕ} where
-  last-as : (o : Step) → stepOf s input ≡ o → o .stops ≡ true → Steps s input (o .line)
+  pub last-as : (o : Step) → stepOf s input ≡ o → o .stops ≡ true → Steps s input (o .line)
   last-as o e = subst (λ (x : Step). x .stops ≡ true → Steps s input (x .line)) e (λ h. lastStep h)
 
-  step-as : (o : Step) (out : List ℕ) → stepOf s input ≡ o → o .stops ≡ false → Steps (o .next) (behind s input) out → Steps s input (o .line ++ out)
+  pub step-as : (o : Step) (out : List ℕ) → stepOf s input ≡ o → o .stops ≡ false → Steps (o .next) (behind s input) out → Steps s input (o .line ++ out)
   step-as o out e = subst (λ (x : Step). x .stops ≡ false → Steps (x .next) (behind s input) out → Steps s input (x .line ++ out)) e (λ h r. step h r)
 
 -- ---- They print what the definition says

@@ -1,0 +1,4 @@
+pub mod Front
+pub mod Cut
+pub mod Turns
+pub mod Pieces
