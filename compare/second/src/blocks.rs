@@ -99,6 +99,7 @@ pub fn pattern(f: &Figures, fixed: u64) -> Option<u64> {
 }
 
 /// Stretches of the word that hold no message, ascending and apart: runs, heads of I-blocks, and first symbols of F-blocks.
+#[derive(Debug)]
 pub struct Reserved {
     stretches: [(u16, u16); MAX_BLOCKS + MAX_RUNS],
     count: usize,

@@ -77,6 +77,7 @@ pub fn decode(f: &Figures, word: &[u8], message: &mut [u8], starts: &mut [u16]) 
 }
 
 /// What an accepted word of n symbols says.
+#[derive(Debug)]
 pub struct Found {
     pub rank: u64,
     /// Those past m are 0.

@@ -57,7 +57,7 @@ fn burst_lengths_there() {
 
 /// The rank that a word's reader finds, and the I-blocks' heads at the given block starts.
 fn heads(f: &Figures, word: &[u8], begins: &[usize]) -> (u64, Vec<Vec<u8>>) {
-    let found = read(f, word).ok().expect("a written word is read");
+    let found = read(f, word).expect("a written word is read");
     let head = |&begin: &usize| word[begin..begin + 1 + f.r].to_vec();
     (found.rank, begins.iter().map(head).collect())
 }
