@@ -266,13 +266,14 @@ impl Judge {
         )
     }
 
-    /// How many words were written or read.
+    /// How many words were written or read, or refused for more than their figures and lengths.
     pub fn words(&self) -> u64 {
         let words = [Op::Encode, Op::Decode, Op::JobWrite, Op::JobRead];
-        words
-            .iter()
-            .map(|&op| self.seen[op as usize].iter().sum::<u64>())
-            .sum()
+        let judged = |&op: &Op| {
+            let seen = &self.seen[op as usize];
+            seen[0] + seen[4..].iter().sum::<u64>()
+        };
+        words.iter().map(judged).sum()
     }
 
     /// Prints a line for each kind of call, and tells whether every answer that it can give was seen.

@@ -14,6 +14,8 @@ struct Stream<'a> {
     bytes: Vec<u8>,
     figures: Option<Figures>,
     pool: u64,
+    /// Whether readings are to be of sound words only.
+    sound: bool,
 }
 
 /// A stream of about `records` records.
@@ -29,6 +31,7 @@ pub fn stream(rng: &mut Rng, records: u64) -> Vec<u8> {
         bytes: Vec::new(),
         figures: None,
         pool,
+        sound: false,
     };
     if kind != 1 {
         stream.fitting();
@@ -52,6 +55,7 @@ pub fn served(rng: &mut Rng, f: &Figures, records: u64) -> Vec<u8> {
         bytes: Vec::new(),
         figures: None,
         pool: 64,
+        sound: true,
     };
     stream.set(numbers(f));
     (0..64).for_each(|number| stream.call(b'O', number));
@@ -162,8 +166,7 @@ impl Stream<'_> {
         {
             damage(self.rng, f, &starts, &mut word);
         }
-        // Served streams have a pool of 64 and stay served.
-        match self.rng.below(if self.pool == 64 { 1 } else { 12 }) {
+        match self.rng.below(if self.sound { 1 } else { 12 }) {
             9 => {
                 let at = self.rng.index(f.n);
                 word[at] = self.rng.byte();
