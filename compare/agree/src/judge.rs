@@ -7,8 +7,8 @@ use crate::sides::{Numbers, Side, PROVED, SECOND};
 
 /// How many differences are printed in full.
 const PRINTED: u64 = 10;
-/// Bytes before and behind each lent buffer, which no call may touch.
-const GUARD: usize = 16;
+/// Bytes before and behind each lent buffer, which no call may touch; odd, so that no buffer is aligned.
+const GUARD: usize = 13;
 
 #[derive(Clone, Copy, PartialEq, Eq, Debug)]
 pub enum Op {
@@ -26,7 +26,7 @@ pub enum Op {
 
 /// Each kind of call, its name, and the answers that it can give, each of which a gate run must see.
 const OPS: [(Op, &str, &[u8]); 10] = [
-    (Op::Figures, "figures", &[0]),
+    (Op::Figures, "figures", &[0, 1, 2]),
     (Op::Encode, "word write", &[0, 1, 2, 3, 4, 5]),
     (Op::Decode, "word read", &[0, 1, 2, 3, 4, 7, 8, 9]),
     (Op::Cover, "covering", &[0, 1, 2, 3, 4, 6]),
@@ -172,7 +172,9 @@ impl Judge {
             &inputs,
             &format!("{ours} and {theirs}"),
         );
-        self.count(Op::Figures, 0, &inputs);
+        let (n, q, m, b) = numbers;
+        let number = Figures::new(n, q, m, b).err().unwrap_or(0);
+        self.count(Op::Figures, number, &inputs);
         theirs
     }
 

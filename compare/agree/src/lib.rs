@@ -4,6 +4,7 @@ pub mod calls;
 pub mod grid;
 pub mod jobs;
 pub mod judge;
+pub mod lengths;
 pub mod make;
 pub mod rng;
 pub mod sides;

@@ -6,7 +6,8 @@ use second::Figures;
 
 use crate::judge::{Judge, Op};
 use crate::make::{
-    damage, figures, numbers, placement, spell, start_bytes, symbol, symbols, value, wrong_len,
+    damage, figures, numbers, placement, spell, start_bytes, symbol, symbols, value, values,
+    wrong_len,
 };
 use crate::rng::Rng;
 use crate::sides::{PROVED, SECOND};
@@ -277,5 +278,38 @@ pub fn end_ranks(judge: &mut Judge, rng: &mut Rng) {
             word,
         };
         read_back(judge, rng, &strip);
+    }
+}
+
+/// Values that only differ from a rank above their low 64 bits: a reader that lost the rest would accept them.
+pub fn wrapped_values(judge: &mut Judge, rng: &mut Rng) {
+    let mut f = figures(rng);
+    while values(&f) >> 64 == 0 {
+        f = figures(rng);
+    }
+    let strip = written(judge, rng, f);
+    let layout = Layout::new(&f);
+    let index = index_blocks(&f, burst_blocks(&f, &layout, &strip.starts));
+    let highest = (values(&f) >> 64) - 1;
+    for high in [
+        1,
+        2,
+        1 + rng.draw() as u128 % highest.max(1),
+        highest.max(1),
+    ] {
+        let value = (high << 64) + rank(&f, &strip.starts) as u128;
+        if value >= values(&f) {
+            continue;
+        }
+        let mut word = strip.word.clone();
+        spell(&f, &layout, index, value, &mut word);
+        let read = judge.decode(numbers(&f), &word, f.k, 2 * f.m);
+        let inputs = || format!("{f:?} value {value}");
+        judge.expect(
+            Op::Decode,
+            read.number == 8,
+            &inputs,
+            "8 is for a value of T or more",
+        );
     }
 }

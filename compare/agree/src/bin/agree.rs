@@ -6,7 +6,7 @@ use std::time::Instant;
 
 use agree::judge::Judge;
 use agree::rng::Rng;
-use agree::{calls, grid, jobs, strips, words};
+use agree::{calls, grid, jobs, lengths, strips, words};
 
 const GATE_SEED: u64 = 1996;
 const GATE_ROUNDS: u64 = 60_000;
@@ -41,6 +41,7 @@ fn run(rounds: u64, seed: u64, long: bool) -> ExitCode {
     let mut rng = Rng::new(seed);
     strips::run(&mut judge);
     grid::run(&mut judge);
+    lengths::run(&mut judge);
     patterns(&mut judge, &mut rng, long);
     for round in 0..rounds {
         words::round(&mut judge, &mut rng);
@@ -48,6 +49,7 @@ fn run(rounds: u64, seed: u64, long: bool) -> ExitCode {
         calls::single(&mut judge, &mut rng);
         if round % 16 == 0 {
             words::end_ranks(&mut judge, &mut rng);
+            words::wrapped_values(&mut judge, &mut rng);
             calls::list(&mut judge, &mut rng);
         }
         if long && round % 10_000 == 9_999 {
