@@ -64,7 +64,8 @@ pub fn list(judge: &mut Judge, rng: &mut Rng) {
     }
 }
 
-/// One call on a table made at will.
+/// One call on a table made at will. An odd letter meets a sound table only: whether 11 or a table's own refusal comes
+/// first is said nowhere.
 pub fn single(judge: &mut Judge, rng: &mut Rng) {
     let good = table(rng);
     let number = number(rng, 70);
