@@ -5,7 +5,9 @@ use second::Figures;
 
 use crate::calls::{bad_table, number, table};
 use crate::judge::{Judge, Op};
-use crate::make::{damage, figures, numbers, placement, start_bytes, symbols, wrong_len};
+use crate::make::{
+    damage, figures, numbers, odd_message, placement, start_bytes, symbols, wrong_len,
+};
 use crate::rng::Rng;
 use crate::words::bad_starts_of;
 
@@ -20,6 +22,7 @@ pub fn round(judge: &mut Judge, rng: &mut Rng) {
         read_back(judge, rng, &f, &table, &starts, word.out, &payload);
     }
     spelled(judge, rng, &f, &table);
+    oddly_spelled(judge, rng, &f, &table);
     refused_writing(judge, rng, &f, &table, &starts);
     refused_reading(judge, rng, &f, &table);
 }
@@ -78,6 +81,15 @@ fn spelled(judge: &mut Judge, rng: &mut Rng, f: &Figures, table: &[u8]) {
         }
     }
     judge.job_read(numbers(f), table, &word, payload_len(f));
+}
+
+/// A message that just spells a payload, or just doesn't.
+fn oddly_spelled(judge: &mut Judge, rng: &mut Rng, f: &Figures, table: &[u8]) {
+    let starts = start_bytes(&placement(rng, f));
+    let payload = payload(rng, f, table);
+    let message = odd_message(rng, f, &payload);
+    let word = judge.encode(numbers(f), &starts, &message, f.n).out;
+    judge.job_read(numbers(f), table, &word, payload.len());
 }
 
 fn refused_writing(judge: &mut Judge, rng: &mut Rng, f: &Figures, good: &[u8], placement: &[u16]) {

@@ -2,6 +2,7 @@
 
 use second::blocks::Layout;
 use second::choose::unrank;
+use second::job::width;
 use second::Figures;
 
 use crate::rng::Rng;
@@ -154,6 +155,32 @@ pub fn spell(f: &Figures, layout: &Layout, index: u64, value: u128, word: &mut [
         word[begin] = (left % (q - 1)) as u8 + 1;
         left /= q - 1;
     }
+}
+
+/// A message that spells a payload, but for one byte's symbols that spell a value around 256 or the largest, or for a
+/// leftover symbol other than 0.
+pub fn odd_message(rng: &mut Rng, f: &Figures, payload: &[u8]) -> Vec<u8> {
+    let w = width(f.q);
+    let mut values: Vec<u32> = payload.iter().map(|&byte| byte as u32).collect();
+    let top = f.q.pow(w as u32) - 1;
+    let odd = rng.pick(&[255, 256, 256, 257, top]).min(top);
+    if !values.is_empty() && !rng.once_in(4) {
+        let at = rng.index(values.len());
+        values[at] = odd;
+    }
+    let mut message = vec![0; f.k];
+    for (symbols, &value) in message.chunks_exact_mut(w).zip(&values) {
+        let mut left = value;
+        for symbol in symbols.iter_mut().rev() {
+            *symbol = (left % f.q) as u8;
+            left /= f.q;
+        }
+    }
+    let leftover = f.k - w * values.len();
+    if leftover > 0 && rng.once_in(4) {
+        message[f.k - 1 - rng.index(leftover)] = rng.between(1, f.q as u64 - 1) as u8;
+    }
+    message
 }
 
 /// A length that is off by one, or none at all.

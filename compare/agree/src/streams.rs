@@ -4,7 +4,7 @@ use second::job::payload_len;
 use second::{raw, Figures};
 
 use crate::calls::{number, TABLE};
-use crate::make::{damage, figures, numbers, placement, start_bytes, symbols};
+use crate::make::{damage, figures, numbers, odd_message, placement, start_bytes, symbols};
 use crate::rng::Rng;
 use crate::words::bad_starts_of;
 
@@ -172,7 +172,7 @@ impl Stream<'_> {
                 word[at] = self.rng.byte();
             }
             10 => {
-                let message = symbols(self.rng, f.q, f.k);
+                let message = odd_message(self.rng, f, &payload);
                 raw::encode(numbers(f), &start_bytes(&starts), &message, &mut word);
             }
             11 => word = symbols(self.rng, f.q, f.n),
