@@ -1,0 +1,142 @@
+//! Jobs written and read on both sides, with tables and payloads at will.
+
+use second::job::payload_len;
+use second::Figures;
+
+use crate::calls::{bad_table, number, table};
+use crate::judge::{Judge, Op};
+use crate::make::{
+    damage, figures, numbers, odd_message, placement, start_bytes, symbols, wrong_len,
+};
+use crate::rng::Rng;
+use crate::words::bad_starts_of;
+
+/// One round for random figures.
+pub fn round(judge: &mut Judge, rng: &mut Rng) {
+    let f = figures(rng);
+    let table = table(rng);
+    let starts = placement(rng, &f);
+    let payload = payload(rng, &f, &table);
+    let word = judge.job_write(numbers(&f), &table, &start_bytes(&starts), &payload, f.n);
+    if word.number == 0 {
+        read_back(judge, rng, &f, &table, &starts, word.out, &payload);
+    }
+    spelled(judge, rng, &f, &table);
+    oddly_spelled(judge, rng, &f, &table);
+    refused_writing(judge, rng, &f, &table, &starts);
+    refused_reading(judge, rng, &f, &table);
+}
+
+/// K bytes whose number is mostly one of the table's.
+fn payload(rng: &mut Rng, f: &Figures, table: &[u8]) -> Vec<u8> {
+    let mut payload = rng.bytes(payload_len(f));
+    if payload.len() >= 4 {
+        let held: Vec<&[u8]> = table.chunks_exact(5).filter(|slot| slot[0] != 0).collect();
+        match held.len() {
+            0 => payload[..4].copy_from_slice(&number(rng, 70).to_be_bytes()),
+            _ if rng.once_in(5) => payload[..4].copy_from_slice(&number(rng, 70).to_be_bytes()),
+            len => payload[..4].copy_from_slice(&held[rng.index(len)][1..]),
+        }
+    }
+    payload
+}
+
+fn read_back(
+    judge: &mut Judge,
+    rng: &mut Rng,
+    f: &Figures,
+    table: &[u8],
+    starts: &[u16],
+    mut word: Vec<u8>,
+    payload: &[u8],
+) {
+    damage(rng, f, starts, &mut word);
+    let read = judge.job_read(numbers(f), table, &word, payload.len());
+    let right = read.number == 0 && read.out == payload;
+    judge.expect(
+        Op::JobRead,
+        right,
+        &|| format!("{f:?} {starts:?}"),
+        "not what was written",
+    );
+    // The same word under another table, and with a symbol changed.
+    judge.job_read(numbers(f), &self::table(rng), &word, payload.len());
+    let at = rng.index(f.n);
+    word[at] = rng.byte();
+    judge.job_read(numbers(f), table, &word, payload.len());
+}
+
+/// A message that needn't spell bytes: mostly sound spellings with a symbol changed, or any.
+fn spelled(judge: &mut Judge, rng: &mut Rng, f: &Figures, table: &[u8]) {
+    let starts = start_bytes(&placement(rng, f));
+    let message = symbols(rng, f.q, f.k);
+    let mut word = judge.encode(numbers(f), &starts, &message, f.n).out;
+    if rng.once_in(2) {
+        let payload = payload(rng, f, table);
+        let written = judge.job_write(numbers(f), table, &starts, &payload, f.n);
+        if written.number == 0 {
+            word = written.out;
+            let at = f.n - 1 - rng.index(f.n.min(12));
+            word[at] = rng.below(f.q as u64) as u8;
+        }
+    }
+    judge.job_read(numbers(f), table, &word, payload_len(f));
+}
+
+/// A message that just spells a payload, or just doesn't.
+fn oddly_spelled(judge: &mut Judge, rng: &mut Rng, f: &Figures, table: &[u8]) {
+    let starts = start_bytes(&placement(rng, f));
+    let payload = payload(rng, f, table);
+    let message = odd_message(rng, f, &payload);
+    let word = judge.encode(numbers(f), &starts, &message, f.n).out;
+    judge.job_read(numbers(f), table, &word, payload.len());
+}
+
+fn refused_writing(judge: &mut Judge, rng: &mut Rng, f: &Figures, good: &[u8], placement: &[u16]) {
+    let mut table = good.to_vec();
+    let mut starts = start_bytes(placement);
+    let mut payload = payload(rng, f, &table);
+    let (mut word, mut figures) = (f.n, numbers(f));
+    for _ in 0..rng.pick(&[1, 1, 2, 3]) {
+        match rng.below(7) {
+            0 => word = wrong_len(rng, word),
+            1 => payload.resize(wrong_len(rng, payload.len()), 0),
+            2 => starts.resize(wrong_len(rng, starts.len()), 0),
+            3 | 4 => starts = start_bytes(&bad_starts_of(rng, f, placement)),
+            5 => table = bad_table(rng),
+            _ => figures = off(rng, figures),
+        }
+    }
+    judge.job_write(figures, &table, &starts, &payload, word);
+}
+
+fn refused_reading(judge: &mut Judge, rng: &mut Rng, f: &Figures, good: &[u8]) {
+    let mut table = good.to_vec();
+    let mut word = symbols(rng, f.q, f.n);
+    let (mut payload, mut figures) = (payload_len(f), numbers(f));
+    for _ in 0..rng.pick(&[0, 1, 1, 2, 3]) {
+        match rng.below(5) {
+            0 => word.resize(wrong_len(rng, word.len()), 0),
+            1 => payload = wrong_len(rng, payload),
+            2 => table = bad_table(rng),
+            3 if !word.is_empty() => {
+                let at = rng.index(word.len());
+                word[at] = rng.byte();
+            }
+            _ => figures = off(rng, figures),
+        }
+    }
+    judge.job_read(figures, &table, &word, payload);
+}
+
+/// Figures with one of them off.
+fn off(rng: &mut Rng, (n, q, m, b): (u32, u32, u32, u32)) -> (u32, u32, u32, u32) {
+    match rng.below(6) {
+        0 => (rng.pick(&[0, 2, 1025]), q, m, b),
+        1 => (n, rng.pick(&[0, 1, 257]), m, b),
+        2 => (n, q, rng.pick(&[0, 7]), b),
+        3 => (n, q, m, 0),
+        4 => (n, q, m, n / m.max(1) + 1),
+        _ => (n, q, m, n),
+    }
+}

@@ -1,0 +1,69 @@
+//! Buffers whose lengths are right in their low 16 or 32 bits alone: all are refused with 3.
+
+use crate::calls::TABLE;
+use crate::judge::{Judge, Op};
+use crate::sides::{Numbers, Side, PROVED, SECOND};
+
+/// Document 01's transfer example: n 15, k and K 11, one start.
+const FIGURES: Numbers = (15, 256, 1, 2);
+const WORD: usize = 15;
+const PAYLOAD: usize = 11;
+
+/// Each call with one length replaced; `long` has the bytes that are too many.
+fn calls(side: &Side, long: &mut [u8], extra: usize) -> Vec<u8> {
+    let f = FIGURES;
+    let (mut word, mut payload, mut starts) = ([0; WORD], [0; PAYLOAD], [0; 2]);
+    let mut table = [0; TABLE];
+    table[0] = 1;
+    let mut with =
+        |len: usize, call: &mut dyn FnMut(&mut [u8]) -> u8| call(&mut long[..len + extra]);
+    vec![
+        with(2, &mut |long| (side.encode)(f, long, &payload, &mut word)),
+        with(PAYLOAD, &mut |long| {
+            (side.encode)(f, &starts, long, &mut word)
+        }),
+        with(WORD, &mut |long| (side.encode)(f, &starts, &payload, long)),
+        with(WORD, &mut |long| {
+            (side.decode)(f, long, &mut payload, &mut starts)
+        }),
+        with(PAYLOAD, &mut |long| {
+            (side.decode)(f, &word, long, &mut starts)
+        }),
+        with(2, &mut |long| (side.decode)(f, &word, &mut payload, long)),
+        with(WORD, &mut |long| (side.cover)(f, long, &mut starts)),
+        with(2, &mut |long| (side.cover)(f, &word, long)),
+        with(TABLE, &mut |long| (side.call)(long, b'O', 1)),
+        with(TABLE, &mut |long| {
+            (side.job_write)(f, long, &starts, &payload, &mut word)
+        }),
+        with(2, &mut |long| {
+            (side.job_write)(f, &table, long, &payload, &mut word)
+        }),
+        with(PAYLOAD, &mut |long| {
+            (side.job_write)(f, &table, &starts, long, &mut word)
+        }),
+        with(WORD, &mut |long| {
+            (side.job_write)(f, &table, &starts, &payload, long)
+        }),
+        with(TABLE, &mut |long| {
+            (side.job_read)(f, long, &word, &mut payload)
+        }),
+        with(WORD, &mut |long| {
+            (side.job_read)(f, &table, long, &mut payload)
+        }),
+        with(PAYLOAD, &mut |long| (side.job_read)(f, &table, &word, long)),
+    ]
+}
+
+pub fn run(judge: &mut Judge) {
+    // Zeroed memory of this size takes no room until it is touched, which no call should do.
+    let mut long = vec![0; (1 << 32) + 2 * TABLE];
+    for extra in [1 << 8, 1 << 16, 1 << 32] {
+        for side in [PROVED, SECOND] {
+            let answers = calls(&side, &mut long, extra);
+            let right = answers.iter().all(|&answer| answer == 3);
+            let inputs = || format!("{}: {extra} bytes too many: {answers:?}", side.name);
+            judge.expect(Op::Decode, right, &inputs, "3 is for another length");
+        }
+    }
+}

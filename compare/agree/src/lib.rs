@@ -1,0 +1,13 @@
+//! What the comparisons share: a seeded generator, the two sides, the judge, and the making of inputs.
+
+pub mod calls;
+pub mod grid;
+pub mod jobs;
+pub mod judge;
+pub mod lengths;
+pub mod make;
+pub mod rng;
+pub mod sides;
+pub mod streams;
+pub mod strips;
+pub mod words;

@@ -1,0 +1,194 @@
+//! The making of inputs: figures that fit, placements, messages, damage, and values spelled into a word.
+
+use second::blocks::Layout;
+use second::choose::unrank;
+use second::job::width;
+use second::Figures;
+
+use crate::rng::Rng;
+use crate::sides::Numbers;
+
+pub fn numbers(f: &Figures) -> Numbers {
+    (f.n as u32, f.q, f.m as u32, f.b as u32)
+}
+
+/// Figures that fit: short and long words, small and large alphabets, and burst lengths up to the largest.
+pub fn figures(rng: &mut Rng) -> Figures {
+    loop {
+        let m = rng.between(1, 6) as u32;
+        let n = match rng.below(6) {
+            0 => rng.between(3, 40),
+            1 | 2 => rng.between(30, 200),
+            3 => rng.between(1000, 1024),
+            _ => rng.between(100, 1024),
+        } as u32;
+        let q = match rng.below(4) {
+            0 => rng.between(2, 256) as u32,
+            _ => rng.pick(&[2, 2, 3, 4, 5, 7, 15, 16, 17, 255, 256, 256]),
+        };
+        if let Some(f) = with_length(rng, n, q, m) {
+            return f;
+        }
+    }
+}
+
+/// These figures with some burst length that fits, often the largest.
+fn with_length(rng: &mut Rng, n: u32, q: u32, m: u32) -> Option<Figures> {
+    let block = n / (m * m.max(3));
+    let fits = |b: &u32| Figures::new(n, q, m, *b).is_ok();
+    let largest = (1..=block).rev().find(fits)?;
+    let b = match rng.below(4) {
+        0 => largest,
+        1 => 1,
+        _ => rng.between(1, largest as u64) as u32,
+    };
+    Figures::new(n, q, m, b).ok()
+}
+
+/// A placement in one of several styles: any rank, packed, at block edges, or one run to a part.
+pub fn placement(rng: &mut Rng, f: &Figures) -> Vec<u16> {
+    let style = rng.below(5);
+    if style < 2 {
+        return unrank(f, rng.below(f.t))[..f.m].to_vec();
+    }
+    let layout = Layout::new(f);
+    let edge = |rng: &mut Rng, block: usize| {
+        let last = layout.begin[block] as usize + rng.index(3);
+        last.saturating_sub(f.b)
+    };
+    let packed = rng.index(f.n);
+    let mut wanted: Vec<usize> = (0..f.m)
+        .map(|i| match style {
+            2 => packed + i * f.b + rng.index(2),
+            3 => {
+                let block = rng.index(f.blocks() + 1);
+                edge(rng, block)
+            }
+            _ => edge(rng, (i % f.p) * f.m + 1) + rng.index(f.n / f.p),
+        })
+        .collect();
+    wanted.sort_unstable();
+    clamp(f, &wanted)
+}
+
+/// The wanted starts, moved just enough to make a placement.
+fn clamp(f: &Figures, wanted: &[usize]) -> Vec<u16> {
+    let mut free = 0;
+    let place = |(i, &want): (usize, &usize)| {
+        let start = want.max(free).min(f.n - (f.m - i) * f.b);
+        free = start + f.b;
+        start as u16
+    };
+    wanted.iter().enumerate().map(place).collect()
+}
+
+pub fn start_bytes(starts: &[u16]) -> Vec<u8> {
+    starts
+        .iter()
+        .flat_map(|start| start.to_be_bytes())
+        .collect()
+}
+
+/// A symbol below q.
+pub fn symbol(rng: &mut Rng, q: u32) -> u8 {
+    rng.below(q as u64) as u8
+}
+
+/// A list of symbols: random, all the same, or mostly 0.
+pub fn symbols(rng: &mut Rng, q: u32, len: usize) -> Vec<u8> {
+    let same = rng.pick(&[0, 1, (q - 1) as u8]);
+    match rng.below(5) {
+        0 => vec![same; len],
+        1 => (0..len)
+            .map(|_| if rng.once_in(8) { symbol(rng, q) } else { 0 })
+            .collect(),
+        _ => (0..len).map(|_| symbol(rng, q)).collect(),
+    }
+}
+
+/// Puts symbols at will into the runs.
+pub fn damage(rng: &mut Rng, f: &Figures, starts: &[u16], word: &mut [u8]) {
+    for &start in starts {
+        let run = start as usize..start as usize + f.b;
+        word[run].copy_from_slice(&symbols(rng, f.q, f.b));
+    }
+}
+
+/// How many values the I-blocks can spell; below 2^99.
+pub fn values(f: &Figures) -> u128 {
+    let one = (f.q as u128 - 1) * (f.q as u128).pow(f.r as u32);
+    one.pow(f.m as u32)
+}
+
+/// A value at or near a boundary, or any below T or below all that can be spelled.
+pub fn value(rng: &mut Rng, f: &Figures) -> u128 {
+    let t = f.t as u128;
+    let top = values(f) - 1;
+    let any = (rng.draw() as u128) << 64 | rng.draw() as u128;
+    let value = match rng.below(10) {
+        0 => t - 1,
+        1 => t,
+        2 => t + 1,
+        3 => top,
+        4 => 1 << 64,
+        5 => (1 << 64) + any % t,
+        6 => t + any % t,
+        7 => any % (top + 1),
+        _ => any % t,
+    };
+    value.min(top)
+}
+
+/// Spells a value over the heads of the given blocks.
+pub fn spell(f: &Figures, layout: &Layout, index: u64, value: u128, word: &mut [u8]) {
+    let q = f.q as u128;
+    let mut left = value;
+    for block in (0..f.blocks())
+        .rev()
+        .filter(|block| index >> block & 1 == 1)
+    {
+        let begin = layout.begin[block] as usize;
+        for symbol in word[begin + 1..=begin + f.r].iter_mut().rev() {
+            *symbol = (left % q) as u8;
+            left /= q;
+        }
+        word[begin] = (left % (q - 1)) as u8 + 1;
+        left /= q - 1;
+    }
+}
+
+/// A message that spells a payload, but for one byte's symbols that spell a value around 256 or the largest, or for a
+/// leftover symbol other than 0.
+pub fn odd_message(rng: &mut Rng, f: &Figures, payload: &[u8]) -> Vec<u8> {
+    let w = width(f.q);
+    let mut values: Vec<u32> = payload.iter().map(|&byte| byte as u32).collect();
+    let top = f.q.pow(w as u32) - 1;
+    let odd = rng.pick(&[255, 256, 256, 257, top]).min(top);
+    if !values.is_empty() && !rng.once_in(4) {
+        let at = rng.index(values.len());
+        values[at] = odd;
+    }
+    let mut message = vec![0; f.k];
+    for (symbols, &value) in message.chunks_exact_mut(w).zip(&values) {
+        let mut left = value;
+        for symbol in symbols.iter_mut().rev() {
+            *symbol = (left % f.q) as u8;
+            left /= f.q;
+        }
+    }
+    let leftover = f.k - w * values.len();
+    if leftover > 0 && rng.once_in(4) {
+        message[f.k - 1 - rng.index(leftover)] = rng.between(1, f.q as u64 - 1) as u8;
+    }
+    message
+}
+
+/// A length that is off by one, or none at all.
+pub fn wrong_len(rng: &mut Rng, len: usize) -> usize {
+    match rng.below(4) {
+        0 if len > 0 => len - 1,
+        1 if len > 0 => 0,
+        2 => len + 7,
+        _ => len + 1,
+    }
+}

@@ -1,0 +1,38 @@
+//! The two implementations behind one set of calls on plain numbers and bytes.
+
+pub type Numbers = (u32, u32, u32, u32);
+
+type JobWrite = fn(Numbers, &[u8], &[u8], &[u8], &mut [u8]) -> u8;
+
+pub struct Side {
+    pub name: &'static str,
+    pub message_len: fn(Numbers) -> u32,
+    pub encode: fn(Numbers, &[u8], &[u8], &mut [u8]) -> u8,
+    pub decode: fn(Numbers, &[u8], &mut [u8], &mut [u8]) -> u8,
+    pub cover: fn(Numbers, &[u8], &mut [u8]) -> u8,
+    pub call: fn(&mut [u8], u8, u32) -> u8,
+    pub job_write: JobWrite,
+    pub job_read: fn(Numbers, &[u8], &[u8], &mut [u8]) -> u8,
+}
+
+pub const PROVED: Side = Side {
+    name: "library",
+    message_len: burgzemi::raw::message_len,
+    encode: burgzemi::raw::encode,
+    decode: burgzemi::raw::decode,
+    cover: burgzemi::raw::cover,
+    call: burgzemi::raw::call,
+    job_write: burgzemi::raw::job_write,
+    job_read: burgzemi::raw::job_read,
+};
+
+pub const SECOND: Side = Side {
+    name: "second",
+    message_len: second::raw::message_len,
+    encode: second::raw::encode,
+    decode: second::raw::decode,
+    cover: second::raw::cover,
+    call: second::raw::call,
+    job_write: second::raw::job_write,
+    job_read: second::raw::job_read,
+};

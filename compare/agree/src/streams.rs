@@ -1,0 +1,210 @@
+//! Transfer streams at will: served and refused records of every kind, and every way to stop.
+
+use second::job::payload_len;
+use second::{raw, Figures};
+
+use crate::calls::{number, TABLE};
+use crate::make::{damage, figures, numbers, odd_message, placement, start_bytes, symbols};
+use crate::rng::Rng;
+use crate::words::bad_starts_of;
+
+/// A stream being made. It knows the figures in force, as a record's length hangs on them.
+struct Stream<'a> {
+    rng: &'a mut Rng,
+    bytes: Vec<u8>,
+    figures: Option<Figures>,
+    pool: u64,
+    /// Whether readings are to be of sound words only.
+    sound: bool,
+}
+
+/// A stream of about `records` records.
+pub fn stream(rng: &mut Rng, records: u64) -> Vec<u8> {
+    let kind = rng.below(12);
+    if kind == 0 {
+        let len = rng.index(40);
+        return rng.bytes(len);
+    }
+    let pool = rng.pick(&[2, 5, 70, 200]);
+    let mut stream = Stream {
+        rng,
+        bytes: Vec::new(),
+        figures: None,
+        pool,
+        sound: false,
+    };
+    if kind != 1 {
+        stream.fitting();
+    }
+    if kind == 2 {
+        (0..70).for_each(|number| stream.call(b'O', number));
+    }
+    for _ in 0..records {
+        match kind {
+            3 => stream.boundary(),
+            _ => stream.record(),
+        }
+    }
+    stream.ending(kind)
+}
+
+/// A stream that the program serves to its end, for long runs and for measuring: writings and readings of open jobs.
+pub fn served(rng: &mut Rng, f: &Figures, records: u64) -> Vec<u8> {
+    let mut stream = Stream {
+        rng,
+        bytes: Vec::new(),
+        figures: None,
+        pool: 64,
+        sound: true,
+    };
+    stream.set(numbers(f));
+    (0..64).for_each(|number| stream.call(b'O', number));
+    for record in 0..records {
+        let number = stream.rng.below(64) as u32;
+        match record % 2 {
+            0 => stream.write(f, number, true),
+            _ => stream.read(f, number),
+        }
+    }
+    stream.bytes
+}
+
+impl Stream<'_> {
+    fn head(&mut self, letter: u8) {
+        self.bytes.extend([0x4C, 0x54, letter]);
+    }
+
+    fn record(&mut self) {
+        let number = number(self.rng, self.pool);
+        match (self.rng.below(16), self.figures) {
+            (0, _) => self.fitting(),
+            (1, _) => self.boundary(),
+            (2..=4, _) => self.call(b'O', number),
+            (5, _) => self.call(b'C', number),
+            (6, _) => self.call(b'F', number),
+            (7..=9, Some(f)) => {
+                let right = !self.rng.once_in(4);
+                self.write(&f, number, right);
+            }
+            (_, Some(f)) => self.read(&f, number),
+            // Before any figures these stop the program, so they are kept rare.
+            (15, None) if self.rng.once_in(4) => {
+                let letter = self.rng.pick(b"WR");
+                self.head(letter);
+            }
+            _ => self.call(b'O', number),
+        }
+    }
+
+    fn set(&mut self, (n, q, m, b): (u32, u32, u32, u32)) {
+        self.head(b'S');
+        self.bytes.extend((n as u16).to_be_bytes());
+        self.bytes.extend([(q - 1) as u8, m as u8]);
+        self.bytes.extend((b as u16).to_be_bytes());
+        if let Ok(f) = Figures::new(n, q, m, b) {
+            self.figures = Some(f);
+        }
+    }
+
+    fn fitting(&mut self) {
+        let f = figures(self.rng);
+        self.set(numbers(&f));
+    }
+
+    /// Figures at or past a boundary.
+    fn boundary(&mut self) {
+        let f = figures(self.rng);
+        let (mut n, mut q, mut m, mut b) = numbers(&f);
+        match self.rng.below(6) {
+            0 => n = self.rng.pick(&[0, 2, 3, 1023, 1024, 1025, 65535]),
+            1 => q = self.rng.pick(&[1, 2, 3, 256]),
+            2 => m = self.rng.pick(&[0, 1, 6, 7, 255]),
+            3 => b = self.rng.pick(&[0, 1, 65535]),
+            4 => b = n / (m * m.max(3)) + self.rng.below(2) as u32,
+            _ => b += 1,
+        }
+        self.set((n, q, m, b));
+    }
+
+    fn call(&mut self, letter: u8, number: u32) {
+        self.head(letter);
+        self.bytes.extend(number.to_be_bytes());
+    }
+
+    fn payload(&mut self, f: &Figures, number: u32) -> Vec<u8> {
+        let mut payload = self.rng.bytes(payload_len(f));
+        let len = payload.len().min(4);
+        payload[..len].copy_from_slice(&number.to_be_bytes()[..len]);
+        payload
+    }
+
+    fn write(&mut self, f: &Figures, number: u32, right: bool) {
+        let mut starts = placement(self.rng, f);
+        if !right {
+            starts = bad_starts_of(self.rng, f, &starts);
+        }
+        let payload = self.payload(f, number);
+        self.head(b'W');
+        self.bytes.extend(start_bytes(&starts));
+        self.bytes.extend(payload);
+    }
+
+    /// A word that was written and damaged, sometimes altered besides, or any word.
+    fn read(&mut self, f: &Figures, number: u32) {
+        let starts = placement(self.rng, f);
+        let payload = self.payload(f, number);
+        let mut table = [0; TABLE];
+        raw::call(&mut table, b'O', number);
+        let mut word = vec![0; f.n];
+        if raw::job_write(
+            numbers(f),
+            &table,
+            &start_bytes(&starts),
+            &payload,
+            &mut word,
+        ) == 0
+        {
+            damage(self.rng, f, &starts, &mut word);
+        }
+        match self.rng.below(if self.sound { 1 } else { 12 }) {
+            9 => {
+                let at = self.rng.index(f.n);
+                word[at] = self.rng.byte();
+            }
+            10 => {
+                let message = odd_message(self.rng, f, &payload);
+                raw::encode(numbers(f), &start_bytes(&starts), &message, &mut word);
+            }
+            11 => word = symbols(self.rng, f.q, f.n),
+            _ => {}
+        }
+        self.head(b'R');
+        self.bytes.extend(word);
+    }
+
+    /// Ends the stream: as it is, cut, with a wrong mark, an unknown letter, or bytes at will and more records.
+    fn ending(mut self, kind: u64) -> Vec<u8> {
+        let len = self.bytes.len();
+        match kind {
+            4 => self.bytes.truncate(len - 1 - self.rng.index(len.min(20))),
+            5 => self.bytes.extend([0x4C, 0x55, b'O', 0, 0, 0, 1]),
+            6 => {
+                let letter = self.rng.byte();
+                self.head(letter);
+                self.bytes.extend([0, 0, 0, 1]);
+            }
+            7 => {
+                let tail = self.rng.bytes(9);
+                self.bytes.extend(tail);
+            }
+            8 => self
+                .bytes
+                .extend([0x4C, 0x54].iter().take(1 + self.rng.index(2))),
+            _ => {}
+        }
+        if (5..8).contains(&kind) {
+            (0..3).for_each(|_| self.record());
+        }
+        self.bytes
+    }
+}

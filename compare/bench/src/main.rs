@@ -1,0 +1,31 @@
+//! Times of the library, the second implementation and a plain copy, the loops that instructions are counted in, and
+//! the transfer programs' records a second.
+
+mod rows;
+mod timing;
+mod transfer;
+
+use std::process::ExitCode;
+
+fn main() -> ExitCode {
+    let args: Vec<String> = std::env::args().skip(1).collect();
+    let args: Vec<&str> = args.iter().map(String::as_str).collect();
+    if run(&args).is_some() {
+        return ExitCode::SUCCESS;
+    }
+    eprintln!("usage: bench --times | --rows | --count ours|second encode|decode ROW CALLS");
+    eprintln!("       bench --transfer OURS SECOND");
+    ExitCode::from(2)
+}
+
+/// Does what the words ask for; None where they ask for nothing known.
+fn run(args: &[&str]) -> Option<()> {
+    match *args {
+        ["--times"] => timing::table(),
+        ["--rows"] => rows::list(),
+        ["--count", side, call, row, calls] => rows::count(side, call, row, calls)?,
+        ["--transfer", ours, second] => transfer::table(ours, second),
+        _ => return None,
+    }
+    Some(())
+}

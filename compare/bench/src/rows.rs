@@ -1,0 +1,133 @@
+//! The measured figures, and strips of them made ready.
+
+use std::hint::black_box;
+
+use agree::make::{damage, numbers, placement, start_bytes};
+use agree::rng::Rng;
+use agree::sides::{Numbers, Side, PROVED, SECOND};
+use second::Figures;
+
+/// Strips taken in turn, so that no single placement is measured.
+const STRIPS: usize = 16;
+const SEED: u64 = 1996;
+
+/// The figures of each row. Burst lengths: the largest power of two that fits, at most 16; rows that none fits are left out.
+pub fn rows() -> Vec<Figures> {
+    let mut rows = Vec::new();
+    for n in [64, 256, 1024] {
+        for m in [1, 3, 6] {
+            for q in [2, 16, 256] {
+                let lengths = [16, 8, 4, 2, 1];
+                rows.extend(lengths.iter().find_map(|&b| Figures::new(n, q, m, b).ok()));
+            }
+        }
+    }
+    rows
+}
+
+pub fn name(f: &Figures) -> String {
+    format!("{:>5} {:>2} {:>4} {:>3}", f.n, f.m, f.q, f.b)
+}
+
+/// Prints a line for each row: its number and its figures.
+pub fn list() {
+    for (i, f) in rows().iter().enumerate() {
+        println!("{i} {}", name(f));
+    }
+}
+
+struct Strip {
+    starts: Vec<u8>,
+    message: Vec<u8>,
+    found: Vec<u8>,
+}
+
+/// Strips ready to be written and read, and buffers that are never cleared between calls.
+pub struct Work {
+    pub f: Figures,
+    numbers: Numbers,
+    strips: Vec<Strip>,
+    word: Vec<u8>,
+    message: Vec<u8>,
+    starts: Vec<u8>,
+}
+
+impl Work {
+    pub fn new(f: &Figures) -> Work {
+        let mut rng = Rng::new(SEED);
+        let strips = (0..STRIPS).map(|_| strip(&mut rng, f)).collect();
+        let (word, message, starts) = (vec![0; f.n], vec![0; f.k], vec![0; 2 * f.m]);
+        Work {
+            f: *f,
+            numbers: numbers(f),
+            strips,
+            word,
+            message,
+            starts,
+        }
+    }
+
+    /// Makes so many calls, through the same signature on either side; the figures are judged anew in each.
+    pub fn run(&mut self, measured: Measured, calls: usize) {
+        for i in 0..calls {
+            let strip = &self.strips[i % STRIPS];
+            let answer = match measured {
+                Measured::Encode(side) => {
+                    let numbers = black_box(self.numbers);
+                    (side.encode)(numbers, &strip.starts, &strip.message, &mut self.word)
+                }
+                Measured::Decode(side) => {
+                    let numbers = black_box(self.numbers);
+                    (side.decode)(numbers, &strip.found, &mut self.message, &mut self.starts)
+                }
+                Measured::Copy => {
+                    self.word.copy_from_slice(black_box(&strip.found));
+                    0
+                }
+            };
+            black_box((&self.word, &self.message, &self.starts));
+            assert_eq!(answer, 0, "a measured call is served");
+        }
+    }
+}
+
+/// A call to be measured.
+#[derive(Clone, Copy)]
+pub enum Measured {
+    Encode(&'static Side),
+    Decode(&'static Side),
+    Copy,
+}
+
+fn strip(rng: &mut Rng, f: &Figures) -> Strip {
+    let placement = placement(rng, f);
+    let starts = start_bytes(&placement);
+    let message: Vec<u8> = (0..f.k).map(|_| rng.below(f.q as u64) as u8).collect();
+    let mut found = vec![0; f.n];
+    let answer = (SECOND.encode)(numbers(f), &starts, &message, &mut found);
+    assert_eq!(answer, 0, "a placement is written");
+    damage(rng, f, &placement, &mut found);
+    Strip {
+        starts,
+        message,
+        found,
+    }
+}
+
+/// Makes calls for an instruction counter; None where the words are no such call.
+pub fn count(side: &str, call: &str, row: &str, calls: &str) -> Option<()> {
+    let side = match side {
+        "ours" => &PROVED,
+        "second" => &SECOND,
+        _ => return None,
+    };
+    let measured = match call {
+        "encode" => Measured::Encode(side),
+        "decode" => Measured::Decode(side),
+        _ => return None,
+    };
+    let rows = rows();
+    let f = rows.get(row.parse::<usize>().ok()?)?;
+    Work::new(f).run(measured, calls.parse().ok()?);
+    Some(())
+}

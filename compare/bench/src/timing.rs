@@ -1,0 +1,75 @@
+//! The table of times: each row's calls in turn, several rounds, the median of each.
+
+use std::time::Instant;
+
+use agree::sides::{PROVED, SECOND};
+
+use crate::rows::{name, rows, Measured, Work};
+
+const ROUNDS: usize = 101;
+/// How long one measurement of a round is to take, about: short enough to be rarely interrupted.
+const NANOSECONDS: f64 = 2.5e5;
+
+/// The calls of a row, in the order in which each round takes them.
+const CALLS: [Measured; 5] = [
+    Measured::Encode(&PROVED),
+    Measured::Encode(&SECOND),
+    Measured::Decode(&PROVED),
+    Measured::Decode(&SECOND),
+    Measured::Copy,
+];
+
+/// Nanoseconds a call, of so many calls.
+fn time(work: &mut Work, measured: Measured, calls: usize) -> f64 {
+    let begun = Instant::now();
+    work.run(measured, calls);
+    begun.elapsed().as_nanos() as f64 / calls as f64
+}
+
+/// Nanoseconds a symbol of each call, one list of all calls for each round.
+fn rounds(work: &mut Work) -> Vec<[f64; CALLS.len()]> {
+    let calls = CALLS.map(|call| (NANOSECONDS / time(work, call, 100).max(1.0)) as usize + 16);
+    let symbols = work.f.n as f64;
+    let mut round = || {
+        let mut times = [0.0; CALLS.len()];
+        for (i, &call) in CALLS.iter().enumerate() {
+            times[i] = time(work, call, calls[i]) / symbols;
+        }
+        times
+    };
+    (0..ROUNDS).map(|_| round()).collect()
+}
+
+fn median(values: impl Iterator<Item = f64>) -> f64 {
+    let mut values: Vec<f64> = values.collect();
+    values.sort_unstable_by(f64::total_cmp);
+    values[values.len() / 2]
+}
+
+/// The columns of one call: both sides' times, and the ratios, each the median of the rounds' own.
+fn columns(rounds: &[[f64; CALLS.len()]], ours: usize, second: usize) -> String {
+    let time = |i: usize| median(rounds.iter().map(|times| times[i]));
+    let ratio = |i: usize| median(rounds.iter().map(|times| times[ours] / times[i]));
+    let (to_second, to_copy) = (ratio(second), ratio(CALLS.len() - 1));
+    let (a, b) = (time(ours), time(second));
+    format!("{a:>8.3} {b:>7.3} {to_second:>6.2} {to_copy:>5.0}")
+}
+
+pub fn table() {
+    println!("nanoseconds a symbol, and the ratios ours/second and ours/copy; medians of {ROUNDS} rounds");
+    println!(
+        "                           encode                          decode                copy"
+    );
+    println!(
+        "    n  m    q   b     ours  second    o/s   o/c      ours  second    o/s   o/c       ns"
+    );
+    let rows = rows();
+    for (i, f) in rows.iter().enumerate() {
+        eprint!("\rtimes: row {} of {}", i + 1, rows.len());
+        let rounds = rounds(&mut Work::new(f));
+        let (encode, decode) = (columns(&rounds, 0, 1), columns(&rounds, 2, 3));
+        let copy = median(rounds.iter().map(|times| times[4]));
+        println!("{} {encode}  {decode} {copy:>8.4}", name(f));
+    }
+    eprintln!();
+}

@@ -1,0 +1,110 @@
+//! The book of 64 places, each free or holding a job number that is open or cancelled.
+
+pub const PLACES: usize = 64;
+
+#[derive(Clone, Copy, Debug, PartialEq, Eq)]
+pub enum Place {
+    Free,
+    Open(u32),
+    Cancelled(u32),
+}
+
+impl Place {
+    fn number(self) -> Option<u32> {
+        match self {
+            Place::Free => None,
+            Place::Open(number) | Place::Cancelled(number) => Some(number),
+        }
+    }
+}
+
+#[derive(Clone, Debug, PartialEq, Eq)]
+pub struct Book {
+    places: [Place; PLACES],
+}
+
+impl Default for Book {
+    fn default() -> Book {
+        Book {
+            places: [Place::Free; PLACES],
+        }
+    }
+}
+
+impl Book {
+    /// A book with these places; one number twice is refused with 1.
+    pub fn from_places(places: [Place; PLACES]) -> Result<Book, u8> {
+        for (i, place) in places.iter().enumerate() {
+            let Some(number) = place.number() else {
+                continue;
+            };
+            if places[..i]
+                .iter()
+                .any(|other| other.number() == Some(number))
+            {
+                return Err(1);
+            }
+        }
+        Ok(Book { places })
+    }
+
+    pub fn places(&self) -> &[Place; PLACES] {
+        &self.places
+    }
+
+    fn find(&self, number: u32) -> Option<usize> {
+        self.places
+            .iter()
+            .position(|place| place.number() == Some(number))
+    }
+
+    /// Puts a new number into the first free place.
+    fn add(&mut self, place: Place) -> u8 {
+        match self.places.iter().position(|&place| place == Place::Free) {
+            Some(at) => {
+                self.places[at] = place;
+                0
+            }
+            None => 15,
+        }
+    }
+
+    pub fn open(&mut self, number: u32) -> u8 {
+        match self.find(number).map(|at| self.places[at]) {
+            Some(Place::Cancelled(_)) => 12,
+            Some(_) => 13,
+            None => self.add(Place::Open(number)),
+        }
+    }
+
+    pub fn cancel(&mut self, number: u32) -> u8 {
+        match self.find(number) {
+            Some(at) if self.places[at] == Place::Cancelled(number) => 12,
+            Some(at) => {
+                self.places[at] = Place::Cancelled(number);
+                0
+            }
+            None => self.add(Place::Cancelled(number)),
+        }
+    }
+
+    pub fn finish(&mut self, number: u32) -> u8 {
+        match self.find(number) {
+            Some(at) if self.places[at] == Place::Cancelled(number) => 12,
+            Some(at) => {
+                self.places[at] = Place::Free;
+                0
+            }
+            None => 14,
+        }
+    }
+
+    /// What writing or reading a job asks: 12 where it is cancelled, 14 where it isn't open.
+    pub fn require_open(&self, number: u32) -> Result<(), u8> {
+        match self.find(number).map(|at| self.places[at]) {
+            Some(Place::Open(_)) => Ok(()),
+            Some(_) => Err(12),
+            None => Err(14),
+        }
+    }
+}

@@ -1,0 +1,145 @@
+//! The word writer and the word reader.
+
+use crate::blocks::{burst_blocks, index_blocks, pattern, Layout, Reserved};
+use crate::choose::{rank, unrank};
+use crate::figures::Figures;
+
+/// Whether the starts make a placement: m are given, runs ascend, don't touch each other's positions and end inside the word.
+pub fn placed(f: &Figures, starts: &[u16]) -> bool {
+    let mut free = 0;
+    for &start in starts {
+        if (start as usize) < free {
+            return false;
+        }
+        free = start as usize + f.b;
+    }
+    free <= f.n
+}
+
+/// Writes the word of a placement and a message. Refusals 3 5 4.
+pub fn encode(f: &Figures, starts: &[u16], message: &[u8], word: &mut [u8]) -> u8 {
+    if starts.len() != f.m || message.len() != f.k || word.len() != f.n {
+        return 3;
+    }
+    if !placed(f, starts) {
+        return 5;
+    }
+    if !f.symbols(message) {
+        return 4;
+    }
+    write(f, starts, message, word);
+    0
+}
+
+/// Writes a word whose placement and message are known to be right.
+pub(crate) fn write(f: &Figures, starts: &[u16], message: &[u8], word: &mut [u8]) {
+    let layout = Layout::new(f);
+    let bursts = burst_blocks(f, &layout, starts);
+    let index = index_blocks(f, bursts);
+    word.fill(0);
+    write_rank(f, &layout, index, rank(f, starts), word);
+    Reserved::new(f, &layout, starts, bursts, index).between(f.n, |done, from, to| {
+        word[from..to].copy_from_slice(&message[done..done + to - from]);
+    });
+}
+
+/// Writes the digits from the last to the first, as division yields them.
+fn write_rank(f: &Figures, layout: &Layout, index: u64, rank: u64, word: &mut [u8]) {
+    let q = f.q as u64;
+    let mut left = rank;
+    for block in (0..f.blocks())
+        .rev()
+        .filter(|&block| index >> block & 1 == 1)
+    {
+        let begin = layout.begin[block] as usize;
+        for symbol in word[begin + 1..=begin + f.r].iter_mut().rev() {
+            *symbol = (left % q) as u8;
+            left /= q;
+        }
+        word[begin] = (left % (q - 1)) as u8 + 1;
+        left /= q - 1;
+    }
+}
+
+/// Reads a found word: its message and the placement. Refusals 3 4 7 8 9.
+pub fn decode(f: &Figures, word: &[u8], message: &mut [u8], starts: &mut [u16]) -> u8 {
+    if word.len() != f.n || message.len() != f.k || starts.len() != f.m {
+        return 3;
+    }
+    match read(f, word) {
+        Ok(found) => {
+            found.message(f, word, message);
+            starts.copy_from_slice(&found.starts[..f.m]);
+            0
+        }
+        Err(refusal) => refusal,
+    }
+}
+
+/// What an accepted word of n symbols says.
+#[derive(Debug)]
+pub struct Found {
+    pub rank: u64,
+    /// Those past m are 0.
+    pub starts: [u16; 6],
+    reserved: Reserved,
+}
+
+impl Found {
+    /// Copies the k message symbols out of the word.
+    pub fn message(&self, f: &Figures, word: &[u8], message: &mut [u8]) {
+        self.reserved.between(f.n, |done, from, to| {
+            message[done..done + to - from].copy_from_slice(&word[from..to]);
+        });
+    }
+}
+
+/// Judges a word of n bytes. Refusals 4 7 8 9.
+pub fn read(f: &Figures, word: &[u8]) -> Result<Found, u8> {
+    if !f.symbols(word) {
+        return Err(4);
+    }
+    let layout = Layout::new(f);
+    let fixed = (0..f.blocks()).fold(0u64, |set, block| {
+        set | (looks_fixed(&word[layout.begin[block] as usize..]) as u64) << block
+    });
+    let index = pattern(f, fixed).ok_or(7)?;
+    let rank = read_rank(f, &layout, index, word).ok_or(8)?;
+    let starts = unrank(f, rank);
+    let bursts = burst_blocks(f, &layout, &starts[..f.m]);
+    let all = (1u64 << f.blocks()) - 1;
+    if index_blocks(f, bursts) != index || all & !bursts & !index & !fixed != 0 {
+        return Err(9);
+    }
+    let reserved = Reserved::new(f, &layout, &starts[..f.m], bursts, index);
+    Ok(Found {
+        rank,
+        starts,
+        reserved,
+    })
+}
+
+fn looks_fixed(block: &[u8]) -> bool {
+    block[0] == 0
+}
+
+/// The value at the heads of the I-blocks, or none where it is T or more.
+fn read_rank(f: &Figures, layout: &Layout, index: u64, word: &[u8]) -> Option<u64> {
+    let q = f.q as u64;
+    let mut value = 0;
+    for block in (0..f.blocks()).filter(|&block| index >> block & 1 == 1) {
+        let begin = layout.begin[block] as usize;
+        value = value * (q - 1) + (word[begin] as u64 - 1);
+        // Further digits never lessen the value, and one below 2^51 leaves room for the next digit.
+        if value >= f.t {
+            return None;
+        }
+        for &symbol in &word[begin + 1..=begin + f.r] {
+            value = value * q + symbol as u64;
+            if value >= f.t {
+                return None;
+            }
+        }
+    }
+    Some(value)
+}

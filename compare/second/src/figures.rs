@@ -1,0 +1,81 @@
+//! The figures of a strip: what is given (n, q, m, b), what follows from it, and refusals 1 and 2.
+
+use crate::choose::choose;
+
+pub const MIN_N: u32 = 3;
+pub const MAX_N: usize = 1024;
+pub const MAX_RUNS: usize = 6;
+pub const MAX_BLOCKS: usize = MAX_RUNS * MAX_RUNS;
+
+/// Figures that fit.
+#[derive(Clone, Copy, Debug, PartialEq, Eq)]
+pub struct Figures {
+    pub n: usize,
+    pub q: u32,
+    pub m: usize,
+    pub b: usize,
+    /// How many parts the word is cut into.
+    pub p: usize,
+    /// How many symbols of an I-block follow its first one.
+    pub r: usize,
+    /// How many symbols the message has.
+    pub k: usize,
+    /// T, how many placements there are.
+    pub t: u64,
+}
+
+impl Figures {
+    pub fn new(n: u32, q: u32, m: u32, b: u32) -> Result<Figures, u8> {
+        let in_range = (MIN_N..=MAX_N as u32).contains(&n)
+            && (2..=256).contains(&q)
+            && (1..=MAX_RUNS as u32).contains(&m)
+            && b >= 1;
+        if !in_range {
+            return Err(1);
+        }
+        if m as u64 * b as u64 > n as u64 {
+            return Err(2);
+        }
+        let (n, m, b) = (n as usize, m as usize, b as usize);
+        let p = if m <= 2 { 3 } else { m };
+        let t = choose(n - m * b + m, m);
+        let r = symbols_after_first(q, m, t);
+        let block = n / (p * m);
+        if r >= block || b > block - r {
+            return Err(2);
+        }
+        let k = n - m * (b + p + r - 1);
+        Ok(Figures {
+            n,
+            q,
+            m,
+            b,
+            p,
+            r,
+            k,
+            t,
+        })
+    }
+
+    pub fn blocks(&self) -> usize {
+        self.p * self.m
+    }
+
+    /// Whether every byte is a symbol.
+    pub fn symbols(&self, bytes: &[u8]) -> bool {
+        let largest = bytes.iter().fold(0, |a, &b| a.max(b));
+        (largest as u32) < self.q
+    }
+}
+
+/// r: the least for which m I-blocks spell at least `t` values.
+fn symbols_after_first(q: u32, m: usize, t: u64) -> usize {
+    let mut r = 0;
+    let mut values = (q as u64 - 1).pow(m as u32);
+    // t is below 2^51, so a product that doesn't fit is large enough.
+    while values < t {
+        values = values.saturating_mul((q as u64).pow(m as u32));
+        r += 1;
+    }
+    r
+}

@@ -1,0 +1,106 @@
+//! Job numbers and texts in a message: the spelling of bytes, and writing and reading a job.
+
+use crate::book::Book;
+use crate::codec::{placed, read, write};
+use crate::figures::{Figures, MAX_N};
+
+/// The least K that has room for a number and some text.
+pub const LEAST_PAYLOAD: usize = 5;
+
+/// w: how many symbols a byte takes.
+pub fn width(q: u32) -> usize {
+    let mut values = q;
+    let mut w = 1;
+    while values < 256 {
+        values *= q;
+        w += 1;
+    }
+    w
+}
+
+/// K: how many bytes a message holds.
+pub fn payload_len(f: &Figures) -> usize {
+    f.k / width(f.q)
+}
+
+/// The number that a payload of at least 4 bytes begins with.
+fn number(payload: &[u8]) -> u32 {
+    u32::from_be_bytes([payload[0], payload[1], payload[2], payload[3]])
+}
+
+/// Spells the payload over a message of zeros; leftover symbols stay 0.
+fn spell(q: u32, payload: &[u8], message: &mut [u8]) {
+    for (symbols, &byte) in message.chunks_exact_mut(width(q)).zip(payload) {
+        let mut left = byte as u32;
+        for symbol in symbols.iter_mut().rev() {
+            *symbol = (left % q) as u8;
+            left /= q;
+        }
+    }
+}
+
+/// Reads the payload of a message, or tells that it spells none.
+fn unspell(q: u32, message: &[u8], payload: &mut [u8]) -> bool {
+    let bytes = message.chunks_exact(width(q));
+    if bytes.remainder().iter().any(|&symbol| symbol != 0) {
+        return false;
+    }
+    for (symbols, byte) in bytes.zip(payload) {
+        // Eight symbols below 2, or one below 256: the value stays far below 2^32.
+        let value = symbols
+            .iter()
+            .fold(0, |value, &symbol| value * q + symbol as u32);
+        if value >= 256 {
+            return false;
+        }
+        *byte = value as u8;
+    }
+    true
+}
+
+/// Writes an open job's word. Refusals 10 3 5 12 14.
+pub fn write_job(f: &Figures, book: &Book, starts: &[u16], payload: &[u8], word: &mut [u8]) -> u8 {
+    let len = payload_len(f);
+    if len < LEAST_PAYLOAD {
+        return 10;
+    }
+    if starts.len() != f.m || payload.len() != len || word.len() != f.n {
+        return 3;
+    }
+    if !placed(f, starts) {
+        return 5;
+    }
+    if let Err(refusal) = book.require_open(number(payload)) {
+        return refusal;
+    }
+    let mut message = [0; MAX_N];
+    spell(f.q, payload, &mut message[..f.k]);
+    write(f, starts, &message[..f.k], word);
+    0
+}
+
+/// Reads an open job's word. Refusals 10 for K, 3 4 7 8 9, 10, 12 14.
+pub fn read_job(f: &Figures, book: &Book, word: &[u8], payload: &mut [u8]) -> u8 {
+    let len = payload_len(f);
+    if len < LEAST_PAYLOAD {
+        return 10;
+    }
+    if word.len() != f.n || payload.len() != len {
+        return 3;
+    }
+    let found = match read(f, word) {
+        Ok(found) => found,
+        Err(refusal) => return refusal,
+    };
+    let mut message = [0; MAX_N];
+    found.message(f, word, &mut message[..f.k]);
+    let mut bytes = [0; MAX_N];
+    if !unspell(f.q, &message[..f.k], &mut bytes[..len]) {
+        return 10;
+    }
+    if let Err(refusal) = book.require_open(number(&bytes)) {
+        return refusal;
+    }
+    payload.copy_from_slice(&bytes[..len]);
+    0
+}

@@ -1,0 +1,15 @@
+//! A second implementation of document 01, written from the paper alone and in plain Rust.
+//! A refusal is its number, 0 is served; a refused call leaves every buffer and the book as they were.
+
+pub mod blocks;
+pub mod book;
+pub mod choose;
+pub mod codec;
+pub mod cover;
+pub mod figures;
+pub mod job;
+pub mod raw;
+pub mod transfer;
+
+pub use book::Book;
+pub use figures::Figures;

@@ -1,0 +1,170 @@
+//! The same calls on plain numbers and bytes, as a C program makes them: starts are 2 bytes each, high byte first, and a
+//! book is a table of 64 slots of 5 bytes, the state (0 free, 1 open, 2 cancelled) and the number, high byte first.
+
+use crate::book::{Book, Place, PLACES};
+use crate::figures::{Figures, MAX_RUNS};
+use crate::{codec, cover as planner, job};
+
+pub const SLOT: usize = 5;
+pub const TABLE: usize = PLACES * SLOT;
+pub const NO_LENGTH: u32 = u32::MAX;
+
+/// The four figures as numbers.
+pub type Numbers = (u32, u32, u32, u32);
+
+fn figures((n, q, m, b): Numbers) -> Result<Figures, u8> {
+    Figures::new(n, q, m, b)
+}
+
+/// The starts held in 2 * m bytes.
+fn starts_of(bytes: &[u8]) -> [u16; MAX_RUNS] {
+    let mut starts = [0; MAX_RUNS];
+    for (start, pair) in starts.iter_mut().zip(bytes.chunks_exact(2)) {
+        *start = u16::from_be_bytes([pair[0], pair[1]]);
+    }
+    starts
+}
+
+fn put_starts(starts: &[u16], bytes: &mut [u8]) {
+    for (pair, start) in bytes.chunks_exact_mut(2).zip(starts) {
+        pair.copy_from_slice(&start.to_be_bytes());
+    }
+}
+
+/// The book of a table: none where its length is wrong, refusal 1 where a state is unknown or a number stands twice.
+fn book_of(table: &[u8]) -> Result<Option<Book>, u8> {
+    if table.len() != TABLE {
+        return Ok(None);
+    }
+    let mut places = [Place::Free; PLACES];
+    for (place, slot) in places.iter_mut().zip(table.chunks_exact(SLOT)) {
+        let number = u32::from_be_bytes([slot[1], slot[2], slot[3], slot[4]]);
+        *place = match slot[0] {
+            0 => Place::Free,
+            1 => Place::Open(number),
+            2 => Place::Cancelled(number),
+            _ => return Err(1),
+        };
+    }
+    Book::from_places(places).map(Some)
+}
+
+fn put_book(book: &Book, table: &mut [u8]) {
+    for (slot, place) in table.chunks_exact_mut(SLOT).zip(book.places()) {
+        let (state, number) = match *place {
+            Place::Free => (0, 0),
+            Place::Open(number) => (1, number),
+            Place::Cancelled(number) => (2, number),
+        };
+        slot[0] = state;
+        slot[1..].copy_from_slice(&number.to_be_bytes());
+    }
+}
+
+pub fn message_len(numbers: Numbers) -> u32 {
+    figures(numbers).map_or(NO_LENGTH, |f| f.k as u32)
+}
+
+pub fn encode(numbers: Numbers, starts: &[u8], message: &[u8], word: &mut [u8]) -> u8 {
+    let f = match figures(numbers) {
+        Ok(f) => f,
+        Err(refusal) => return refusal,
+    };
+    if starts.len() != 2 * f.m {
+        return 3;
+    }
+    codec::encode(&f, &starts_of(starts)[..f.m], message, word)
+}
+
+pub fn decode(numbers: Numbers, word: &[u8], message: &mut [u8], starts: &mut [u8]) -> u8 {
+    let f = match figures(numbers) {
+        Ok(f) => f,
+        Err(refusal) => return refusal,
+    };
+    if starts.len() != 2 * f.m {
+        return 3;
+    }
+    let mut found = [0; MAX_RUNS];
+    let answer = codec::decode(&f, word, message, &mut found[..f.m]);
+    if answer == 0 {
+        put_starts(&found[..f.m], starts);
+    }
+    answer
+}
+
+pub fn cover(numbers: Numbers, map: &[u8], starts: &mut [u8]) -> u8 {
+    let f = match figures(numbers) {
+        Ok(f) => f,
+        Err(refusal) => return refusal,
+    };
+    if starts.len() != 2 * f.m {
+        return 3;
+    }
+    match planner::cover(&f, map) {
+        Ok(found) => {
+            put_starts(&found[..f.m], starts);
+            0
+        }
+        Err(refusal) => refusal,
+    }
+}
+
+/// Opens (O), cancels (C) or finishes (F) a number; another letter is 11.
+pub fn call(table: &mut [u8], letter: u8, number: u32) -> u8 {
+    let act = match letter {
+        b'O' => Book::open,
+        b'C' => Book::cancel,
+        b'F' => Book::finish,
+        _ => return 11,
+    };
+    let mut book = match book_of(table) {
+        Ok(Some(book)) => book,
+        Ok(None) => return 3,
+        Err(refusal) => return refusal,
+    };
+    let answer = act(&mut book, number);
+    if answer == 0 {
+        put_book(&book, table);
+    }
+    answer
+}
+
+/// What both job calls begin with: refusal 1 for the table, then 1 and 2 for the figures. A table of another length
+/// comes back as none, for it is judged with the other lengths.
+fn job_inputs(numbers: Numbers, table: &[u8]) -> Result<(Figures, Option<Book>), u8> {
+    let book = book_of(table)?;
+    Ok((figures(numbers)?, book))
+}
+
+pub fn job_write(
+    numbers: Numbers,
+    table: &[u8],
+    starts: &[u8],
+    payload: &[u8],
+    word: &mut [u8],
+) -> u8 {
+    let (f, book) = match job_inputs(numbers, table) {
+        Ok(inputs) => inputs,
+        Err(refusal) => return refusal,
+    };
+    let wrong_starts = starts.len() != 2 * f.m;
+    match book {
+        _ if job::payload_len(&f) < job::LEAST_PAYLOAD => 10,
+        Some(book) if !wrong_starts => {
+            job::write_job(&f, &book, &starts_of(starts)[..f.m], payload, word)
+        }
+        _ => 3,
+    }
+}
+
+pub fn job_read(numbers: Numbers, table: &[u8], word: &[u8], payload: &mut [u8]) -> u8 {
+    let (f, book) = match job_inputs(numbers, table) {
+        Ok(inputs) => inputs,
+        Err(refusal) => return refusal,
+    };
+    match book {
+        _ if job::payload_len(&f) < job::LEAST_PAYLOAD => 10,
+        Some(book) => job::read_job(&f, &book, word, payload),
+        None => 3,
+    }
+}

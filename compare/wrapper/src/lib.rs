@@ -1,0 +1,185 @@
+//! Burgzemi for Rust: the proved writer, reader, planner and job table, called safely through the library's C interface.
+//!
+//! ```
+//! use burgzemi::{Figures, Refusal, Table};
+//!
+//! let strip = Figures::new(15, 256, 1, 2)?;
+//! let mut jobs = Table::new();
+//! jobs.open(7)?;
+//!
+//! let mut word = [0; 15];
+//! burgzemi::job_write(&strip, &jobs, &[6], b"\0\0\0\x07ABCDEFG", &mut word)?;
+//! word[6] = 0xFF; // damage inside the run
+//!
+//! let mut payload = [0; 11];
+//! burgzemi::job_read(&strip, &jobs, &word, &mut payload)?;
+//! assert_eq!(&payload[4..], b"ABCDEFG");
+//!
+//! jobs.cancel(7)?;
+//! assert_eq!(burgzemi::job_read(&strip, &jobs, &word, &mut payload), Err(Refusal::CANCELLED));
+//! # Ok::<(), Refusal>(())
+//! ```
+
+pub mod raw;
+mod refusal;
+mod table;
+
+use std::ops::Deref;
+
+pub use refusal::Refusal;
+pub use table::Table;
+
+/// The longest word.
+pub const MAX_WORD: usize = 1024;
+/// The most runs that a placement has.
+pub const MAX_RUNS: usize = 6;
+
+/// Figures that fit, with the lengths that follow from them.
+#[derive(Clone, Copy, PartialEq, Eq, Debug)]
+pub struct Figures {
+    numbers: raw::Numbers,
+    message_len: usize,
+}
+
+impl Figures {
+    /// n symbols of a word, each below q, and m runs of b positions.
+    pub fn new(n: u32, q: u32, m: u32, b: u32) -> Result<Figures, Refusal> {
+        let numbers = (n, q, m, b);
+        let k = raw::message_len(numbers);
+        if k == raw::NO_LENGTH {
+            // The reader looks at the figures first, so it tells which refusal it is.
+            Refusal::of(raw::decode(numbers, &[], &mut [], &mut []))?;
+        }
+        Ok(Figures {
+            numbers,
+            message_len: k as usize,
+        })
+    }
+
+    /// n.
+    pub fn word_len(&self) -> usize {
+        self.numbers.0 as usize
+    }
+
+    /// m.
+    pub fn runs(&self) -> usize {
+        self.numbers.2 as usize
+    }
+
+    /// k.
+    pub fn message_len(&self) -> usize {
+        self.message_len
+    }
+
+    /// K, how many bytes a job's number and text have.
+    pub fn payload_len(&self) -> usize {
+        let q = self.numbers.1;
+        let width = (1..).find(|&width| q.pow(width) >= 256).unwrap_or(1);
+        self.message_len / width as usize
+    }
+}
+
+/// The starts of a placement's runs, ascending.
+#[derive(Clone, Copy, PartialEq, Eq, Debug)]
+pub struct Placement {
+    starts: [u16; MAX_RUNS],
+    count: usize,
+}
+
+impl Placement {
+    fn of(bytes: &[u8]) -> Placement {
+        let mut starts = [0; MAX_RUNS];
+        for (start, pair) in starts.iter_mut().zip(bytes.chunks_exact(2)) {
+            *start = u16::from_be_bytes([pair[0], pair[1]]);
+        }
+        Placement {
+            starts,
+            count: bytes.len() / 2,
+        }
+    }
+}
+
+impl Deref for Placement {
+    type Target = [u16];
+
+    fn deref(&self) -> &[u16] {
+        &self.starts[..self.count]
+    }
+}
+
+/// Starts as the C calls take them. More than six are passed as seven, a length that every figure refuses.
+struct StartBytes {
+    bytes: [u8; 2 * MAX_RUNS + 2],
+    len: usize,
+}
+
+impl StartBytes {
+    fn of(starts: &[u16]) -> StartBytes {
+        let mut bytes = [0; 2 * MAX_RUNS + 2];
+        for (pair, start) in bytes.chunks_exact_mut(2).zip(starts) {
+            pair.copy_from_slice(&start.to_be_bytes());
+        }
+        StartBytes {
+            bytes,
+            len: 2 * starts.len().min(MAX_RUNS + 1),
+        }
+    }
+
+    fn get(&self) -> &[u8] {
+        &self.bytes[..self.len]
+    }
+}
+
+/// Writes the word of a placement and a message.
+pub fn encode(f: &Figures, starts: &[u16], message: &[u8], word: &mut [u8]) -> Result<(), Refusal> {
+    Refusal::of(raw::encode(
+        f.numbers,
+        StartBytes::of(starts).get(),
+        message,
+        word,
+    ))
+}
+
+/// Reads a found word: its message, and the placement as the answer.
+pub fn decode(f: &Figures, word: &[u8], message: &mut [u8]) -> Result<Placement, Refusal> {
+    let mut starts = [0; 2 * MAX_RUNS];
+    let starts = &mut starts[..2 * f.runs()];
+    Refusal::of(raw::decode(f.numbers, word, message, starts))?;
+    Ok(Placement::of(starts))
+}
+
+/// The placement of least rank that covers every cell that is 1 in the map.
+pub fn cover(f: &Figures, map: &[u8]) -> Result<Placement, Refusal> {
+    let mut starts = [0; 2 * MAX_RUNS];
+    let starts = &mut starts[..2 * f.runs()];
+    Refusal::of(raw::cover(f.numbers, map, starts))?;
+    Ok(Placement::of(starts))
+}
+
+/// Writes the word of an open job; the payload is its number, high byte first, and its text.
+pub fn job_write(
+    f: &Figures,
+    table: &Table,
+    starts: &[u16],
+    payload: &[u8],
+    word: &mut [u8],
+) -> Result<(), Refusal> {
+    let starts = StartBytes::of(starts);
+    Refusal::of(raw::job_write(
+        f.numbers,
+        table.as_bytes(),
+        starts.get(),
+        payload,
+        word,
+    ))
+}
+
+/// Reads the word of an open job into its payload.
+pub fn job_read(
+    f: &Figures,
+    table: &Table,
+    word: &[u8],
+    payload: &mut [u8],
+) -> Result<(), Refusal> {
+    Refusal::of(raw::job_read(f.numbers, table.as_bytes(), word, payload))
+}

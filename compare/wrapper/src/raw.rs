@@ -1,0 +1,107 @@
+//! The C calls on slices, each answering 0 or the refusal number. The only module with unsafe code.
+//! Starts are 2 bytes each, high byte first; a table is 64 slots of 5 bytes, a state and a number.
+
+/// n, q, m and b.
+pub type Numbers = (u32, u32, u32, u32);
+
+/// What `message_len` answers for figures that are refused.
+pub const NO_LENGTH: u32 = u32::MAX;
+
+#[rustfmt::skip]
+mod c {
+    extern "C" {
+        pub fn burgzemi_message_len(n: u32, q: u32, m: u32, b: u32) -> u32;
+        pub fn burgzemi_encode(
+            n: u32, q: u32, m: u32, b: u32,
+            starts: *const u8, starts_len: usize,
+            message: *const u8, message_len: usize,
+            word: *mut u8, word_len: usize,
+        ) -> u8;
+        pub fn burgzemi_decode(
+            n: u32, q: u32, m: u32, b: u32,
+            word: *const u8, word_len: usize,
+            message: *mut u8, message_len: usize,
+            starts: *mut u8, starts_len: usize,
+        ) -> u8;
+        pub fn burgzemi_cover(
+            n: u32, q: u32, m: u32, b: u32,
+            map: *const u8, map_len: usize,
+            starts: *mut u8, starts_len: usize,
+        ) -> u8;
+        pub fn burgzemi_call(table: *mut u8, table_len: usize, letter: u8, number: u32) -> u8;
+        pub fn burgzemi_job_write(
+            n: u32, q: u32, m: u32, b: u32,
+            table: *const u8, table_len: usize,
+            starts: *const u8, starts_len: usize,
+            payload: *const u8, payload_len: usize,
+            word: *mut u8, word_len: usize,
+        ) -> u8;
+        pub fn burgzemi_job_read(
+            n: u32, q: u32, m: u32, b: u32,
+            table: *const u8, table_len: usize,
+            word: *const u8, word_len: usize,
+            payload: *mut u8, payload_len: usize,
+        ) -> u8;
+    }
+}
+
+/// k, or `NO_LENGTH` where the figures are refused.
+pub fn message_len((n, q, m, b): Numbers) -> u32 {
+    // SAFETY: takes and returns numbers only, and touches no memory.
+    unsafe { c::burgzemi_message_len(n, q, m, b) }
+}
+
+/// Writes a word.
+pub fn encode((n, q, m, b): Numbers, starts: &[u8], message: &[u8], word: &mut [u8]) -> u8 {
+    let (s, t) = (starts.as_ptr(), starts.len());
+    let (from, len) = (message.as_ptr(), message.len());
+    // SAFETY: each pointer is a slice's own, never null, with its length; the one written to is lent alone.
+    unsafe { c::burgzemi_encode(n, q, m, b, s, t, from, len, word.as_mut_ptr(), word.len()) }
+}
+
+/// Reads a word into the message and starts.
+pub fn decode((n, q, m, b): Numbers, word: &[u8], message: &mut [u8], starts: &mut [u8]) -> u8 {
+    let (from, len) = (word.as_ptr(), word.len());
+    let (to, room) = (message.as_mut_ptr(), message.len());
+    let (s, t) = (starts.as_mut_ptr(), starts.len());
+    // SAFETY: each pointer is a slice's own, never null, with its length; the two written to are lent alone.
+    unsafe { c::burgzemi_decode(n, q, m, b, from, len, to, room, s, t) }
+}
+
+/// Finds the starts that cover a map.
+pub fn cover((n, q, m, b): Numbers, map: &[u8], starts: &mut [u8]) -> u8 {
+    let (s, t) = (starts.as_mut_ptr(), starts.len());
+    // SAFETY: each pointer is a slice's own, never null, with its length; the one written to is lent alone.
+    unsafe { c::burgzemi_cover(n, q, m, b, map.as_ptr(), map.len(), s, t) }
+}
+
+/// Opens (O), cancels (C) or finishes (F) a number in a table.
+pub fn call(table: &mut [u8], letter: u8, number: u32) -> u8 {
+    // SAFETY: the pointer is the slice's own, never null, with its length, and lent alone.
+    unsafe { c::burgzemi_call(table.as_mut_ptr(), table.len(), letter, number) }
+}
+
+/// Writes the word of an open job.
+pub fn job_write(
+    (n, q, m, b): Numbers,
+    table: &[u8],
+    starts: &[u8],
+    payload: &[u8],
+    word: &mut [u8],
+) -> u8 {
+    let (at, size) = (table.as_ptr(), table.len());
+    let (s, t) = (starts.as_ptr(), starts.len());
+    let (from, len) = (payload.as_ptr(), payload.len());
+    let (to, room) = (word.as_mut_ptr(), word.len());
+    // SAFETY: each pointer is a slice's own, never null, with its length; the one written to is lent alone.
+    unsafe { c::burgzemi_job_write(n, q, m, b, at, size, s, t, from, len, to, room) }
+}
+
+/// Reads the word of an open job into its payload.
+pub fn job_read((n, q, m, b): Numbers, table: &[u8], word: &[u8], payload: &mut [u8]) -> u8 {
+    let (at, size) = (table.as_ptr(), table.len());
+    let (from, len) = (word.as_ptr(), word.len());
+    let (to, room) = (payload.as_mut_ptr(), payload.len());
+    // SAFETY: each pointer is a slice's own, never null, with its length; the one written to is lent alone.
+    unsafe { c::burgzemi_job_read(n, q, m, b, at, size, from, len, to, room) }
+}

@@ -1,0 +1,48 @@
+//! The table of job numbers that the calls are made on.
+
+use crate::raw;
+use crate::refusal::Refusal;
+
+/// 64 places of 5 bytes: a state (0 free, 1 open, 2 cancelled) and a number, high byte first.
+#[derive(Clone, PartialEq, Eq, Debug)]
+pub struct Table {
+    bytes: [u8; Table::LEN],
+}
+
+impl Table {
+    pub const LEN: usize = 320;
+
+    /// An empty table.
+    pub fn new() -> Table {
+        Table {
+            bytes: [0; Table::LEN],
+        }
+    }
+
+    /// A table kept elsewhere. Each call judges it, and refuses one with an unknown state or one number twice.
+    pub fn from_bytes(bytes: [u8; Table::LEN]) -> Table {
+        Table { bytes }
+    }
+
+    pub fn as_bytes(&self) -> &[u8; Table::LEN] {
+        &self.bytes
+    }
+
+    pub fn open(&mut self, number: u32) -> Result<(), Refusal> {
+        Refusal::of(raw::call(&mut self.bytes, b'O', number))
+    }
+
+    pub fn cancel(&mut self, number: u32) -> Result<(), Refusal> {
+        Refusal::of(raw::call(&mut self.bytes, b'C', number))
+    }
+
+    pub fn finish(&mut self, number: u32) -> Result<(), Refusal> {
+        Refusal::of(raw::call(&mut self.bytes, b'F', number))
+    }
+}
+
+impl Default for Table {
+    fn default() -> Table {
+        Table::new()
+    }
+}

@@ -1,0 +1,120 @@
+//! Bench strips of document 01, through the wrapper.
+
+use burgzemi::{cover, decode, encode, Figures, Refusal, Table};
+
+fn symbols(text: &str) -> Vec<u8> {
+    text.bytes()
+        .filter(|&byte| byte != b' ')
+        .map(|byte| byte - b'0')
+        .collect()
+}
+
+fn first() -> Figures {
+    Figures::new(30, 2, 1, 3).expect("these figures fit")
+}
+
+#[test]
+fn figures() {
+    assert_eq!(first().message_len(), 20);
+    assert_eq!(first().payload_len(), 2);
+    assert_eq!(Figures::new(30, 2, 1, 6), Err(Refusal::UNFIT));
+    assert_eq!(Figures::new(30, 2, 0, 6), Err(Refusal::INVALID));
+    assert_eq!(Figures::new(3, 4, 1, 1).map(|f| f.message_len()), Ok(0));
+    assert_eq!(Figures::new(3, 3, 1, 1), Err(Refusal::UNFIT));
+    assert!(Figures::new(60, 17, 2, 9).is_ok());
+    assert_eq!(Figures::new(60, 17, 2, 10), Err(Refusal::UNFIT));
+}
+
+#[test]
+fn first_strip() {
+    let word = symbols("0 11111111111 000 11111 101100 1111");
+    let mut written = [0xEE; 30];
+    assert_eq!(encode(&first(), &[12], &[1; 20], &mut written), Ok(()));
+    assert_eq!(written[..], word);
+    let mut message = [0; 20];
+    let placement = decode(&first(), &word, &mut message).expect("a written word is read");
+    assert_eq!((&placement[..], message), (&[12][..], [1; 20]));
+}
+
+#[test]
+fn refused_words_keep_the_message() {
+    let mut message = [0xEE; 20];
+    assert_eq!(
+        decode(&first(), &[0; 30], &mut message),
+        Err(Refusal::PATTERN)
+    );
+    assert_eq!(
+        decode(&first(), &[1; 30], &mut message),
+        Err(Refusal::PATTERN)
+    );
+    assert_eq!(
+        decode(&first(), &[1; 29], &mut message),
+        Err(Refusal::LENGTH)
+    );
+    assert_eq!(
+        decode(&first(), &[2; 30], &mut message),
+        Err(Refusal::SYMBOL)
+    );
+    for (head, refusal) in [("111111", Refusal::VALUE), ("100000", Refusal::DISAGREES)] {
+        let word = symbols(&format!("0 11111111111 000 11111 {head} 1111"));
+        assert_eq!(decode(&first(), &word, &mut message), Err(refusal));
+    }
+    assert_eq!(message, [0xEE; 20]);
+}
+
+#[test]
+fn refused_starts() {
+    let mut word = [0xEE; 30];
+    assert_eq!(
+        encode(&first(), &[28], &[1; 20], &mut word),
+        Err(Refusal::STARTS)
+    );
+    assert_eq!(
+        encode(&first(), &[], &[1; 20], &mut word),
+        Err(Refusal::LENGTH)
+    );
+    assert_eq!(
+        encode(&first(), &[1; 9], &[1; 20], &mut word),
+        Err(Refusal::LENGTH)
+    );
+    assert_eq!(word, [0xEE; 30]);
+}
+
+#[test]
+fn covering() {
+    let covered = |worn: &[usize]| {
+        let mut map = [0; 30];
+        worn.iter().for_each(|&cell| map[cell] = 1);
+        cover(&first(), &map).map(|placement| placement[0])
+    };
+    assert_eq!(covered(&[27, 29]), Ok(27));
+    assert_eq!(covered(&[26, 29]), Err(Refusal::UNCOVERED));
+    assert_eq!(covered(&[]), Ok(0));
+    assert_eq!(covered(&[12]), Ok(10));
+}
+
+#[test]
+fn the_table() {
+    let mut table = Table::new();
+    assert!((1..=64).all(|number| table.open(number).is_ok()));
+    assert_eq!(table.open(65), Err(Refusal::FULL));
+    assert_eq!(table.open(64), Err(Refusal::ALREADY_OPEN));
+    assert_eq!(table.finish(1), Ok(()));
+    assert_eq!(table.finish(1), Err(Refusal::NOT_OPEN));
+    assert_eq!(table.open(65), Ok(()));
+    let mut table = Table::new();
+    assert_eq!(table.cancel(9), Ok(()));
+    assert_eq!(table.open(9), Err(Refusal::CANCELLED));
+    let mut twice = [0; Table::LEN];
+    (twice[0], twice[5]) = (1, 2);
+    assert_eq!(Table::from_bytes(twice).open(9), Err(Refusal::INVALID));
+}
+
+#[test]
+fn refusals_say_what_was_wrong() {
+    assert_eq!(Refusal::FULL.number(), 15);
+    assert_eq!(
+        Refusal::UNFIT.to_string(),
+        "refused with 2: the figures don't fit"
+    );
+}
