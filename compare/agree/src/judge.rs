@@ -113,21 +113,15 @@ impl Judge {
         for (side, (number, a, b)) in [(&PROVED, &ours), (&SECOND, &theirs)] {
             let kept = a.guards() == out.guards() && b.guards() == also.guards();
             if !kept || (*number != 0 && (*a != out || *b != also)) {
-                self.report(
-                    op,
-                    inputs,
-                    &format!("{} touched bytes, answer {number}", side.name),
-                );
+                let what = format!("{} touched bytes, answer {number}", side.name);
+                self.report(op, inputs, &what);
             }
         }
         if ours != theirs {
-            let what = format!("answers {} and {}", ours.0, theirs.0);
             let outs = [&ours.1 .0, &theirs.1 .0, &ours.2 .0, &theirs.2 .0].map(|b| hex(b));
-            self.report(
-                op,
-                inputs,
-                &format!("{what}\n  buffers {}", outs.join("\n          ")),
-            );
+            let outs = outs.join("\n          ");
+            let what = format!("answers {} and {}\n  buffers {outs}", ours.0, theirs.0);
+            self.report(op, inputs, &what);
         }
         self.count(op, theirs.0, inputs);
         Answer {

@@ -9,15 +9,14 @@ const FIGURES: Numbers = (15, 256, 1, 2);
 const WORD: usize = 15;
 const PAYLOAD: usize = 11;
 
-/// Each call with one length replaced; `long` has the bytes that are too many.
-fn calls(side: &Side, long: &mut [u8], extra: usize) -> Vec<u8> {
+/// A call that takes one buffer of a wrong length.
+type Call<'a> = &'a mut dyn FnMut(&mut [u8]) -> u8;
+
+/// Each call without a table, with one length replaced; `with` lends a buffer that is too long.
+fn word_calls(side: &Side, with: &mut dyn FnMut(usize, Call) -> u8) -> [u8; 8] {
     let f = FIGURES;
     let (mut word, mut payload, mut starts) = ([0; WORD], [0; PAYLOAD], [0; 2]);
-    let mut table = [0; TABLE];
-    table[0] = 1;
-    let mut with =
-        |len: usize, call: &mut dyn FnMut(&mut [u8]) -> u8| call(&mut long[..len + extra]);
-    vec![
+    [
         with(2, &mut |long| (side.encode)(f, long, &payload, &mut word)),
         with(PAYLOAD, &mut |long| {
             (side.encode)(f, &starts, long, &mut word)
@@ -32,6 +31,16 @@ fn calls(side: &Side, long: &mut [u8], extra: usize) -> Vec<u8> {
         with(2, &mut |long| (side.decode)(f, &word, &mut payload, long)),
         with(WORD, &mut |long| (side.cover)(f, long, &mut starts)),
         with(2, &mut |long| (side.cover)(f, &word, long)),
+    ]
+}
+
+/// Likewise each call with a table.
+fn job_calls(side: &Side, with: &mut dyn FnMut(usize, Call) -> u8) -> [u8; 8] {
+    let f = FIGURES;
+    let (mut word, mut payload, starts) = ([0; WORD], [0; PAYLOAD], [0; 2]);
+    let mut table = [0; TABLE];
+    table[0] = 1;
+    [
         with(TABLE, &mut |long| (side.call)(long, b'O', 1)),
         with(TABLE, &mut |long| {
             (side.job_write)(f, long, &starts, &payload, &mut word)
@@ -60,8 +69,9 @@ pub fn run(judge: &mut Judge) {
     let mut long = vec![0; (1 << 32) + 2 * TABLE];
     for extra in [1 << 8, 1 << 16, 1 << 32] {
         for side in [PROVED, SECOND] {
-            let answers = calls(&side, &mut long, extra);
-            let right = answers.iter().all(|&answer| answer == 3);
+            let mut with = |len: usize, call: Call| call(&mut long[..len + extra]);
+            let answers = [word_calls(&side, &mut with), job_calls(&side, &mut with)];
+            let right = answers == [[3; 8]; 2];
             let inputs = || format!("{}: {extra} bytes too many: {answers:?}", side.name);
             judge.expect(Op::Decode, right, &inputs, "3 is for another length");
         }

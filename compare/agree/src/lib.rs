@@ -5,6 +5,7 @@ pub mod grid;
 pub mod jobs;
 pub mod judge;
 pub mod lengths;
+pub mod limit;
 pub mod make;
 pub mod rng;
 pub mod sides;

@@ -1,5 +1,5 @@
 //! Feeds transfer streams to a program and compares what it prints with the second transfer program, byte for byte.
-//! `agree-transfer PROGRAM [STREAMS [SEED]]`
+//! `agree-transfer PROGRAM [STREAMS [SEED]]`; `agree-transfer --limit PROGRAM [RECORDS]` sends one record too many.
 
 use std::io::{BufRead, BufReader, Read, Write};
 use std::process::{Child, Command, ExitCode, Stdio};
@@ -14,6 +14,8 @@ use second::Figures;
 const STREAMS: u64 = 2000;
 const SEED: u64 = 1996;
 const PRINTED: u64 = 10;
+/// One record more than the program serves.
+const RECORDS: u64 = 4_294_967_296;
 
 /// Document 01's example, one record to a line.
 const EXAMPLE: [&[u8]; 7] = [
@@ -32,13 +34,34 @@ fn main() -> ExitCode {
         Some(text) => text.parse().ok(),
         None => Some(default),
     };
-    match (args.first(), number(1, STREAMS), number(2, SEED)) {
-        (Some(program), Some(streams), Some(seed)) => compare(program, streams, seed),
-        _ => {
-            eprintln!("usage: agree-transfer PROGRAM [STREAMS [SEED]]");
-            ExitCode::from(2)
-        }
+    match (args.first().map(String::as_str), args.get(1)) {
+        (Some("--limit"), Some(program)) => match number(2, RECORDS) {
+            Some(records) => limit(program, records),
+            None => usage(),
+        },
+        (Some(program), _) => match (number(1, STREAMS), number(2, SEED)) {
+            (Some(streams), Some(seed)) => compare(program, streams, seed),
+            _ => usage(),
+        },
+        _ => usage(),
     }
+}
+
+fn usage() -> ExitCode {
+    eprintln!("usage: agree-transfer PROGRAM [STREAMS [SEED]]");
+    eprintln!("       agree-transfer --limit PROGRAM [RECORDS]");
+    ExitCode::from(2)
+}
+
+fn limit(program: &str, records: u64) -> ExitCode {
+    let right = agree::limit::holds(program, records).unwrap_or(false);
+    let verdict = if right {
+        "right"
+    } else {
+        "not what document 01 says"
+    };
+    println!("agree-transfer: {records} records: {verdict}");
+    ExitCode::from(!right as u8)
 }
 
 /// What was compared so far.

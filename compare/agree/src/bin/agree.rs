@@ -9,7 +9,7 @@ use agree::rng::Rng;
 use agree::{calls, grid, jobs, lengths, strips, words};
 
 const GATE_SEED: u64 = 1996;
-const GATE_ROUNDS: u64 = 60_000;
+const GATE_ROUNDS: u64 = 30_000;
 const GATE_WORDS: u64 = 200_000;
 
 fn main() -> ExitCode {
