@@ -1,7 +1,7 @@
 -- Turns over the reads of an input are steps over the input itself. Assumes nothing.
 use mathlib.Core.Path.{_≡_, refl, sym, ap, subst, _∙_}
 use mathlib.Core.Logic.{inl, inr, ⊎-elim}
-use mathlib.Core.Bool.{Bool, true, false, true≢false}
+use mathlib.Core.Bool.{true, false, true≢false}
 use mathlib.Core.List.{List, [], _∷_, _++_, append-assoc, append-nil}
 use Prim.Native.Nat.{ℕ, zero, suc, _+_, _-_, _≤_, _<_}
 use native.Mathlib.Omega.{arith}
@@ -35,7 +35,7 @@ module _ (s : Session) (w rest : List ℕ) (h : neededFor s w ≤ length w) wher
   within : isMarked w ≡ true → reach (recordLen s (letterOf w)) ≤ length w
   within e = omega (arith, needed-marked s w long e)
 
-  same-step : stepOut s (nextRecord s (w ++ rest)) ≡ stepOut s (nextRecord s w)
+  pub same-step : stepOut s (nextRecord s (w ++ rest)) ≡ stepOut s (nextRecord s w)
   same-step =
       by-bool (isMarked w)
       (λ e. rw (same-letter, take-append-le (reach (recordLen s (letterOf w))) w rest (within e)))
@@ -43,7 +43,7 @@ module _ (s : Session) (w rest : List ℕ) (h : neededFor s w ≤ length w) wher
       unmarked s (w ++ rest) (reach (recordLen s (letterOf (w ++ rest)))) (reaches s (letterOf (w ++ rest))) (omega (arith, long, length-append w rest)) (same-mark ∙ e)
       ∙ sym (unmarked s w (reach (recordLen s (letterOf w))) (reaches s (letterOf w)) long e))
 
-  same-behind : stepOut s (nextRecord s w) .stops ≡ false → behind s (w ++ rest) ≡ behind s w ++ rest
+  pub same-behind : stepOut s (nextRecord s w) .stops ≡ false → behind s (w ++ rest) ≡ behind s w ++ rest
   same-behind goes =
       by-bool (isMarked w)
       (λ e. rw (same-letter, drop-append-le (reach (recordLen s (letterOf w))) w rest (within e)))

@@ -1,7 +1,8 @@
 -- What a turn does to the waiting bytes, and that it brings the end nearer. Assumes nothing.
 use mathlib.Core.Path.{_≡_, refl, sym, ap, subst, _∙_}
 use mathlib.Core.List.{List}
-use mathlib.Core.Bool.{Bool, true, false, cond}
+use mathlib.Core.Logic.{_⊎_, ⊎-elim}
+use mathlib.Core.Bool.{Bool, true, false, cond, true≢false}
 use Prim.Native.Nat.{ℕ, suc, _+_, _-_, _*_, _≤_, _<_, min}
 use native.Mathlib.Omega.{arith}
 use borrow.Rule.Slice.PartMut.{putMid, take-put}
@@ -19,7 +20,7 @@ use Rattle.transfer.specs.Program.{nextRecord, behind}
 use Rattle.transfer.proofs.Program.{step-counts}
 use Rattle.transfer.specs.Bridge.{sessionOf, Shown}
 use Rattle.burgzemi.specs.declared.State.{State}
-use Rattle.burgzemi.specs.Loop.{bufferLen, waiting, neededFor, stepOf, Within, Enough, left, Flushed, Cleared, Served}
+use Rattle.burgzemi.specs.Loop.{bufferLen, waiting, neededFor, stepOf, Within, Enough, left, Flushed, Cleared, Refilled, Served, Turned, failed, hasRead}
 use Rattle.burgzemi.proofs.Cut.{drop-take, take-least, drop-least, step-is-next, behind-is}
 
 -- a text that was put into a line is no longer than the line
@@ -90,6 +91,11 @@ module _ (s : State) (input : List ℕ) (h : Within s) (l : length input ≡ buf
 pub within-flushed : (s r : State) → Within s → Flushed s r → Within r
 within-flushed s r w f = record { ordered = omega (arith, w .ordered, f .from, f .to); read = omega (arith, w .read, f .to); gathered = omega (arith, f .gathered) }
 
+-- a record is there as a whole, or the input has ended
+pub enough : (s : State) (input : List ℕ) (needed : ℕ) → needed ≡ neededFor (sessionOf (s .session)) (waiting s input)
+    → (s .ended ≡ true) ⊎ (needed ≤ s .to - s .from) → Enough s needed input
+enough s input needed e is = record { bytes = e; whole = λ g. ⊎-elim (λ h. absurd (true≢false (sym h ∙ g))) (λ h. h) is }
+
 module _ (s r : State) (w : Within s) (f : Cleared s r) where
   pub within-cleared : Within r
   within-cleared = record { ordered = omega (arith, w .ordered, f .from, f .to); read = omega (arith, w .read, f .to); gathered = omega (arith, f .room) }
@@ -138,3 +144,9 @@ less-turn s q r input before output g f is =
     let counted = step-counts (sessionOf (q .session)) (nextRecord (sessionOf (q .session)) (waiting q input)) (sym (is .stops) ∙ h) in
     let same = ap (λ (x : Declared). x .records) (f .session) in
     less-served s r g h (omega (arith, counted .0, same), ap (λ (x : Session). x .count) (is .session) ∙ counted .1 ∙ ap suc same))
+
+-- ---- A turn that reads
+
+pub turned-refill : (s r : State) (before input printed output : List ℕ) → length (waiting s before) < neededFor (sessionOf (s .session)) (waiting s before) → s .ended ≡ false
+    → Refilled s r before input → Turned s r before input printed output
+turned-refill s r before input printed output short more is = ⊎-elim (λ h. failed h) (λ h. hasRead short more (h .0) (h .1) (h .2)) is

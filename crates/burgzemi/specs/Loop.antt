@@ -1,6 +1,7 @@
 -- What the program's loop keeps, turn by turn. Assumes nothing.
 use mathlib.Core.Path.{_≡_}
-use mathlib.Core.Bool.{false, cond}
+use mathlib.Core.Logic.{_⊎_}
+use mathlib.Core.Bool.{true, false, cond}
 use mathlib.Core.List.{List}
 use Prim.Native.Nat.{ℕ, suc, _+_, _-_, _*_, _≤_, _<_}
 use lib.Dec.{ltb}
@@ -99,6 +100,10 @@ pub record ReadOn (s r : State) (before input : List ℕ) : Type 0 where
   pub kept : take (s .to - s .from) (waiting r input) ≡ waiting s before
   pub more : r .ended ≡ false → s .to - s .from < r .to - r .from
 
+-- a write failed, or all is written and a read was made
+abbrev pub Refilled : State → State → List ℕ → List ℕ → Type 0
+Refilled s r before input = (r .stopped ≡ true) ⊎ ((q : State) × Flushed s q × ReadOn q r before input)
+
 -- the step of the next record: its line behind what was gathered, its session, and what waits is what stands behind that record
 pub record Served (s r : State) (input before output : List ℕ) : Type 0 where
   pub session : sessionOf (r .session) ≡ stepOf s input .next
@@ -108,3 +113,11 @@ pub record Served (s r : State) (input before output : List ℕ) : Type 0 where
   pub within : Within r
   pub ended : r .ended ≡ s .ended
   pub behind-it : r .stopped ≡ false → waiting r input ≡ behind (sessionOf (s .session)) (waiting s input)
+
+-- a turn: a write failed; or the next record was not there as a whole, and a read was made; or that record was served
+pub data Turned (s r : State) (before input printed output : List ℕ) : Type 0 where
+  failed : r .stopped ≡ true → Turned s r before input printed output
+  hasRead : length (waiting s before) < neededFor (sessionOf (s .session)) (waiting s before) → s .ended ≡ false → (q : State) → Flushed s q → ReadOn q r before input
+      → Turned s r before input printed output
+  hasServed : input ≡ before → (needed : ℕ) → Enough s needed before → (q : State) → Cleared s q → Served q r before printed output
+      → Turned s r before input printed output

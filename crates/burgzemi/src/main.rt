@@ -5,7 +5,7 @@ ghost use lib.ListN.{length, take, drop};
 ghost use Rattle.text.specs.Text.{overwrite};
 ghost use Rattle.transfer.specs.Bridge.{sessionOf};
 ghost use Rattle.transfer.specs.Records.{maxRecord};
-ghost use Rattle.burgzemi.specs.Loop.{bufferLen, Buffers, neededFor, Within, Going, Roomy, Lacking, Enough, left, Begun, Flushed, Cleared, ReadOn, Served};
+ghost use Rattle.burgzemi.specs.Loop.{bufferLen, Buffers, neededFor, Within, Going, Roomy, Lacking, Enough, left, Begun, Flushed, Cleared, ReadOn, Refilled, Served, Turned};
 use transfer::Session;
 
 const BUFFER_LEN: usize = 65536;
@@ -49,6 +49,7 @@ fn turn(
     requires { ⌜ Buffers (now input) (now output) × Going state ⌝ }
     ensures within { λ r. ⌜ Within r ⌝ }
     ensures less { λ r. ⌜ left r < left state ⌝ }
+    ensures turned { λ r. ⌜ Turned state r (now (input .entry)) (now (input .exit)) (now (output .entry)) (now (output .exit)) ⌝ }
 {
     let session = state.session;
     let from = state.from;
@@ -90,6 +91,7 @@ fn refill(state: State, input: &mut [u8], output: &[u8]) -> State
     requires { ⌜ Buffers (now input) (now output) × Lacking state ⌝ }
     ensures within { λ r. ⌜ Within r ⌝ }
     ensures less { λ r. ⌜ left r < left state ⌝ }
+    ensures refilled { λ r. ⌜ Refilled state r (now (input .entry)) (now (input .exit)) ⌝ }
 {
     let flushed = state.flushed(output);
     if flushed.stopped {

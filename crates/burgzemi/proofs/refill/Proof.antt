@@ -1,5 +1,6 @@
 -- `refill` meets its contract: a write that fails stops, and a read gives a byte or is the last. Assumes nothing.
 use mathlib.Core.Path.{_∙_}
+use mathlib.Core.Logic.{inl, inr}
 use native.Mathlib.Omega.{arith}
 use Rattle.burgzemi.proofs.Turns.{within-flushed, less-stopped, less-read}
 use borrow.Author.Needs.{needs}
@@ -14,7 +15,7 @@ returns c =
     let s = c .before .before .before .before in
     let f = c .before .flushed .ensures in (
       within-flushed (s .args .state) (c .before .flushed .result) (s .pre .1 .going .within) f,
-      less-stopped (s .args .state) (c .before .flushed .result) (s .pre .1 .going .goes) (c .if1 .taken),
+      (less-stopped (s .args .state) (c .before .flushed .result) (s .pre .1 .going .goes) (c .if1 .taken), inl (c .if1 .taken)),
     )
 
 read-on-requires : tie.Need-read-on-requires
@@ -32,8 +33,11 @@ returns-2 c =
     let f = c .before .before .before .before .before .flushed .ensures in
     let r = c .before .before .read-on .ensures in (
       r .within,
-      less-read (s .args .state) (c .before .before .read-on .result) (s .pre .1 .going .within) (r .within) (s .pre .1 .going .goes) (r .goes) (s .pre .1 .more)
-          (r .session ∙ f .session) (λ e. omega (arith, r .more e, f .from, f .to)),
+      (
+        less-read (s .args .state) (c .before .before .read-on .result) (s .pre .1 .going .within) (r .within) (s .pre .1 .going .goes) (r .goes) (s .pre .1 .more)
+            (r .session ∙ f .session) (λ e. omega (arith, r .more e, f .from, f .to)),
+        inr (c .before .before .before .before .before .flushed .result, f, r),
+      ),
     )
 
 pub refill-spec : {M : Type 1} → statement M

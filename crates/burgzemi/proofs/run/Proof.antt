@@ -22,7 +22,7 @@ turn-requires : tie.Need-turn-requires Inv-loop μ-loop
 turn-requires c κs = (c .before .before .before .before .before .loop .inv .0, record { within = c .before .before .before .before .before .loop .inv .1; goes = not-true (c .before .before .before .before .before .loop .state .stopped) (c .before .before .before .if1 .taken) })
 
 loop-less : tie.Need-loop-less Inv-loop μ-loop
-loop-less c = c .before .before .before .before .turn .ensures .1
+loop-less c = c .before .before .before .before .turn .ensures .1 .0
 
 loop-again : tie.Need-loop-again Inv-loop μ-loop
 loop-again c = ((search needs, search needs), c .before .before .before .before .turn .ensures .0)

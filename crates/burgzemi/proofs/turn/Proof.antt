@@ -1,10 +1,9 @@
 -- `turn` meets its contract: each of its ways brings the end nearer. Assumes nothing.
-use mathlib.Core.Path.{_≡_, sym, _∙_}
-use mathlib.Core.Logic.{⊎-elim}
-use mathlib.Core.Bool.{false, true≢false}
-use Prim.Native.Nat.{_-_, _≤_}
+use mathlib.Core.Path.{refl}
+use mathlib.Core.Logic.{inl, inr, ⊎-elim}
 use native.Mathlib.Omega.{arith}
-use Rattle.burgzemi.proofs.Turns.{within-cleared, enough-cleared, less-stopped, less-turn}
+use Rattle.burgzemi.specs.Loop.{failed, hasServed}
+use Rattle.burgzemi.proofs.Turns.{waiting-length, within-cleared, enough, enough-cleared, less-stopped, less-turn, turned-refill}
 use borrow.Author.Needs.{needs}
 use borrow.Author.Tests.{not-true, not-false}
 use Rattle.burgzemi.proofs.turn.Statement.{statement}
@@ -37,7 +36,18 @@ same-length-2 : tie.Need-same-length-2
 same-length-2 c = search needs
 
 returns : tie.Need-returns
-returns c = search needs
+returns c =
+    let s = c .before .before .before .before .before .before .before .before .before .before .before .before .before .before in
+    let n = c .before .before .before .before .before .before .before .before .needed in
+    let is = c .before .before .refill .ensures in (
+      is .0,
+      (
+        is .1 .0,
+        turned-refill (s .args .state) (c .before .before .refill .result) _ _ _ _
+            (omega (arith, c .before .before .before .before .before .before .before .if1 .taken, n .ensures .0, waiting-length (s .args .state) (s .args .input .now) (s .pre .1 .within) (s .pre .0 .0)))
+            (not-true (s .args .state .ended) (c .before .before .before .before .before .if2 .taken)) (is .1 .1),
+      ),
+    )
 
 with-room-requires : tie.Need-with-room-requires
 with-room-requires c κs = search needs
@@ -52,7 +62,7 @@ returns-2 : tie.Need-returns-2
 returns-2 c =
     let s = c .before .before .before .before .before .before .before .before .before .before in (
       within-cleared (s .args .state) (c .before .with-room .result) (s .pre .1 .within) (c .before .with-room .ensures),
-      less-stopped (s .args .state) (c .before .with-room .result) (s .pre .1 .goes) (c .if3 .taken),
+      (less-stopped (s .args .state) (c .before .with-room .result) (s .pre .1 .goes) (c .if3 .taken), failed (c .if3 .taken)),
     )
 
 serve-requires : tie.Need-serve-requires
@@ -60,11 +70,10 @@ serve-requires c κs =
     let s = c .before .before .before .before .before .before .before .before .before .before .before .before .before in
     let q = c .before .before .before .before .with-room in
     let n = c .before .before .before .before .before .before .before .needed in
-    let whole : s .args .state .ended ≡ false → n .result ≤ s .args .state .to - s .args .state .from =
-    λ e. ⊎-elim (λ h. absurd (true≢false (sym (not-false (s .args .state .ended) (h .2 .left)) ∙ e))) (λ h. h .left) (c .before .before .before .before .before .before .if1 .came) in (
+    let e = enough (s .args .state) (s .args .input .now) (n .result) (n .ensures .0) (⊎-elim (λ h. inl (not-false (s .args .state .ended) (h .2 .left))) (λ h. inr (h .left)) (c .before .before .before .before .before .before .if1 .came)) in (
       s .pre .0,
       record { going = record { within = within-cleared (s .args .state) (q .result) (s .pre .1 .within) (q .ensures); goes = c .before .before .before .if3 .left }; room = q .ensures .room },
-      enough-cleared (s .args .state) (q .result) (s .pre .1 .within) (q .ensures) (n .result) (s .args .input .now) (record { bytes = n .ensures .0; whole = whole }),
+      enough-cleared (s .args .state) (q .result) (s .pre .1 .within) (q .ensures) (n .result) (s .args .input .now) e,
     )
 
 same-length-5 : tie.Need-same-length-5
@@ -77,8 +86,12 @@ returns-3 : tie.Need-returns-3
 returns-3 c =
     let s = c .before .before .before .before .before .before .before .before .before .before .before .before .before .before .before .before in
     let q = c .before .before .before .before .before .before .before .with-room in
+    let n = c .before .before .before .before .before .before .before .before .before .before .needed in
     let is = c .before .before .serve in
-    (is .ensures .within, less-turn (s .args .state) (q .result) (is .result) _ _ _ (s .pre .1 .goes) (q .ensures) (is .ensures))
+    let e = enough (s .args .state) (s .args .input .now) (n .result) (n .ensures .0) (⊎-elim (λ h. inl (not-false (s .args .state .ended) (h .2 .left))) (λ h. inr (h .left)) (c .before .before .before .before .before .before .before .before .before .if1 .came)) in (
+      is .ensures .within,
+      (less-turn (s .args .state) (q .result) (is .result) _ _ _ (s .pre .1 .goes) (q .ensures) (is .ensures), hasServed refl (n .result) e (q .result) (q .ensures) (is .ensures)),
+    )
 
 pub turn-spec : {M : Type 1} → statement M
 turn-spec =
