@@ -23,14 +23,22 @@ pub fn spell_payload(q: u64, width: usize, payload: &[u8], message: &mut [u8])
     let mut i: usize = 0;
     while i < payload.len() {
         let at = i * width;
-        spell_value(q, payload[i] as u64, &mut message[at..at + width]);
+        spell_byte(q, payload[i], &mut message[at..at + width]);
         i += 1;
     }
     let spelled = i * width;
     symbols::clear(&mut message[spelled..]);
 }
 
-// One byte, or another number that so many symbols can spell, most significant symbol first, made from the right by quotient and remainder.
+// One byte.
+fn spell_byte(q: u64, byte: u8, symbols: &mut [u8])
+    requires { ⌜ Spellable q byte (length (now symbols)) ⌝ }
+    ensures { λ _. ⌜ now (symbols .exit) ≡ spell q (replicate (length (now (symbols .entry))) plain) byte ⌝ }
+{
+    spell_value(q, byte as u64, symbols);
+}
+
+// A number that so many symbols can spell, most significant symbol first, made from the right by quotient and remainder.
 pub fn spell_value(q: u64, value: u64, symbols: &mut [u8])
     requires { ⌜ Spellable q value (length (now symbols)) ⌝ }
     ensures { λ _. ⌜ now (symbols .exit) ≡ spell q (replicate (length (now (symbols .entry))) plain) value ⌝ }

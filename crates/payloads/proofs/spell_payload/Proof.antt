@@ -38,26 +38,23 @@ all-fit c =
 mul-at : tie.Need-mul-at Inv-loop μ-loop
 mul-at c = omega (arith, c .before .loop .inv .1 .size, next-fits c)
 
-shared-slice-read-spell-value : tie.Need-shared-slice-read-spell-value Inv-loop μ-loop
-shared-slice-read-spell-value c = search needs
+shared-slice-read-spell-byte : tie.Need-shared-slice-read-spell-byte Inv-loop μ-loop
+shared-slice-read-spell-byte c = search needs
 
-cast-spell-value : tie.Need-cast-spell-value Inv-loop μ-loop
-cast-spell-value c = omega (arith, c .shared-slice-known2 .given (c .before .before .loop .i))
+add-spell-byte : tie.Need-add-spell-byte Inv-loop μ-loop
+add-spell-byte c = omega (arith, c .before .before .loop .inv .1 .size, next-fits (c .before))
 
-add-spell-value : tie.Need-add-spell-value Inv-loop μ-loop
-add-spell-value c = omega (arith, c .before .before .loop .inv .1 .size, next-fits (c .before))
+sub-spell-byte : tie.Need-sub-spell-byte Inv-loop μ-loop
+sub-spell-byte c = omega arith
 
-sub-spell-value : tie.Need-sub-spell-value Inv-loop μ-loop
-sub-spell-value c = omega arith
+part-spell-byte-start : tie.Need-part-spell-byte-start Inv-loop μ-loop
+part-spell-byte-start c = omega arith
 
-part-spell-value-start : tie.Need-part-spell-value-start Inv-loop μ-loop
-part-spell-value-start c = omega arith
+part-spell-byte-end : tie.Need-part-spell-byte-end Inv-loop μ-loop
+part-spell-byte-end c = next-fits (c .before)
 
-part-spell-value-end : tie.Need-part-spell-value-end Inv-loop μ-loop
-part-spell-value-end c = next-fits (c .before)
-
-spell-value-requires : tie.Need-spell-value-requires Inv-loop μ-loop
-spell-value-requires c κs =
+spell-byte-requires : tie.Need-spell-byte-requires Inv-loop μ-loop
+spell-byte-requires c κs =
     let a = c .before .before .before .before .before .before .args in
     let t = c .before .before .before .loop in
     byte-fits (a .q) (a .width) (length (a .payload .now)) (t .message) (t .inv .1 .given) (t .i) (getD (a .payload .now) (t .i) 0) (omega arith)
@@ -74,7 +71,7 @@ loop-again c =
     let a = c .before .before .before .before .before .before .before .before .before .args in
     let t = c .before .before .before .before .before .before .loop in (
       omega arith,
-      spelled-turn (a .q) (a .width) (length (a .payload .now)) (length (a .message .now)) (a .payload .now) refl (t .i) (t .message) (c .before .before .spell-value .last .1 .1 .0) (omega arith) (t .inv .1) (c .before .before .spell-value .ensures),
+      spelled-turn (a .q) (a .width) (length (a .payload .now)) (length (a .message .now)) (a .payload .now) refl (t .i) (t .message) (c .before .before .spell-byte .last .1 .1 .0) (omega arith) (t .inv .1) (c .before .before .spell-byte .ensures),
     )
 
 mul-spelled : tie.Need-mul-spelled Inv-loop μ-loop
@@ -112,13 +109,12 @@ spell-payload-spec =
     μ-loop
     loop-holds
     mul-at
-    shared-slice-read-spell-value
-    cast-spell-value
-    add-spell-value
-    sub-spell-value
-    part-spell-value-start
-    part-spell-value-end
-    spell-value-requires
+    shared-slice-read-spell-byte
+    add-spell-byte
+    sub-spell-byte
+    part-spell-byte-start
+    part-spell-byte-end
+    spell-byte-requires
     add-i
     loop-less
     loop-again

@@ -62,7 +62,9 @@ cast-low : tie.Need-cast-low Inv-loop μ-loop
 cast-low c = omega (arith, c .shared-slice-known3 .given (2 * c .before .before .before .loop .j + 1))
 
 mul-found : tie.Need-mul-found Inv-loop μ-loop
-mul-found c = omega (arith, c .shared-slice-known3 .given (2 * c .before .before .before .loop .j))
+mul-found c =
+    let j = c .before .before .before .loop .j in
+    omega (arith, c .shared-slice-known3 .given (2 * j), c .shared-slice-known3 .given (2 * j + 1))
 
 add-found : tie.Need-add-found Inv-loop μ-loop
 add-found c =
