@@ -18,7 +18,7 @@ enum burgzemi_answer {
     BURGZEMI_SERVED = 0,
     /* from the input */
     BURGZEMI_INVALID = 1,      /* a figure out of range, or a job table with one number twice or with an unknown state */
-    BURGZEMI_UNFIT = 2,        /* the figures don't fit: m * b is above n, or a block is too short for a burst and an index block's head */
+    BURGZEMI_UNFIT = 2,        /* the figures don't fit: m * b is above n, or the shortest block has fewer than b + r symbols (README.md has r) */
     BURGZEMI_LENGTH = 3,       /* a list, a placement or a buffer has another length than the figures give */
     BURGZEMI_SYMBOL = 4,       /* a symbol of q or more, or a byte above 1 in a defect map */
     BURGZEMI_STARTS = 5,       /* starts too close, descending, or past the end */
@@ -35,7 +35,10 @@ enum burgzemi_answer {
     BURGZEMI_FULL = 15         /* 64 numbers are held and a new one is needed */
 };
 
-/* The largest figures: no word, and so no message, has more symbols, and no placement more bursts. Buffers of these sizes serve all figures. */
+/*
+ * The largest figures: no word, and so no message and no payload, is longer, and no placement has more bursts. BURGZEMI_MAX_WORD bytes hold any of
+ * those, 2 * BURGZEMI_MAX_BURSTS bytes the starts of any placement; the length that is passed is still exactly n, k, K or 2 * m.
+ */
 #define BURGZEMI_MAX_WORD 1024
 #define BURGZEMI_MAX_BURSTS 6
 
@@ -47,8 +50,8 @@ enum burgzemi_answer {
 #define BURGZEMI_TABLE_LEN 320
 
 /*
- * Of every function here: each buffer comes with its own length, and as many of its bytes are read or written at most. Buffers of one call must not
- * overlap, and none is NULL, also where its length is 0. One that is only written need not be initialised. A refusal leaves every buffer as it was.
+ * Of every function here: starts are 2 bytes each, high byte first, ascending. Each buffer comes with its own length, and as many of its bytes are read
+ * or written at most. Buffers of one call must not overlap, and none is NULL, also where its length is 0. One that is only written need not be initialised. A refusal leaves every buffer as it was.
  * Each function always returns and touches no other memory, which is what its proof says of any code here; it keeps nothing between calls, so that
  * several threads may call it at once with buffers of their own.
  */
@@ -74,7 +77,7 @@ uint8_t burgzemi_decode(uint32_t n, uint32_t q, uint32_t m, uint32_t b,
 
 /* ---- In libexports.a alone ---- */
 
-/* How many bytes the payload of a job has, the job number's 4 included: K of the figures. BURGZEMI_NO_LENGTH where burgzemi_message_len answers it. */
+/* How many bytes the payload of a job has: K of the figures, of which the first 4 are the job number; below 5 no job has room. BURGZEMI_NO_LENGTH where burgzemi_message_len answers it. */
 uint32_t burgzemi_payload_len(uint32_t n, uint32_t q, uint32_t m, uint32_t b);
 
 /*
@@ -99,15 +102,17 @@ uint8_t burgzemi_cover(uint32_t n, uint32_t q, uint32_t m, uint32_t b,
                        uint8_t *starts, size_t starts_len);
 
 /*
- * Makes a call on the job table, which then holds what it has afterwards: letter 'O' opens the number, 'C' cancels it, 'F' finishes it.
+ * Makes a call on the job table, which then holds what it has afterwards: letter 'O' opens the number, 'C' cancels it, 'F' finishes it. An accepted
+ * call leaves 0 in the number bytes of every free slot.
  *
- * Refusals: 3 where table_len is not BURGZEMI_TABLE_LEN; 11 for another letter; 1 for a state above 2 or one number in two slots; then
+ * Refusals: 3 where table_len is not BURGZEMI_TABLE_LEN; 11 for another letter; 1 for a state above 2 or one number in two slots that aren't free; then
  * 12 13 15 for opening, 12 15 for cancelling, 12 14 for finishing.
  */
 uint8_t burgzemi_call(uint8_t *table, size_t table_len, uint8_t letter, uint32_t number);
 
 /*
- * Writes a job's payload of K bytes, which begin with its number, high byte first, into `word`, of n bytes. The job must be open.
+ * Writes a job's payload of K bytes, which begin with its number, high byte first, with the bursts at `starts` into `word`, of n bytes. The job must
+ * be open.
  *
  * Refusals: 1 for the figures and for the slots of a table of BURGZEMI_TABLE_LEN bytes, as above; 2 for the figures; 10 where K is below 5; 3 where
  * table_len is not BURGZEMI_TABLE_LEN, starts_len not 2 * m, payload_len not K or word_len not n; 5 for the starts; 12 and 14 for the job.

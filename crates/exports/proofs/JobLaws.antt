@@ -1,7 +1,7 @@
 -- Laws of calls, job write and job read on a table in bytes, refusal by refusal. Assumes nothing.
-use mathlib.Core.Path.{_≡_, refl, sym, ap₂, _∙_}
+use mathlib.Core.Path.{_≡_, sym, ap₂, _∙_}
 use mathlib.Core.Logic.{_≢_}
-use mathlib.Core.Bool.{Bool, true, false, _&&_}
+use mathlib.Core.Bool.{true, false}
 use mathlib.Core.List.{List}
 use Prim.Native.Nat.{ℕ, _*_, _≤_, _<_}
 use native.Mathlib.Omega.{arith}
@@ -20,6 +20,7 @@ use Rattle.payloads.specs.Payload.{carriesJob}
 use Rattle.jobcodec.specs.JobWrite.{jobWriteOut}
 use Rattle.jobcodec.specs.JobRead.{JobRead, withhold, jobReading, jobReadOut}
 use Rattle.jobcodec.specs.Given.{seen}
+use Rattle.jobcodec.proofs.Outcomes.{both-true, both-false}
 use Rattle.exports.specs.Starts.{placementFrom}
 use Rattle.exports.specs.Table.{tableLen, statesKnown, tableIn, tableBytes}
 use Rattle.exports.specs.Jobs.{called, calledAs, callBytesOut, jobWriteBytesOut, jobReadBytesOut, withoutTable}
@@ -54,14 +55,6 @@ module _ (bytes : List ℕ) (letter number : ℕ) where
         call-served a = sym (as-called ∙ rw (eqb-same (out .answer) served a))
 
 -- ---- A job with a table of another length
-
-both-true : (a : Bool) → (a && true) ≡ a
-both-true true = refl
-both-true false = refl
-
-both-false : (a : Bool) → (a && false) ≡ false
-both-false true = refl
-both-false false = refl
 
 module _ (f : Params) where
   pub without-unfit : (a : ℕ) → figuresOut f ≡ unserved a → a ≡ withoutTable f

@@ -1,4 +1,4 @@
-// The entry points for programs in other languages, on figures as numbers and lent bytes. Each answers 0 or the refusal, which leaves every lent
+// The entry points for programs in other languages, on figures as numbers and lent bytes. Each but the lengths answers 0 or the refusal, which leaves every lent
 // buffer as it was. Assumes nothing.
 ghost use mathlib.Core.Path.{_≡_};
 ghost use Rattle.construction_a.specs.Figures.{params};

@@ -31,7 +31,7 @@ pub both-false : (a : Bool) → (a && false) ≡ false
 both-false true = refl
 both-false false = refl
 
-both-true : (a : Bool) → (a && true) ≡ a
+pub both-true : (a : Bool) → (a && true) ≡ a
 both-true true = refl
 both-true false = refl
 
