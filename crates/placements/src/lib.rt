@@ -105,11 +105,15 @@ impl Placement {
     }
 }
 
-// The largest number below `below` out of which `number` things can be chosen in at most `rank` ways: a search by halves.
+// The largest number below `below` out of which `number` things can be chosen in at most `rank` ways: a search by halves, but that one thing can be
+// chosen in as many ways as there are things.
 fn reduced_start(below: u64, number: u64, rank: u64) -> u64
     requires { ⌜ (below ≤ maxThings) × (1 ≤ number) × (number ≤ maxChosen) × (rank < choose below number) ⌝ }
     ensures { λ r. ⌜ r ≡ top (ways number) below rank ⌝ }
 {
+    if number == 1 {
+        return rank;
+    }
     let mut low: u64 = 0;
     let mut high = below;
     while low + 1 < high {

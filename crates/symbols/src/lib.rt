@@ -41,10 +41,14 @@ fn larger(a: u8, b: u8) -> u8
     if a < b { b } else { a }
 }
 
-// Every symbol 0.
+// Every symbol 0. One symbol, as the head of a fixed block is, goes without a loop.
 pub fn clear(symbols: &mut [u8])
     ensures { λ _. ⌜ now (symbols .exit) ≡ replicate (length (now (symbols .entry))) 0 ⌝ }
 {
+    if symbols.len() == 1 {
+        symbols[0] = 0;
+        return;
+    }
     let mut i: usize = 0;
     while i < symbols.len() {
         symbols[i] = 0;

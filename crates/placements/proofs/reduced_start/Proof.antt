@@ -1,15 +1,19 @@
 -- `reduced_start` meets its contract: the number sought lies from `low` on and below `high`. Assumes nothing.
-use mathlib.Core.Path.{_≡_, ap, subst}
-use Prim.Native.Nat.{ℕ, suc, _-_, _≤_, _<_}
+use mathlib.Core.Path.{_≡_, refl, ap, _∙_, subst}
+use Prim.Native.Nat.{ℕ, suc, _*_, _-_, _≤_, _<_}
 use native.Mathlib.Omega.{arith}
 use borrow.Author.Needs.{needs}
 use Rattle.combinatorics.specs.Choose.{choose}
 use Rattle.combinatorics.specs.Rank.{ways}
-use Rattle.combinatorics.proofs.Choose.{choose-mono, choose-of-none}
+use Rattle.combinatorics.proofs.Choose.{absorb, choose-zero, choose-mono, choose-of-none}
 use Rattle.combinatorics.proofs.Cases.{by-le}
 use Rattle.combinatorics.proofs.Stretch.{top-is, top-only}
 use Rattle.placements.proofs.reduced_start.Statement.{statement}
 use Rattle.placements.proofs.reduced_start.Tie as tie
+
+-- one thing of n
+choose-one : (n : ℕ) → choose n 1 ≡ n
+choose-one n = omega (arith, absorb n 0, choose-zero n, ap (λ (y : ℕ). n * y) (choose-zero n))
 
 abbrev Inv-loop : tie.InvT-loop
 Inv-loop below number rank low₀ high₀ low high = (low < high) × (high ≤ below) × (choose low number ≤ rank) × (rank < choose high number)
@@ -17,12 +21,22 @@ Inv-loop below number rank low₀ high₀ low high = (low < high) × (high ≤ b
 abbrev μ-loop : tie.MeasureT-loop
 μ-loop below number rank low₀ high₀ low high = high - low
 
+-- one thing can be chosen in as many ways as there are things
+returns : tie.Need-returns Inv-loop μ-loop
+returns c =
+    let a = c .before .args in
+    let one : (n : ℕ) → choose n (a .number) ≡ n = λ n. ap (choose n) (c .if1 .taken) ∙ choose-one n in
+    top-only (ways (a .number)) (λ x y h. choose-mono (a .number) h)
+    (record { below = omega (arith, one (a .below), c .before .pre .3); reach = omega (arith, one (a .rank)); past = omega (arith, one (suc (a .rank))) })
+    (top-is (ways (a .number)) (a .below) (a .rank) (omega (arith, one 0)) (c .before .pre .3))
+
 loop-holds : tie.Need-loop-holds Inv-loop μ-loop
 loop-holds c =
-    let none = choose-of-none (c .args .number) (omega arith) in
-    let some : 0 < c .args .below =
-    by-le 1 (c .args .below) (λ _. 0 < c .args .below) (λ l. l)
-    (λ l. let z : c .args .below ≡ 0 = omega arith in absurd (omega (arith, ap (ways (c .args .number)) z))) in
+    let a = c .before .args in
+    let none = choose-of-none (a .number) (omega arith) in
+    let some : 0 < a .below =
+    by-le 1 (a .below) (λ _. 0 < a .below) (λ l. l)
+    (λ l. let z : a .below ≡ 0 = omega arith in absurd (omega (arith, ap (ways (a .number)) z))) in
     (some, omega arith, omega arith, search needs)
 
 add-loop : tie.Need-add-loop Inv-loop μ-loop
@@ -49,9 +63,9 @@ loop-less-2 c = search needs
 loop-again-2 : tie.Need-loop-again-2 Inv-loop μ-loop
 loop-again-2 c = search needs
 
-returns : tie.Need-returns Inv-loop μ-loop
-returns c =
-    let a = c .before .before .args in
+returns-2 : tie.Need-returns-2 Inv-loop μ-loop
+returns-2 c =
+    let a = c .before .before .before .args in
     let l = c .before .loop in
     let e : l .high ≡ suc (l .low) = omega arith in
     let none = choose-of-none (a .number) (omega arith) in
@@ -65,6 +79,7 @@ reduced-start-spec =
     (tie.spec
     Inv-loop
     μ-loop
+    returns
     loop-holds
     add-loop
     sub-middle
@@ -74,4 +89,4 @@ reduced-start-spec =
     loop-again
     loop-less-2
     loop-again-2
-    returns)
+    returns-2)
