@@ -30,11 +30,7 @@ struct Candidates {
 }
 
 // The index blocks that a found word shows: otherwise refusal 7.
-pub fn index_read(
-    layout: Layout,
-    heads: &[u16; Layout::MAX_HEADS],
-    word: &[u8],
-) -> IndexBlocks
+pub fn index_read(layout: Layout, heads: &[u16; Layout::MAX_HEADS], word: &[u8]) -> IndexBlocks
     requires { ⌜ Finding layout (now word) × HeadsOf (figuresOf layout) (now heads) ⌝ }
     ensures { λ r. ⌜ indexIn (layout .m) r ≡ indexFound (partsOf (figuresOf layout)) (layout .m) (looksFixed (figuresOf layout) (now (word .entry))) ⌝ }
 {

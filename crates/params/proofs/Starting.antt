@@ -25,9 +25,9 @@ entry-more xs first j a v h e so-far x l =
 
 -- one part more
 module _ (n p m i : ℕ) (some : 0 < m) (old new : List ℕ)
-         (so-far : (k : ℕ) → k < i * m → getD old k 0 ≡ blockHead n p m k)
-         (before : (k : ℕ) → k < i * m → getD new k 0 ≡ getD old k 0)
-         (part : (j : ℕ) → j < m → getD new (i * m + j) 0 ≡ pieceStart n p i + pieceStart (pieceLen n p i) m j) where
+    (so-far : (k : ℕ) → k < i * m → getD old k 0 ≡ blockHead n p m k)
+    (before : (k : ℕ) → k < i * m → getD new k 0 ≡ getD old k 0)
+    (part : (j : ℕ) → j < m → getD new (i * m + j) 0 ≡ pieceStart n p i + pieceStart (pieceLen n p i) m j) where
   pub part-more : (k : ℕ) → k < (i + 1) * m → getD new k 0 ≡ blockHead n p m k
   unfolding blockAt
   part-more k l =

@@ -60,12 +60,7 @@ pub fn next_stretch(
 }
 
 // The cells of one kind from where the walk stands: a burst's, the head cells of a block, or the message up to the next burst or block.
-fn cells_from(
-    layout: Layout,
-    at: Placement,
-    kinds: &[u8; Layout::MAX_BLOCKS],
-    walk: Walk,
-) -> Cells
+fn cells_from(layout: Layout, at: Placement, kinds: &[u8; Layout::MAX_BLOCKS], walk: Walk) -> Cells
     requires { ⌜ Placing layout at × KindsOf (figuresOf layout) (startsIn at) (now kinds) × Walking (figuresOf layout) (startsIn at) walk ⌝ }
     ensures { λ r. ⌜ Alike (figuresOf layout) (startsIn at) walk r ⌝ }
 {

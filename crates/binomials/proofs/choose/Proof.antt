@@ -42,10 +42,11 @@ loop-less c = omega arith
 
 loop-again : tie.Need-loop-again Inv-loop μ-loop
 loop-again c =
-    let s = c .before in
-    (omega arith,
-     rw (s .loop .inv .1) (orders-next (s .loop .i)),
-     rw (s .loop .inv .2) (taken-next (s .before .before .args .n) (s .loop .i)))
+    let s = c .before in (
+      omega arith,
+      rw (s .loop .inv .1) (orders-next (s .loop .i)),
+      rw (s .loop .inv .2) (taken-next (s .before .before .args .n) (s .loop .i)),
+    )
 
 div-result : tie.Need-div-result Inv-loop μ-loop
 div-result c = rw (c .before .loop .inv .1) (orders-some (c .before .loop .i))

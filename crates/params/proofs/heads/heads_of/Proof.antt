@@ -51,7 +51,7 @@ mul-with-part : tie.Need-mul-with-part Inv-loop μ-loop
 mul-with-part c = omega (arith, below c)
 
 with-part-requires : tie.Need-with-part-requires Inv-loop μ-loop
-with-part-requires c κs = 
+with-part-requires c κs =
     let s = c .before .before .before in
     let l = s .before .args .layout in
     let b = limits (s .before) in
@@ -64,14 +64,16 @@ loop-less : tie.Need-loop-less Inv-loop μ-loop
 loop-less c = omega arith
 
 loop-again : tie.Need-loop-again Inv-loop μ-loop
-loop-again c = 
+loop-again c =
     let s = c .before .before .before .before in
     let l = s .before .args .layout in
     let b = limits (s .before) in
-    let e = c .with-part .ensures in
-    (omega arith, search needs,
-     part-more (l .n) (l .parts) (l .m) (s .loop .i) (omega (arith, b)) (s .loop .heads) (c .with-part .result) (s .loop .inv .2) (e .0)
-     (λ j h. e .1 j h ∙ ap₂ (λ (x y : ℕ). x + pieceStart y (l .m) j) (c .before .before .piece-start .ensures) (c .before .piece-len .ensures)))
+    let e = c .with-part .ensures in (
+      omega arith,
+      search needs,
+      part-more (l .n) (l .parts) (l .m) (s .loop .i) (omega (arith, b)) (s .loop .heads) (c .with-part .result) (s .loop .inv .2) (e .0)
+          (λ j h. e .1 j h ∙ ap₂ (λ (x y : ℕ). x + pieceStart y (l .m) j) (c .before .before .piece-start .ensures) (c .before .piece-len .ensures)),
+    )
 
 cast-heads : tie.Need-cast-heads Inv-loop μ-loop
 cast-heads c = omega (arith, limits (c .before .before .before))
@@ -86,7 +88,7 @@ array-write-heads : tie.Need-array-write-heads Inv-loop μ-loop
 array-write-heads c = omega (arith, limits (c .before .before .before))
 
 returns : tie.Need-returns Inv-loop μ-loop
-returns c = 
+returns c =
     let s = c .before .before in
     let l = s .before .args .layout in
     let b = limits (s .before) in

@@ -58,12 +58,13 @@ loop-again c =
     let s = c .before .before in
     let a = s .before .args in
     let head = a .from + c .piece-start .result in
-    let l = s .loop .inv .1 in
-    (omega arith,
-     simp length-set l,
-     λ k h. set-stays (s .loop .next) (a .first + s .loop .j) head k (omega arith) ∙ s .loop .inv .2 k h,
-     entry-more (s .loop .next) (a .first) (s .loop .j) head (λ x. a .from + pieceStart (a .len) (a .m) x) (omega (arith, s .before .pre .1, l))
-     (ap (λ (y : ℕ). a .from + y) (c .piece-start .ensures)) (s .loop .inv .3))
+    let l = s .loop .inv .1 in (
+      omega arith,
+      simp length-set l,
+      λ k h. set-stays (s .loop .next) (a .first + s .loop .j) head k (omega arith) ∙ s .loop .inv .2 k h,
+      entry-more (s .loop .next) (a .first) (s .loop .j) head (λ x. a .from + pieceStart (a .len) (a .m) x) (omega (arith, s .before .pre .1, l))
+          (ap (λ (y : ℕ). a .from + y) (c .piece-start .ensures)) (s .loop .inv .3),
+    )
 
 returns : tie.Need-returns Inv-loop μ-loop
 returns c =
