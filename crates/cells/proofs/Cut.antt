@@ -1,9 +1,8 @@
 -- Laws of cutting: pieces follow one another, no two lengths differ by more than one, and shorter ones come first; blocks of parts likewise; and
 -- which blocks' first positions a burst can touch. Assumes nothing.
 use mathlib.Core.Path.{_≡_, refl, ap, _∙_}
-use mathlib.Core.Logic.{_≢_}
 use Prim.Native.Nat.{ℕ, zero, suc, _+_, _-_, _*_, _/_, _%_, _≤_, _<_}
-use native.Mathlib.Nat.{add-mul, mul-add, div-lt-iff-lt-mul, lt-div-mul-add, div-add-mod, div-add-mod', mod-lt, le-div-iff-mul-le, div-mul-le-self, div-div-eq-div-mul, div-le-of-le-mul, le-trans, mul-comm, mul-le-mul-right}
+use native.Mathlib.Nat.{add-mul, mul-add, div-lt-iff-lt-mul, lt-div-mul-add, div-add-mod, div-add-mod', mod-lt, le-div-iff-mul-le, div-mul-le-self, div-div-eq-div-mul, le-trans, mul-le-mul-right}
 use native.Mathlib.Decide.{le-ind}
 use native.Mathlib.Omega.{arith}
 use lib.Arith.{digits-lt, digits-div, digits-mod}
@@ -138,19 +137,6 @@ block-rises n p m h a b l =
 -- none starts past the end
 pub block-most : (n p m k : ℕ) → 0 < p → 0 < m → k ≤ p * m → blockHead n p m k ≤ n
 block-most n p m k g h l = omega (arith, block-rises n p m h k (p * m) l, block-end n p m g h)
-
--- a part's first block starts with the part
-pub part-head : (n p m k : ℕ) → k % m ≡ 0 → blockHead n p m k ≡ pieceStart n p (k / m)
-unfolding blockHead blockAt
-part-head n p m k e = rw e (omega (arith, piece-zero (pieceLen n p (k / m)) m))
-
--- the part that a block lies in
-pub part-most : (p m k : ℕ) → 0 < m → k ≤ p * m → k / m ≤ p
-part-most p m k h l = div-le-of-le-mul m (omega (arith, mul-comm m p))
-
-pub part-below : (p m k : ℕ) → k % m ≢ 0 → k ≤ p * m → k / m < p
-part-below p m k e l =
-    by-le p (k / m) (λ _. k / m < p) (λ g. absurd (omega (arith, mul-le-mul-right m g, div-add-mod' k m))) (λ g. g)
 
 -- the block that has position x
 pub block-with : (n p m x : ℕ) → 0 < p → 0 < m → x < n → IsTop (blockHead n p m) (p * m) x (blockWith n p m x)
