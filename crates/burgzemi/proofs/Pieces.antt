@@ -100,7 +100,7 @@ printing zero = reading zero (λ k e. absurd (omega arith))
 printing (suc left) = reading (suc left) (λ k e reads s w h. printing left reads s w (omega (arith, e)))
 
 pub reads-print : ReadsPrint
-reads-print reads =
+reads-print reads _ =
     let only : (out : List ℕ) → Turns atStart [] reads out → out ≡ printed (joined reads) = λ out t. steps-print (joined reads) .1 out (turns-step t) in
     let t = printing maxRecords reads atStart [] refl in
     (subst (λ (x : List ℕ). Turns atStart [] reads x) (only (t .0) (t .1)) (t .1), only)

@@ -8,7 +8,7 @@ use native.Mathlib.Omega.{arith}
 use borrow.Rule.Slice.PartMut.{putMid, take-put}
 use lib.ListN.{length, take, drop, length-drop, length-append}
 use lib.Seq.{length-take-le, take-take, drop-drop}
-use Rattle.combinatorics.proofs.Cases.{by-bool}
+use Rattle.combinatorics.proofs.Cases.{by-bool, eqb-true, eqb-false}
 use Rattle.text.specs.Text.{overwrite}
 use Rattle.text.proofs.Line.{line-take}
 use Rattle.transfer.specs.declared.StepAnswer.{StepAnswer}
@@ -20,7 +20,7 @@ use Rattle.transfer.specs.Program.{nextRecord, behind}
 use Rattle.transfer.proofs.Program.{step-counts}
 use Rattle.transfer.specs.Bridge.{sessionOf, Shown}
 use Rattle.burgzemi.specs.declared.State.{State}
-use Rattle.burgzemi.specs.Loop.{bufferLen, waiting, neededFor, stepOf, Within, Enough, left, Flushed, Cleared, Refilled, Served, Turned, failed, hasRead}
+use Rattle.burgzemi.specs.Loop.{bufferLen, waiting, neededFor, stepOf, Within, Enough, left, afterWrite, afterRead, Flushed, Cleared, ReadOn, Refilled, Served, Turned, failed, hasRead}
 use Rattle.burgzemi.proofs.Cut.{drop-take, take-least, drop-least, step-is-next, behind-is}
 
 -- a text that was put into a line is no longer than the line
@@ -44,6 +44,25 @@ module _ (s : State) (input : List ℕ) (h : Within s) (l : length input ≡ buf
       ap (λ (j : ℕ). take j (take (rest + count - 0) (putMid rest k moved got))) (sym r)
       ∙ take-take rest (rest + count - 0) (putMid rest k moved got) (omega arith)
       ∙ take-put rest k moved got (omega arith) ∙ ap (λ (j : ℕ). take j moved) e ∙ front
+
+  -- where nothing is read, no more waits
+  pub read-after : (r : State) (rest count k : ℕ) (moved got : List ℕ) → rest ≡ s .to - s .from → moved ≡ overwrite 0 (waiting s input) input
+      → rest + count ≤ bufferLen → r ≡ afterRead s rest count → ReadOn s r input (putMid rest k moved got)
+  read-after r rest count k moved got e m fits is =
+      let stays = kept rest count k moved got e m in
+      subst (λ (x : State). ReadOn s x input (putMid rest k moved got)) (sym is)
+      (record {
+        session = refl;
+        gathered = refl;
+        goes = refl;
+        within = record { ordered = omega arith; read = fits; gathered = h .gathered };
+        kept = stays;
+        more = λ g. let some = eqb-false count 0 g in omega (arith, e);
+        last = λ g.
+            let none = eqb-true count 0 g in
+            let n : rest + count - 0 ≡ s .to - s .from = omega arith in
+            sym (take-take (s .to - s .from) (rest + count - 0) (putMid rest k moved got) (omega arith) ∙ ap (λ (j : ℕ). take j (putMid rest k moved got)) (sym n)) ∙ stays;
+      })
 
   module _ (needed n : ℕ) (e : needed ≡ neededFor (sessionOf (s .session)) (waiting s input)) (m : n ≡ min needed (s .to - s .from)) where
     few : n ≤ s .to - s .from
@@ -91,22 +110,40 @@ module _ (s : State) (input : List ℕ) (h : Within s) (l : length input ≡ buf
 pub within-flushed : (s r : State) → Within s → Flushed s r → Within r
 within-flushed s r w f = record { ordered = omega (arith, w .ordered, f .from, f .to); read = omega (arith, w .read, f .to); gathered = omega (arith, f .gathered) }
 
+pub flushed-after : (s r : State) (isWritten : Bool) → r ≡ afterWrite s isWritten → Flushed s r
+flushed-after s r isWritten e = subst (Flushed s) (sym e) (record { session = refl; from = refl; to = refl; ended = refl; gathered = refl })
+
 -- a record is there as a whole, or the input has ended
 pub enough : (s : State) (input : List ℕ) (needed : ℕ) → needed ≡ neededFor (sessionOf (s .session)) (waiting s input)
     → (s .ended ≡ true) ⊎ (needed ≤ s .to - s .from) → Enough s needed input
 enough s input needed e is = record { bytes = e; whole = λ g. ⊎-elim (λ h. absurd (true≢false (sym h ∙ g))) (λ h. h) is }
 
+enough-flushed : (s r : State) → Flushed s r → (needed : ℕ) (input : List ℕ) → Enough s needed input → Enough r needed input
+enough-flushed s r f needed input e =
+    record {
+      bytes = rw (f .session, f .from, f .to) (e .bytes);
+      whole = λ g. omega (arith, e .whole (sym (f .ended) ∙ g), f .from, f .to);
+    }
+
 module _ (s r : State) (w : Within s) (f : Cleared s r) where
   pub within-cleared : Within r
-  within-cleared = record { ordered = omega (arith, w .ordered, f .from, f .to); read = omega (arith, w .read, f .to); gathered = omega (arith, f .room) }
+  within-cleared = ⊎-elim (λ h. subst Within (sym (h .1)) w) (λ h. within-flushed s r w (h .1)) f
+
+  pub room-cleared : r .gathered + maxLine ≤ bufferLen
+  room-cleared = ⊎-elim (λ h. subst (λ (x : State). x .gathered + maxLine ≤ bufferLen) (sym (h .1)) (h .0)) (λ h. omega (arith, h .1 .gathered)) f
 
   -- what waits is the same
   pub enough-cleared : (needed : ℕ) (input : List ℕ) → Enough s needed input → Enough r needed input
   enough-cleared needed input e =
-      record {
-        bytes = rw (f .session, f .from, f .to) (e .bytes);
-        whole = λ g. omega (arith, e .whole (sym (f .ended) ∙ g), f .from, f .to);
-      }
+      ⊎-elim (λ h. subst (λ (x : State). Enough x needed input) (sym (h .1)) e) (λ h. enough-flushed s r (h .1) needed input e) f
+
+-- no room is made without a write
+module _ (s r : State) (f : Cleared s r) where
+  pub session-cleared : r .session ≡ s .session
+  session-cleared = ⊎-elim (λ h. ap (λ (x : State). x .session) (h .1)) (λ h. h .1 .session) f
+
+  pub flushed-stopped : s .stopped ≡ false → r .stopped ≡ true → Flushed s r
+  flushed-stopped goes stop = ⊎-elim (λ h. absurd (true≢false (sym stop ∙ ap (λ (x : State). x .stopped) (h .1) ∙ goes))) (λ h. h .1) f
 
 -- ---- The end comes nearer
 
@@ -142,11 +179,12 @@ less-turn s q r input before output g f is =
     by-bool (r .stopped) (λ h. less-stopped s r g h)
     (λ h.
     let counted = step-counts (sessionOf (q .session)) (nextRecord (sessionOf (q .session)) (waiting q input)) (sym (is .stops) ∙ h) in
-    let same = ap (λ (x : Declared). x .records) (f .session) in
+    let same = ap (λ (x : Declared). x .records) (session-cleared s q f) in
     less-served s r g h (omega (arith, counted .0, same), ap (λ (x : Session). x .count) (is .session) ∙ counted .1 ∙ ap suc same))
 
 -- ---- A turn that reads
 
-pub turned-refill : (s r : State) (before input printed output : List ℕ) → length (waiting s before) < neededFor (sessionOf (s .session)) (waiting s before) → s .ended ≡ false
+pub turned-refill : (s r : State) (before input printed output : List ℕ) → output ≡ printed → length (waiting s before) < neededFor (sessionOf (s .session)) (waiting s before) → s .ended ≡ false
     → Refilled s r before input → Turned s r before input printed output
-turned-refill s r before input printed output short more is = ⊎-elim (λ h. failed h) (λ h. hasRead short more (h .0) (h .1) (h .2)) is
+turned-refill s r before input printed output same short more is =
+    ⊎-elim (λ h. failed (h .2) same (h .0) (h .1)) (λ h. hasRead same short more (h .0) (h .1) (h .2) (h .3)) is

@@ -1,10 +1,10 @@
 -- What the program's loop keeps, turn by turn. Assumes nothing.
 use mathlib.Core.Path.{_≡_}
 use mathlib.Core.Logic.{_⊎_}
-use mathlib.Core.Bool.{true, false, cond}
+use mathlib.Core.Bool.{Bool, true, false, not, cond}
 use mathlib.Core.List.{List}
 use Prim.Native.Nat.{ℕ, suc, _+_, _-_, _*_, _≤_, _<_}
-use lib.Dec.{ltb}
+use lib.Dec.{eqb, ltb}
 use lib.ListN.{length, take, drop}
 use Rattle.text.specs.Text.{overwrite}
 use Rattle.transfer.specs.Session.{Session, atStart, maxRecords}
@@ -75,7 +75,15 @@ pub record Begun (s : State) : Type 0 where
   pub session : sessionOf (s .session) ≡ atStart
   pub going : Going s
 
--- all is written, or the program stops
+-- after a write of all that was gathered: one that failed stops the program
+abbrev pub afterWrite : State → Bool → State
+afterWrite s isWritten = record { session = s .session; from = s .from; to = s .to; gathered = 0; ended = s .ended; stopped = not isWritten }
+
+-- after a read of so many bytes, behind the `rest` that waited: one of none ends the input
+abbrev pub afterRead : State → ℕ → ℕ → State
+afterRead s rest count = record { session = s .session; from = 0; to = rest + count; gathered = s .gathered; ended = eqb count 0; stopped = false }
+
+-- after a write, whether it failed or not
 pub record Flushed (s r : State) : Type 0 where
   pub session : r .session ≡ s .session
   pub from : r .from ≡ s .from
@@ -83,15 +91,11 @@ pub record Flushed (s r : State) : Type 0 where
   pub ended : r .ended ≡ s .ended
   pub gathered : r .gathered ≡ 0
 
--- the same, or nothing at all where there was room
-pub record Cleared (s r : State) : Type 0 where
-  pub session : r .session ≡ s .session
-  pub from : r .from ≡ s .from
-  pub to : r .to ≡ s .to
-  pub ended : r .ended ≡ s .ended
-  pub room : r .gathered + maxLine ≤ bufferLen
+-- as it was where a line had room, and after a write where it had none
+abbrev pub Cleared : State → State → Type 0
+Cleared s r = ((s .gathered + maxLine ≤ bufferLen) × (r ≡ s)) ⊎ ((bufferLen < s .gathered + maxLine) × Flushed s r)
 
--- what waited waits still, at the front, and what was read stands behind it: one byte at least, or the input has ended
+-- what waited waits still, at the front, and what was read stands behind it: one byte at least, or none, and the input has ended
 pub record ReadOn (s r : State) (before input : List ℕ) : Type 0 where
   pub session : r .session ≡ s .session
   pub gathered : r .gathered ≡ s .gathered
@@ -99,10 +103,12 @@ pub record ReadOn (s r : State) (before input : List ℕ) : Type 0 where
   pub within : Within r
   pub kept : take (s .to - s .from) (waiting r input) ≡ waiting s before
   pub more : r .ended ≡ false → s .to - s .from < r .to - r .from
+  pub last : r .ended ≡ true → waiting r input ≡ waiting s before
 
--- a write failed, or all is written and a read was made
+-- a write failed and nothing was read, or it did not and a read was made
 abbrev pub Refilled : State → State → List ℕ → List ℕ → Type 0
-Refilled s r before input = (r .stopped ≡ true) ⊎ ((q : State) × Flushed s q × ReadOn q r before input)
+Refilled s r before input =
+    ((r .stopped ≡ true) × Flushed s r × (input ≡ before)) ⊎ ((q : State) × Flushed s q × (q .stopped ≡ false) × ReadOn q r before input)
 
 -- the step of the next record: its line behind what was gathered, its session, and what waits is what stands behind that record
 pub record Served (s r : State) (input before output : List ℕ) : Type 0 where
@@ -114,10 +120,10 @@ pub record Served (s r : State) (input before output : List ℕ) : Type 0 where
   pub ended : r .ended ≡ s .ended
   pub behind-it : r .stopped ≡ false → waiting r input ≡ behind (sessionOf (s .session)) (waiting s input)
 
--- a turn: a write failed; or the next record was not there as a whole, and a read was made; or that record was served
+-- a turn: a write failed, and no more was done; or the next record was not there as a whole, and a read was made; or that record was served
 pub data Turned (s r : State) (before input printed output : List ℕ) : Type 0 where
-  failed : r .stopped ≡ true → Turned s r before input printed output
-  hasRead : length (waiting s before) < neededFor (sessionOf (s .session)) (waiting s before) → s .ended ≡ false → (q : State) → Flushed s q → ReadOn q r before input
+  failed : input ≡ before → output ≡ printed → r .stopped ≡ true → Flushed s r → Turned s r before input printed output
+  hasRead : output ≡ printed → length (waiting s before) < neededFor (sessionOf (s .session)) (waiting s before) → s .ended ≡ false → (q : State) → Flushed s q → q .stopped ≡ false → ReadOn q r before input
       → Turned s r before input printed output
-  hasServed : input ≡ before → (needed : ℕ) → Enough s needed before → (q : State) → Cleared s q → Served q r before printed output
+  hasServed : input ≡ before → (needed : ℕ) → Enough s needed before → (q : State) → Cleared s q → q .stopped ≡ false → Served q r before printed output
       → Turned s r before input printed output

@@ -4,7 +4,7 @@ use mathlib.Core.Logic.{_⊎_}
 use mathlib.Core.Bool.{true, false}
 use mathlib.Core.List.{List, [], _∷_, _++_}
 use Prim.Native.Nat.{ℕ, _≤_, _<_}
-use lib.ListN.{length}
+use lib.ListN.{length, getD}
 use Rattle.transfer.specs.Session.{Session, atStart}
 use Rattle.transfer.specs.Records.{stepOut}
 use Rattle.transfer.specs.Program.{nextRecord, behind, printed}
@@ -19,7 +19,8 @@ joined (r ∷ reads) = r ++ joined reads
 abbrev pub Ready : Session → List ℕ → List (List ℕ) → Type 0
 Ready s w reads = (neededFor s w ≤ length w) ⊎ (reads ≡ [])
 
--- What is printed where these bytes wait, and these reads are still to come: a turn reads where it must, and serves otherwise, until a step stops.
+-- A model of the program's loop: what is printed where these bytes wait, and these reads are still to come. A turn reads where it must, and serves
+-- otherwise, until a step stops.
 pub data Turns : Session → List ℕ → List (List ℕ) → List ℕ → Type 0 where
   readsOn : {s : Session} {w r : List ℕ} {reads : List (List ℕ)} {out : List ℕ} → length w < neededFor s w
       → Turns s (w ++ r) reads out → Turns s w (r ∷ reads) out
@@ -28,7 +29,11 @@ pub data Turns : Session → List ℕ → List (List ℕ) → List ℕ → Type 
   stops : {s : Session} {w : List ℕ} {reads : List (List ℕ)} → Ready s w reads → stepOut s (nextRecord s w) .stops ≡ true
       → Turns s w reads (stepOut s (nextRecord s w) .line)
 
--- for every input and every way to cut it into reads the turns end, and print what the whole-input definition says
+-- each read gives a byte, since one that gives none ends the input
+abbrev pub Given : List (List ℕ) → Type 0
+Given reads = (i : ℕ) → i < length reads → 0 < length (getD reads i [])
+
+-- for every input and every way to cut it into such reads the turns end, and print what the whole-input definition says
 abbrev pub ReadsPrint : Type 0
 ReadsPrint =
-    (reads : List (List ℕ)) → Turns atStart [] reads (printed (joined reads)) × ((out : List ℕ) → Turns atStart [] reads out → out ≡ printed (joined reads))
+    (reads : List (List ℕ)) → Given reads → Turns atStart [] reads (printed (joined reads)) × ((out : List ℕ) → Turns atStart [] reads out → out ≡ printed (joined reads))

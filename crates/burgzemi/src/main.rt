@@ -5,7 +5,7 @@ ghost use lib.ListN.{length, take, drop};
 ghost use Rattle.text.specs.Text.{overwrite};
 ghost use Rattle.transfer.specs.Bridge.{sessionOf};
 ghost use Rattle.transfer.specs.Records.{maxRecord};
-ghost use Rattle.burgzemi.specs.Loop.{bufferLen, Buffers, neededFor, Within, Going, Roomy, Lacking, Enough, left, Begun, Flushed, Cleared, ReadOn, Refilled, Served, Turned};
+ghost use Rattle.burgzemi.specs.Loop.{bufferLen, Buffers, neededFor, Within, Going, Roomy, Lacking, Enough, left, afterWrite, afterRead, Begun, Flushed, Cleared, ReadOn, Refilled, Served, Turned};
 use transfer::Session;
 
 const BUFFER_LEN: usize = 65536;
@@ -158,9 +158,15 @@ impl State {
         requires { ⌜ self .gathered ≤ length (now output) ⌝ }
         ensures { λ r. ⌜ Flushed self r ⌝ }
     {
-        let session = self.session;
         let gathered = self.gathered;
         let is_written = io::write_all(libc::STDOUT_FILENO, &output[..gathered]);
+        self.after_write(is_written)
+    }
+
+    fn after_write(self, is_written: bool) -> State
+        ensures { λ r. ⌜ r ≡ afterWrite self «is_written» ⌝ }
+    {
+        let session = self.session;
         State {
             session,
             from: self.from,
@@ -171,7 +177,7 @@ impl State {
         }
     }
 
-    // With room for any line behind what is gathered.
+    // With room for any line behind what is gathered: written where there is none.
     fn with_room(self, output: &[u8]) -> State
         requires { ⌜ (length (now output) ≡ bufferLen) × Going self ⌝ }
         ensures { λ r. ⌜ Cleared self r ⌝ }
@@ -183,17 +189,25 @@ impl State {
         self.flushed(output)
     }
 
-    // Moves the bytes not served yet to the front and reads once behind them. A read that gives nothing, or fails, ends the input.
+    // Moves the bytes not served yet to the front and reads once behind them.
     fn read_on(self, input: &mut [u8]) -> State
         requires { ⌜ (length (now input) ≡ bufferLen) × Within self × (self .to - self .from < bufferLen) ⌝ }
         ensures { λ r. ⌜ ReadOn self r (now (input .entry)) (now (input .exit)) ⌝ }
     {
-        let session = self.session;
         let from = self.from;
         let to = self.to;
         let rest = to_front(input, from, to);
         let got = libc::read(libc::STDIN_FILENO, &mut input[rest..]);
         let count = io::count(got, &input[rest..]);
+        self.after_read(rest, count)
+    }
+
+    // A read that gives nothing, or fails, ends the input.
+    fn after_read(self, rest: usize, count: usize) -> State
+        requires { ⌜ rest + count ≤ bufferLen ⌝ }
+        ensures { λ r. ⌜ r ≡ afterRead self rest count ⌝ }
+    {
+        let session = self.session;
         State {
             session,
             from: 0,

@@ -1,5 +1,5 @@
 -- `refill` meets its contract: a write that fails stops, and a read gives a byte or is the last. Assumes nothing.
-use mathlib.Core.Path.{_∙_}
+use mathlib.Core.Path.{refl, _∙_}
 use mathlib.Core.Logic.{inl, inr}
 use native.Mathlib.Omega.{arith}
 use Rattle.burgzemi.proofs.Turns.{within-flushed, less-stopped, less-read}
@@ -15,7 +15,7 @@ returns c =
     let s = c .before .before .before .before in
     let f = c .before .flushed .ensures in (
       within-flushed (s .args .state) (c .before .flushed .result) (s .pre .1 .going .within) f,
-      (less-stopped (s .args .state) (c .before .flushed .result) (s .pre .1 .going .goes) (c .if1 .taken), inl (c .if1 .taken)),
+      (less-stopped (s .args .state) (c .before .flushed .result) (s .pre .1 .going .goes) (c .if1 .taken), inl (c .if1 .taken, f, refl)),
     )
 
 read-on-requires : tie.Need-read-on-requires
@@ -36,7 +36,7 @@ returns-2 c =
       (
         less-read (s .args .state) (c .before .before .read-on .result) (s .pre .1 .going .within) (r .within) (s .pre .1 .going .goes) (r .goes) (s .pre .1 .more)
             (r .session ∙ f .session) (λ e. omega (arith, r .more e, f .from, f .to)),
-        inr (c .before .before .before .before .before .flushed .result, f, r),
+        inr (c .before .before .before .before .before .flushed .result, f, c .before .before .before .before .if1 .left, r),
       ),
     )
 

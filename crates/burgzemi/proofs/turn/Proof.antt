@@ -3,7 +3,7 @@ use mathlib.Core.Path.{refl}
 use mathlib.Core.Logic.{inl, inr, ⊎-elim}
 use native.Mathlib.Omega.{arith}
 use Rattle.burgzemi.specs.Loop.{failed, hasServed}
-use Rattle.burgzemi.proofs.Turns.{waiting-length, within-cleared, enough, enough-cleared, less-stopped, less-turn, turned-refill}
+use Rattle.burgzemi.proofs.Turns.{waiting-length, within-cleared, room-cleared, flushed-stopped, enough, enough-cleared, less-stopped, less-turn, turned-refill}
 use borrow.Author.Needs.{needs}
 use borrow.Author.Tests.{not-true, not-false}
 use Rattle.burgzemi.proofs.turn.Statement.{statement}
@@ -43,7 +43,7 @@ returns c =
       is .0,
       (
         is .1 .0,
-        turned-refill (s .args .state) (c .before .before .refill .result) _ _ _ _
+        turned-refill (s .args .state) (c .before .before .refill .result) _ _ _ _ refl
             (omega (arith, c .before .before .before .before .before .before .before .if1 .taken, n .ensures .0, waiting-length (s .args .state) (s .args .input .now) (s .pre .1 .within) (s .pre .0 .0)))
             (not-true (s .args .state .ended) (c .before .before .before .before .before .if2 .taken)) (is .1 .1),
       ),
@@ -62,7 +62,7 @@ returns-2 : tie.Need-returns-2
 returns-2 c =
     let s = c .before .before .before .before .before .before .before .before .before .before in (
       within-cleared (s .args .state) (c .before .with-room .result) (s .pre .1 .within) (c .before .with-room .ensures),
-      (less-stopped (s .args .state) (c .before .with-room .result) (s .pre .1 .goes) (c .if3 .taken), failed (c .if3 .taken)),
+      (less-stopped (s .args .state) (c .before .with-room .result) (s .pre .1 .goes) (c .if3 .taken), failed refl refl (c .if3 .taken) (flushed-stopped (s .args .state) (c .before .with-room .result) (c .before .with-room .ensures) (s .pre .1 .goes) (c .if3 .taken))),
     )
 
 serve-requires : tie.Need-serve-requires
@@ -72,7 +72,7 @@ serve-requires c κs =
     let n = c .before .before .before .before .before .before .before .needed in
     let e = enough (s .args .state) (s .args .input .now) (n .result) (n .ensures .0) (⊎-elim (λ h. inl (not-false (s .args .state .ended) (h .2 .left))) (λ h. inr (h .left)) (c .before .before .before .before .before .before .if1 .came)) in (
       s .pre .0,
-      record { going = record { within = within-cleared (s .args .state) (q .result) (s .pre .1 .within) (q .ensures); goes = c .before .before .before .if3 .left }; room = q .ensures .room },
+      record { going = record { within = within-cleared (s .args .state) (q .result) (s .pre .1 .within) (q .ensures); goes = c .before .before .before .if3 .left }; room = room-cleared (s .args .state) (q .result) (s .pre .1 .within) (q .ensures) },
       enough-cleared (s .args .state) (q .result) (s .pre .1 .within) (q .ensures) (n .result) (s .args .input .now) e,
     )
 
@@ -90,7 +90,7 @@ returns-3 c =
     let is = c .before .before .serve in
     let e = enough (s .args .state) (s .args .input .now) (n .result) (n .ensures .0) (⊎-elim (λ h. inl (not-false (s .args .state .ended) (h .2 .left))) (λ h. inr (h .left)) (c .before .before .before .before .before .before .before .before .before .if1 .came)) in (
       is .ensures .within,
-      (less-turn (s .args .state) (q .result) (is .result) _ _ _ (s .pre .1 .goes) (q .ensures) (is .ensures), hasServed refl (n .result) e (q .result) (q .ensures) (is .ensures)),
+      (less-turn (s .args .state) (q .result) (is .result) _ _ _ (s .pre .1 .goes) (q .ensures) (is .ensures), hasServed refl (n .result) e (q .result) (q .ensures) (c .before .before .before .before .before .before .if3 .left) (is .ensures)),
     )
 
 pub turn-spec : {M : Type 1} → statement M

@@ -1,10 +1,7 @@
 -- `read_on` meets its contract: what waited is at the front, and what was read behind it. Assumes nothing.
-use mathlib.Core.Path.{refl}
 use Prim.Native.Nat.{_-_}
-use native.Mathlib.Omega.{arith}
 use lib.ListN.{length}
-use Rattle.combinatorics.proofs.Cases.{eqb-false}
-use Rattle.burgzemi.proofs.Turns.{kept}
+use Rattle.burgzemi.proofs.Turns.{read-after}
 use borrow.Author.Needs.{needs}
 use Rattle.burgzemi.proofs.State.read_on.Statement.{statement}
 use Rattle.burgzemi.proofs.State.read_on.Tie as tie
@@ -36,8 +33,8 @@ part-count-end c = search needs
 count-requires : tie.Need-count-requires
 count-requires c κs = search needs
 
-add-t12 : tie.Need-add-t12
-add-t12 c = search needs
+after-read-requires : tie.Need-after-read-requires
+after-read-requires c κs = search needs
 
 same-length : tie.Need-same-length
 same-length c = search needs
@@ -45,16 +42,10 @@ same-length c = search needs
 returns : tie.Need-returns
 returns c =
     let s = c .before .before .before .before .before .before .before .before .before .before .before .before .before in
-    let f = c .before .before .before .before .before .before .before .before .before .to-front in
-    let n = c .count in
-    record {
-      session = refl;
-      gathered = refl;
-      goes = refl;
-      within = search needs;
-      kept = kept (s .args .self) (s .args .input .now) (s .pre .1) (s .pre .0) (f .result) (n .result) (length (f .last .0) - f .result) (f .last .0) (c .before .before .before .before .before .read .last .1 .0) (f .ensures .1) (f .ensures .0);
-      more = λ e. let some = eqb-false (n .result) 0 e in omega (arith, f .ensures .1);
-    }
+    let f = c .before .before .before .before .before .before .before .before .before .before .to-front in
+    let n = c .before .count in
+    read-after (s .args .self) (s .args .input .now) (s .pre .1) (s .pre .0) (c .after-read .result) (f .result) (n .result) (length (f .last .0) - f .result) (f .last .0) (c .before .before .before .before .before .before .read .last .1 .0)
+    (f .ensures .1) (f .ensures .0) (search needs) (c .after-read .ensures)
 
 pub read-on-spec : {M : Type 1} → statement M
 read-on-spec =
@@ -69,6 +60,6 @@ read-on-spec =
     part-count-start
     part-count-end
     count-requires
-    add-t12
+    after-read-requires
     same-length
     returns)
