@@ -46,7 +46,7 @@ fn bursts(n: u32, q: u32, m: u32) -> Vec<u32> {
 
 /// Makes every call with the figures alone: refusals 1, 2 and 10, and 3 for what fits.
 fn figures_alone(judge: &mut Judge, f: Numbers) {
-    judge.message_len(f);
+    judge.lengths(f);
     judge.decode(f, &[], 0, 0);
     judge.encode(f, &[], &[], 0);
     judge.cover(f, &[], 0);

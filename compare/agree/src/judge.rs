@@ -157,19 +157,20 @@ impl Judge {
         }
     }
 
-    pub fn message_len(&mut self, numbers: Numbers) -> u32 {
-        let (ours, theirs) = ((PROVED.message_len)(numbers), (SECOND.message_len)(numbers));
+    /// Both lengths that figures give.
+    pub fn lengths(&mut self, numbers: Numbers) {
+        let of = |side: &Side| ((side.message_len)(numbers), (side.payload_len)(numbers));
+        let (ours, theirs) = (of(&PROVED), of(&SECOND));
         let inputs = || format!("figures {numbers:?}");
         self.expect(
             Op::Figures,
             ours == theirs,
             &inputs,
-            &format!("{ours} and {theirs}"),
+            &format!("{ours:?} and {theirs:?}"),
         );
         let (n, q, m, b) = numbers;
         let number = Figures::new(n, q, m, b).err().unwrap_or(0);
         self.count(Op::Figures, number, &inputs);
-        theirs
     }
 
     pub fn encode(&mut self, f: Numbers, starts: &[u8], message: &[u8], word: usize) -> Answer {

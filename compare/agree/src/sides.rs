@@ -7,6 +7,7 @@ type JobWrite = fn(Numbers, &[u8], &[u8], &[u8], &mut [u8]) -> u8;
 pub struct Side {
     pub name: &'static str,
     pub message_len: fn(Numbers) -> u32,
+    pub payload_len: fn(Numbers) -> u32,
     pub encode: fn(Numbers, &[u8], &[u8], &mut [u8]) -> u8,
     pub decode: fn(Numbers, &[u8], &mut [u8], &mut [u8]) -> u8,
     pub cover: fn(Numbers, &[u8], &mut [u8]) -> u8,
@@ -18,6 +19,7 @@ pub struct Side {
 pub const PROVED: Side = Side {
     name: "library",
     message_len: burgzemi::raw::message_len,
+    payload_len: burgzemi::raw::payload_len,
     encode: burgzemi::raw::encode,
     decode: burgzemi::raw::decode,
     cover: burgzemi::raw::cover,
@@ -29,6 +31,7 @@ pub const PROVED: Side = Side {
 pub const SECOND: Side = Side {
     name: "second",
     message_len: second::raw::message_len,
+    payload_len: second::raw::payload_len,
     encode: second::raw::encode,
     decode: second::raw::decode,
     cover: second::raw::cover,

@@ -65,6 +65,10 @@ pub fn message_len(numbers: Numbers) -> u32 {
     figures(numbers).map_or(NO_LENGTH, |f| f.k as u32)
 }
 
+pub fn payload_len(numbers: Numbers) -> u32 {
+    figures(numbers).map_or(NO_LENGTH, |f| job::payload_len(&f) as u32)
+}
+
 pub fn encode(numbers: Numbers, starts: &[u8], message: &[u8], word: &mut [u8]) -> u8 {
     let f = match figures(numbers) {
         Ok(f) => f,

@@ -73,9 +73,7 @@ impl Figures {
 
     /// K, how many bytes a job's number and text have.
     pub fn payload_len(&self) -> usize {
-        let q = self.numbers.1;
-        let width = (1..).find(|&width| q.pow(width) >= 256).unwrap_or(1);
-        self.message_len / width as usize
+        raw::payload_len(self.numbers) as usize
     }
 }
 

@@ -4,13 +4,14 @@
 /// n, q, m and b.
 pub type Numbers = (u32, u32, u32, u32);
 
-/// What `message_len` answers for figures that are refused.
+/// What `message_len` and `payload_len` answer for figures that are refused.
 pub const NO_LENGTH: u32 = u32::MAX;
 
 #[rustfmt::skip]
 mod c {
     extern "C" {
         pub fn burgzemi_message_len(n: u32, q: u32, m: u32, b: u32) -> u32;
+        pub fn burgzemi_payload_len(n: u32, q: u32, m: u32, b: u32) -> u32;
         pub fn burgzemi_encode(
             n: u32, q: u32, m: u32, b: u32,
             starts: *const u8, starts_len: usize,
@@ -49,6 +50,12 @@ mod c {
 pub fn message_len((n, q, m, b): Numbers) -> u32 {
     // SAFETY: takes and returns numbers only, and touches no memory.
     unsafe { c::burgzemi_message_len(n, q, m, b) }
+}
+
+/// K, or `NO_LENGTH` where the figures are refused.
+pub fn payload_len((n, q, m, b): Numbers) -> u32 {
+    // SAFETY: takes and returns numbers only, and touches no memory.
+    unsafe { c::burgzemi_payload_len(n, q, m, b) }
 }
 
 /// Writes a word.
