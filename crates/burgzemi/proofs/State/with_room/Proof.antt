@@ -10,7 +10,7 @@ sub-if1 : tie.Need-sub-if1
 sub-if1 c = search needs
 
 returns : tie.Need-returns
-returns c = inl (omega (arith, c .if1 .taken), refl)
+returns c = inl (search needs, refl)
 
 flushed-requires : tie.Need-flushed-requires
 flushed-requires c κs = search needs
