@@ -94,37 +94,53 @@ impl Placement {
         let mut i = m as usize;
         while 0 < i {
             let number = i as u64;
-            let reduced = reduced_start(below, number, left);
-            left -= binomials::choose(reduced, number);
+            let last = last_burst(below, number, left);
+            left -= last.share;
             i -= 1;
-            let start = reduced + (number - 1) * gap;
+            let start = last.reduced + (number - 1) * gap;
             found.starts[i] = start as u16;
-            below = reduced;
+            below = last.reduced;
         }
         found
     }
 }
 
-// The largest number below `below` out of which `number` things can be chosen in at most `rank` ways: a search by halves, but that one thing can be
-// chosen in as many ways as there are things.
-fn reduced_start(below: u64, number: u64, rank: u64) -> u64
+// The last of so many bursts: its reduced start, and its share of their rank.
+struct LastBurst {
+    reduced: u64,
+    share: u64,
+}
+
+// Its reduced start is the largest number below `below` out of which `number` things can be chosen in at most `rank` ways: a search by halves,
+// but that one thing can be chosen in as many ways as there are things.
+fn last_burst(below: u64, number: u64, rank: u64) -> LastBurst
     requires { ⌜ (below ≤ maxThings) × (1 ≤ number) × (number ≤ maxChosen) × (rank < choose below number) ⌝ }
-    ensures { λ r. ⌜ r ≡ top (ways number) below rank ⌝ }
+    ensures reduced { λ r. ⌜ r .reduced ≡ top (ways number) below rank ⌝ }
+    ensures share { λ r. ⌜ r .share ≡ choose (r .reduced) number ⌝ }
 {
     if number == 1 {
-        return rank;
+        return LastBurst {
+            reduced: rank,
+            share: rank,
+        };
     }
     let mut low: u64 = 0;
+    let mut share: u64 = 0;
     let mut high = below;
     while low + 1 < high {
         let middle = low + (high - low) / 2;
-        if binomials::choose(middle, number) <= rank {
+        let chosen = binomials::choose(middle, number);
+        if chosen <= rank {
             low = middle;
+            share = chosen;
         } else {
             high = middle;
         }
     }
-    low
+    LastBurst {
+        reduced: low,
+        share,
+    }
 }
 
 // The answer of covering, 0 or a refusal, and the placement beside it, with no starts where the answer is a refusal.

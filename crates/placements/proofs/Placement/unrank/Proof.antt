@@ -50,24 +50,21 @@ loop-holds c =
           (startsDown (a .b - 1) (contracted (a .n) (a .m) (a .b)) (a .m) (a .rank)) (a .m) (starts-turned (a .n) (a .m) (a .b) (a .rank)),
     )
 
-reduced-start-requires : tie.Need-reduced-start-requires Inv-loop μ-loop
-reduced-start-requires c κs = search needs
+last-burst-requires : tie.Need-last-burst-requires Inv-loop μ-loop
+last-burst-requires c κs = search needs
 
 -- the start that is found
-last : (c : tie.After-reduced-start Inv-loop μ-loop)
+last : (c : tie.After-last-burst Inv-loop μ-loop)
     → LastStart (c .before .before .before .args .b - 1) (c .before .before .loop .below) (c .before .before .loop .i)
-    (c .before .before .loop .left) (c .reduced-start .result)
+    (c .before .before .loop .left) (c .last-burst .result .reduced)
 last c =
     let l = c .before .before .loop in
     let d = c .before .before .before .args .b - 1 in
-    subst (LastStart d (l .below) (l .i) (l .left)) (sym (c .reduced-start .ensures))
+    subst (LastStart d (l .below) (l .i) (l .left)) (sym (c .last-burst .ensures .0))
     (starts-next d (l .below) (l .i) (l .left) (c .before .loop-test .taken) (l .inv .2))
 
-choose-requires : tie.Need-choose-requires Inv-loop μ-loop
-choose-requires c κs = omega (arith, last c .below)
-
 sub-left : tie.Need-sub-left Inv-loop μ-loop
-sub-left c = omega (arith, last (c .before) .reach, c .choose .ensures)
+sub-left c = omega (arith, last (c .before) .reach, c .before .last-burst .ensures .1)
 
 sub-i : tie.Need-sub-i Inv-loop μ-loop
 sub-i c = search needs
@@ -76,20 +73,20 @@ sub-start : tie.Need-sub-start Inv-loop μ-loop
 sub-start c = search needs
 
 -- what the bursts before it take from its start
-room : (c : tie.After-choose Inv-loop μ-loop) → (c .before .before .before .loop .i - 1) * (c .before .before .before .before .args .b - 1) ≤ maxWord
+room : (c : tie.After-last-burst Inv-loop μ-loop) → (c .before .before .loop .i - 1) * (c .before .before .before .args .b - 1) ≤ maxWord
 room c =
-    let a = c .before .before .before .before .args in
-    let i = c .before .before .before .loop .i in
+    let a = c .before .before .before .args in
+    let i = c .before .before .loop .i in
     omega (arith, mul-le-mul {n₁ = i - 1} {m₁ = a .b - 1} {n₂ = a .m} {m₂ = a .b} (omega arith) (omega arith))
 
 mul-start : tie.Need-mul-start Inv-loop μ-loop
-mul-start c = omega (arith, room c)
+mul-start c = omega (arith, room (c .before))
 
 add-start : tie.Need-add-start Inv-loop μ-loop
-add-start c = omega (arith, room c, last (c .before) .below)
+add-start c = omega (arith, room (c .before .before), last (c .before .before) .below)
 
 cast-found : tie.Need-cast-found Inv-loop μ-loop
-cast-found c = omega (arith, room c, last (c .before) .below)
+cast-found c = omega (arith, room (c .before .before), last (c .before .before) .below)
 
 mul-found : tie.Need-mul-found Inv-loop μ-loop
 mul-found c = search needs
@@ -102,11 +99,12 @@ loop-less c = search needs
 
 loop-again : tie.Need-loop-again Inv-loop μ-loop
 loop-again c =
-    let a = c .before .before .before .before .args in
-    let l = c .before .before .before .loop in
-    let t = last (c .before) in
-    let r = c .before .reduced-start .result in
-    let e : c .choose .result ≡ choose r (l .i) = c .choose .ensures in (
+    let d = c .before .before in
+    let a = d .before .before .before .args in
+    let l = d .before .before .loop in
+    let t = last d in
+    let r = d .last-burst .result .reduced in
+    let e : d .last-burst .result .share ≡ choose r (l .i) = d .last-burst .ensures .1 in (
       omega arith,
       omega (arith, t .below),
       rw e (t .rest),
@@ -134,8 +132,7 @@ unrank-spec =
     add-below
     cast-below
     loop-holds
-    reduced-start-requires
-    choose-requires
+    last-burst-requires
     sub-left
     sub-i
     sub-start

@@ -1,5 +1,5 @@
--- `reduced_start` meets its contract: the number sought lies from `low` on and below `high`. Assumes nothing.
-use mathlib.Core.Path.{_≡_, refl, ap, _∙_, subst}
+-- `last_burst` meets its contract: the number sought lies from `low` on and below `high`. Assumes nothing.
+use mathlib.Core.Path.{_≡_, sym, ap, _∙_, subst}
 use Prim.Native.Nat.{ℕ, suc, _*_, _-_, _≤_, _<_}
 use native.Mathlib.Omega.{arith}
 use borrow.Author.Needs.{needs}
@@ -8,27 +8,29 @@ use Rattle.combinatorics.specs.Rank.{ways}
 use Rattle.combinatorics.proofs.Choose.{absorb, choose-zero, choose-mono, choose-of-none}
 use Rattle.combinatorics.proofs.Cases.{by-le}
 use Rattle.combinatorics.proofs.Stretch.{top-is, top-only}
-use Rattle.placements.proofs.reduced_start.Statement.{statement}
-use Rattle.placements.proofs.reduced_start.Tie as tie
+use Rattle.placements.proofs.last_burst.Statement.{statement}
+use Rattle.placements.proofs.last_burst.Tie as tie
 
 -- one thing of n
 choose-one : (n : ℕ) → choose n 1 ≡ n
 choose-one n = omega (arith, absorb n 0, choose-zero n, ap (λ (y : ℕ). n * y) (choose-zero n))
 
 abbrev Inv-loop : tie.InvT-loop
-Inv-loop below number rank low₀ high₀ low high = (low < high) × (high ≤ below) × (choose low number ≤ rank) × (rank < choose high number)
+Inv-loop below number rank low₀ share₀ high₀ low share high =
+    (low < high) × (high ≤ below) × (choose low number ≤ rank) × (rank < choose high number) × (share ≡ choose low number)
 
 abbrev μ-loop : tie.MeasureT-loop
-μ-loop below number rank low₀ high₀ low high = high - low
+μ-loop below number rank low₀ share₀ high₀ low share high = high - low
 
 -- one thing can be chosen in as many ways as there are things
 returns : tie.Need-returns Inv-loop μ-loop
 returns c =
     let a = c .before .args in
     let one : (n : ℕ) → choose n (a .number) ≡ n = λ n. ap (choose n) (c .if1 .taken) ∙ choose-one n in
-    top-only (ways (a .number)) (λ x y h. choose-mono (a .number) h)
-    (record { below = omega (arith, one (a .below), c .before .pre .3); reach = omega (arith, one (a .rank)); past = omega (arith, one (suc (a .rank))) })
-    (top-is (ways (a .number)) (a .below) (a .rank) (omega (arith, one 0)) (c .before .pre .3))
+    (top-only (ways (a .number)) (λ x y h. choose-mono (a .number) h)
+     (record { below = omega (arith, one (a .below), c .before .pre .3); reach = omega (arith, one (a .rank)); past = omega (arith, one (suc (a .rank))) })
+     (top-is (ways (a .number)) (a .below) (a .rank) (omega (arith, one 0)) (c .before .pre .3)),
+     sym (one (a .rank)))
 
 loop-holds : tie.Need-loop-holds Inv-loop μ-loop
 loop-holds c =
@@ -37,7 +39,7 @@ loop-holds c =
     let some : 0 < a .below =
     by-le 1 (a .below) (λ _. 0 < a .below) (λ l. l)
     (λ l. let z : a .below ≡ 0 = omega arith in absurd (omega (arith, ap (ways (a .number)) z))) in
-    (some, omega arith, omega arith, search needs)
+    (some, omega arith, omega arith, search needs, sym none)
 
 add-loop : tie.Need-add-loop Inv-loop μ-loop
 add-loop c = search needs
@@ -69,12 +71,13 @@ returns-2 c =
     let l = c .before .loop in
     let e : l .high ≡ suc (l .low) = omega arith in
     let none = choose-of-none (a .number) (omega arith) in
-    top-only (ways (a .number)) (λ x y h. choose-mono (a .number) h)
-    (record { below = omega arith; reach = l .inv .2; past = subst (λ (h : ℕ). a .rank < choose h (a .number)) e (l .inv .3) })
-    (top-is (ways (a .number)) (a .below) (a .rank) (omega arith) (search needs))
+    (top-only (ways (a .number)) (λ x y h. choose-mono (a .number) h)
+     (record { below = omega arith; reach = l .inv .2; past = subst (λ (h : ℕ). a .rank < choose h (a .number)) e (l .inv .3) })
+     (top-is (ways (a .number)) (a .below) (a .rank) (omega arith) (search needs)),
+     l .inv .4)
 
-pub reduced-start-spec : {M : Type 1} → statement M
-reduced-start-spec =
+pub last-burst-spec : {M : Type 1} → statement M
+last-burst-spec =
     tie.close
     (tie.spec
     Inv-loop
