@@ -1,16 +1,16 @@
 -- Laws of an array of block kinds as a set of burst blocks. Assumes nothing.
-use mathlib.Core.Path.{_≡_, ap, fun-ext}
+use mathlib.Core.Path.{_≡_, sym, ap, _∙_, fun-ext}
 use mathlib.Core.Logic.{_≢_}
-use mathlib.Core.Bool.{true, false, not, cond, _||_}
+use mathlib.Core.Bool.{Bool, true, false, not, cond, _||_}
 use mathlib.Core.List.{List}
-use Prim.Native.Nat.{ℕ, _+_, _*_, _<_}
+use Prim.Native.Nat.{ℕ, _+_, _-_, _*_, _≤_, _<_}
 use native.Mathlib.Omega.{arith}
 use lib.Dec.{eqb}
 use lib.ListN.{length, getD, set}
 use lib.Seq.{getD-set-same, getD-set-other}
 use Rattle.combinatorics.specs.Stretch.{bit, count, first}
 use Rattle.combinatorics.proofs.Cases.{by-eq, by-bool, eqb-same, eqb-other}
-use Rattle.combinatorics.proofs.Stretch.{count-on, some-false, first-most}
+use Rattle.combinatorics.proofs.Stretch.{sum-append, count-le, count-on, some-false, first-most}
 use Rattle.construction_a.specs.Writing.{becomes, withBurst, row, chosen, isIndexIn, isIndex, isBurst}
 use Rattle.construction_a.specs.Figures.{Params, parts}
 use Rattle.blocks.specs.Blocks.{fixedKind, burstKind, indexKind, bursts, marked, kindOf, BurstsOf}
@@ -44,6 +44,15 @@ module _ (kinds : List ℕ) (m i j found : ℕ) (so-far : found ≡ count j 0 (r
   none-more e =
       let t = ap bit (no-burst kinds (i * m + j) e) in
       omega (arith, count-on j (row m (bursts kinds) i))
+
+-- ---- How many of a part's blocks are burst blocks, once some are seen
+
+-- the count of all, by the count of the first j
+pub count-rest : (j m : ℕ) (w : ℕ → Bool) → j ≤ m → (count j 0 w ≤ count m 0 w) × (count m 0 w ≤ count j 0 w + (m - j))
+count-rest j m w h =
+    let e : j + (m - j) ≡ m = omega arith in
+    let d : count m 0 w ≡ count j 0 w + count (m - j) (0 + j) w = ap (λ (n : ℕ). count n 0 w) (sym e) ∙ sum-append j (m - j) 0 (λ x. bit (w x)) in
+    (omega (arith, d), omega (arith, d, count-le (m - j) (0 + j) w))
 
 -- ---- Which block becomes a burst block
 

@@ -2,6 +2,7 @@
 ghost use mathlib.Core.Path.{_≡_};
 ghost use mathlib.Core.Bool.{not};
 ghost use Prim.Native.Nat.{ℕ, _+_, _*_, _≤_, _<_};
+ghost use lib.Dec.{eqb};
 ghost use lib.ListN.{getD, set};
 ghost use Rattle.combinatorics.specs.Stretch.{count, first};
 ghost use Rattle.construction_a.specs.Writing;
@@ -125,21 +126,27 @@ fn first_spare(kinds: [u8; Layout::MAX_BLOCKS], blocks: usize) -> usize
     k
 }
 
-// How many blocks of part `part` are burst blocks.
-fn bursts_in(kinds: [u8; Layout::MAX_BLOCKS], m: usize, part: usize) -> usize
+// Whether part `part` has so many burst blocks: it is left as soon as it has more, or too few blocks to come.
+fn has_bursts(kinds: [u8; Layout::MAX_BLOCKS], m: usize, part: usize, wanted: usize) -> bool
     requires { ⌜ part * m + m ≤ maxBlocks ⌝ }
-    ensures { λ r. ⌜ r ≡ partCount m (bursts kinds) part ⌝ }
+    ensures { λ r. ⌜ r ≡ eqb (partCount m (bursts kinds) part) wanted ⌝ }
 {
     let from = part * m;
-    let mut found: usize = 0;
+    let mut missing = wanted;
     let mut j: usize = 0;
     while j < m {
         if kinds[from + j] == BURST {
-            found += 1;
+            if missing == 0 {
+                return false;
+            }
+            missing -= 1;
         }
         j += 1;
+        if m - j < missing {
+            return false;
+        }
     }
-    found
+    missing == 0
 }
 
 // The first part that has so many burst blocks, or `parts`.
@@ -149,7 +156,7 @@ fn part_with(kinds: [u8; Layout::MAX_BLOCKS], parts: usize, m: usize, wanted: us
 {
     let mut i: usize = 0;
     while i < parts {
-        if bursts_in(kinds, m, i) == wanted {
+        if has_bursts(kinds, m, i, wanted) {
             return i;
         }
         i += 1;

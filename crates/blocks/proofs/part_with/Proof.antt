@@ -7,7 +7,6 @@ use native.Mathlib.Omega.{arith}
 use borrow.Author.Needs.{needs}
 use lib.Dec.{eqb}
 use Rattle.combinatorics.specs.Stretch.{first}
-use Rattle.combinatorics.proofs.Cases.{eqb-same, eqb-other}
 use Rattle.combinatorics.proofs.Stretch.{first-start, first-here, first-on, first-over}
 use Rattle.construction_a.specs.Writing.{partCount, partWith}
 use Rattle.blocks.specs.Blocks.{bursts}
@@ -23,8 +22,8 @@ abbrev μ-loop : tie.MeasureT-loop
 loop-holds : tie.Need-loop-holds Inv-loop μ-loop
 loop-holds c = (omega arith, first-start (c .args .parts) (λ x. eqb (partCount (c .args .m) (bursts (c .args .kinds)) x) (c .args .wanted)))
 
-bursts-in-requires : tie.Need-bursts-in-requires Inv-loop μ-loop
-bursts-in-requires c κs =
+has-bursts-requires : tie.Need-has-bursts-requires Inv-loop μ-loop
+has-bursts-requires c κs =
     let s = c .before in
     let a = s .before .args in
     let l : s .loop .i + 1 ≤ a .parts = omega arith in
@@ -36,7 +35,7 @@ returns c =
     let s = c .before .before .before in
     let a = s .before .args in
     let w : ℕ → Bool = λ x. eqb (partCount (a .m) (bursts (a .kinds)) x) (a .wanted) in
-    sym (first-here (a .parts) (s .loop .i) w (omega arith) (eqb-same (partCount (a .m) (bursts (a .kinds)) (s .loop .i)) (a .wanted) (sym (c .before .bursts-in .ensures) ∙ c .if1 .taken))) ∙ s .loop .inv .1
+    sym (first-here (a .parts) (s .loop .i) w (omega arith) (sym (c .before .has-bursts .ensures) ∙ c .if1 .taken)) ∙ s .loop .inv .1
 
 add-i : tie.Need-add-i Inv-loop μ-loop
 add-i c = search needs
@@ -49,7 +48,7 @@ loop-again c =
     let s = c .before .before .before in
     let a = s .before .args in
     let w : ℕ → Bool = λ x. eqb (partCount (a .m) (bursts (a .kinds)) x) (a .wanted) in
-    (omega arith, sym (first-on (a .parts) (s .loop .i) w (omega arith) (eqb-other (partCount (a .m) (bursts (a .kinds)) (s .loop .i)) (a .wanted) (λ e. c .if1 .left (c .before .bursts-in .ensures ∙ e)))) ∙ s .loop .inv .1)
+    (omega arith, sym (first-on (a .parts) (s .loop .i) w (omega arith) (sym (c .before .has-bursts .ensures) ∙ c .if1 .left)) ∙ s .loop .inv .1)
 
 returns-2 : tie.Need-returns-2 Inv-loop μ-loop
 unfolding partWith
@@ -65,7 +64,7 @@ part-with-spec =
     Inv-loop
     μ-loop
     loop-holds
-    bursts-in-requires
+    has-bursts-requires
     returns
     add-i
     loop-less

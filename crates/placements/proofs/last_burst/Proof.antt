@@ -26,11 +26,12 @@ abbrev μ-loop : tie.MeasureT-loop
 returns : tie.Need-returns Inv-loop μ-loop
 returns c =
     let a = c .before .args in
-    let one : (n : ℕ) → choose n (a .number) ≡ n = λ n. ap (choose n) (c .if1 .taken) ∙ choose-one n in
-    (top-only (ways (a .number)) (λ x y h. choose-mono (a .number) h)
-     (record { below = omega (arith, one (a .below), c .before .pre .3); reach = omega (arith, one (a .rank)); past = omega (arith, one (suc (a .rank))) })
-     (top-is (ways (a .number)) (a .below) (a .rank) (omega (arith, one 0)) (c .before .pre .3)),
-     sym (one (a .rank)))
+    let one : (n : ℕ) → choose n (a .number) ≡ n = λ n. ap (choose n) (c .if1 .taken) ∙ choose-one n in (
+      top-only (ways (a .number)) (λ x y h. choose-mono (a .number) h)
+          (record { below = omega (arith, one (a .below), c .before .pre .3); reach = omega (arith, one (a .rank)); past = omega (arith, one (suc (a .rank))) })
+          (top-is (ways (a .number)) (a .below) (a .rank) (omega (arith, one 0)) (c .before .pre .3)),
+      sym (one (a .rank)),
+    )
 
 loop-holds : tie.Need-loop-holds Inv-loop μ-loop
 loop-holds c =
@@ -70,11 +71,12 @@ returns-2 c =
     let a = c .before .before .before .args in
     let l = c .before .loop in
     let e : l .high ≡ suc (l .low) = omega arith in
-    let none = choose-of-none (a .number) (omega arith) in
-    (top-only (ways (a .number)) (λ x y h. choose-mono (a .number) h)
-     (record { below = omega arith; reach = l .inv .2; past = subst (λ (h : ℕ). a .rank < choose h (a .number)) e (l .inv .3) })
-     (top-is (ways (a .number)) (a .below) (a .rank) (omega arith) (search needs)),
-     l .inv .4)
+    let none = choose-of-none (a .number) (omega arith) in (
+      top-only (ways (a .number)) (λ x y h. choose-mono (a .number) h)
+          (record { below = omega arith; reach = l .inv .2; past = subst (λ (h : ℕ). a .rank < choose h (a .number)) e (l .inv .3) })
+          (top-is (ways (a .number)) (a .below) (a .rank) (omega arith) (search needs)),
+      l .inv .4,
+    )
 
 pub last-burst-spec : {M : Type 1} → statement M
 last-burst-spec =
