@@ -1,7 +1,5 @@
 /*
- * Burgzemi's functions for C and other languages, proved. Link with one archive of target/staticlib/ and no second:
- *   libdecoder.a, by `rt staticlib decoder`, has the word reader alone: burgzemi_message_len and burgzemi_decode;
- *   libexports.a, by `rt staticlib exports`, has every function of this file, those two included.
+ * Burgzemi's functions for C and other languages, proved. Link with target/staticlib/libexports.a, made by `rt staticlib exports`.
  */
 #ifndef BURGZEMI_H
 #define BURGZEMI_H
@@ -18,7 +16,7 @@ enum burgzemi_answer {
     BURGZEMI_SERVED = 0,
     /* from the input */
     BURGZEMI_INVALID = 1,      /* a figure out of range, or a job table with one number twice or with an unknown state */
-    BURGZEMI_UNFIT = 2,        /* the figures don't fit: m * b is above n, or the shortest block has fewer than b + r symbols (README.md has r) */
+    BURGZEMI_UNFIT = 2,        /* the figures don't fit: m * b is above n, or the shortest block has fewer than b + r symbols, r as document 01 has it */
     BURGZEMI_LENGTH = 3,       /* a list, a placement or a buffer has another length than the figures give */
     BURGZEMI_SYMBOL = 4,       /* a symbol of q or more, or a byte above 1 in a defect map */
     BURGZEMI_STARTS = 5,       /* starts too close, descending, or past the end */
@@ -51,7 +49,8 @@ enum burgzemi_answer {
 
 /*
  * Of every function here: starts are 2 bytes each, high byte first, ascending. Each buffer comes with its own length, and as many of its bytes are read
- * or written at most. Buffers of one call must not overlap, and none is NULL, also where its length is 0. One that is only written need not be initialised. A refusal leaves every buffer as it was.
+ * or written at most. Buffers of one call must not overlap, and none is NULL, also where its length is 0. One that is only written need not be
+ * initialised. A refusal leaves every buffer as it was.
  * Each function always returns and touches no other memory, which is what its proof says of any code here; it keeps nothing between calls, so that
  * several threads may call it at once with buffers of their own.
  */
@@ -75,9 +74,10 @@ uint8_t burgzemi_decode(uint32_t n, uint32_t q, uint32_t m, uint32_t b,
                         uint8_t *message, size_t message_len,
                         uint8_t *starts, size_t starts_len);
 
-/* ---- In libexports.a alone ---- */
-
-/* How many bytes the payload of a job has: K of the figures, of which the first 4 are the job number; below 5 no job has room. BURGZEMI_NO_LENGTH where burgzemi_message_len answers it. */
+/*
+ * How many bytes the payload of a job has: K of the figures, of which the first 4 are the job number; below 5 no job has room. BURGZEMI_NO_LENGTH where
+ * burgzemi_message_len answers it.
+ */
 uint32_t burgzemi_payload_len(uint32_t n, uint32_t q, uint32_t m, uint32_t b);
 
 /*

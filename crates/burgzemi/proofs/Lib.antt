@@ -1,4 +1,1 @@
-pub mod Front
-pub mod Cut
-pub mod Turns
-pub mod Pieces
+pub mod Going

@@ -1,5 +1,5 @@
 -- Demand 2 of what the word reader answers. Assumes nothing.
-use mathlib.Core.Path.{_≡_, sym, ap, _∙_, subst}
+use mathlib.Core.Path.{_≡_, refl, sym, ap, _∙_, subst}
 use mathlib.Core.List.{List}
 use Prim.Native.Nat.{ℕ, _-_}
 use native.Mathlib.Omega.{arith}
@@ -7,10 +7,14 @@ use lib.ListN.{length, replicate}
 use lib.Seq.{take-append-seam}
 use Rattle.cells.specs.Codec.{Reading, accepted, refused}
 use Rattle.construction_a.specs.Figures.{Params, maxBursts}
-use Rattle.construction_a.specs.Outcomes.{inUse, held, rankIs, refusal, Decoded, unread, decodeAs, decodeOut}
+use Rattle.construction_a.specs.Outcomes.{inUse, held, rankIs, refusal, answerNumber, Decoded, unread, decodeAs, decodeOut}
 use Rattle.construction_a.specs.Reading.{read}
 use Rattle.construction_a.specs.Writing.{rank}
 use Rattle.construction_a.proofs.DemandTwo.{demand-two}
+use Rattle.decoder.specs.declared.WordAnswer.{WordAnswer}
+use Rattle.decoder.specs.declared.WordAnswer.the-variants.{Accepted, Refused}
+use Rattle.decoder.specs.declared.Decoded.{Decoded as Answered}
+use Rattle.decoder.specs.Answer.{answerAs, wordNumber, decodedAs}
 use Rattle.decoder.specs.DemandTwo.{DecodesExactly}
 use Rattle.decoder.proofs.Calls.{decode-read}
 
@@ -47,6 +51,13 @@ decodes-exactly f w out g =
       );
     }
 
--- the two clauses of the reader's contract
-pub by-outcome : (f : Params) (w out : List ℕ) (d : Decoded) → d ≡ decodeOut f w out → (d ≡ decodeOut f w out) × DecodesExactly f w out d
-by-outcome f w out d e = (e, subst (DecodesExactly f w out) (sym e) (decodes-exactly f w out))
+-- an answer's number is that of what it says
+number-is : (r : WordAnswer) → wordNumber r ≡ answerNumber (answerAs r)
+number-is (Accepted v) = refl
+number-is (Refused a) = refl
+
+-- the clauses of the reader's contract
+pub by-outcome : (f : Params) (w out : List ℕ) (r : Answered) (left : List ℕ) → decodedAs r left ≡ decodeOut f w out
+    → (decodedAs r left ≡ decodeOut f w out) × (DecodesExactly f w out (decodedAs r left) × (wordNumber (r .answer) ≡ answerNumber (decodeOut f w out .answer)))
+by-outcome f w out r left e =
+    (e, (subst (DecodesExactly f w out) (sym e) (decodes-exactly f w out), number-is (r .answer) ∙ ap (λ (d : Decoded). answerNumber (d .answer)) e))

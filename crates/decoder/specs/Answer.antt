@@ -1,6 +1,7 @@
 -- What an answer of the word reader says: its number and values case by case. Assumes nothing.
 use mathlib.Core.List.{List}
 use Prim.Native.Nat.{ℕ}
+use Rattle.refusals.specs.Refusals.{served}
 use Rattle.construction_a.specs.Outcomes.{WordAnswer as Answer, rankIs, refusal, Decoded as Outcome}
 use Rattle.placements.specs.Bridge.{heldAs}
 use Rattle.decoder.specs.declared.WordAnswer.{WordAnswer}
@@ -11,6 +12,11 @@ use Rattle.decoder.specs.declared.Decoded.{Decoded}
 abbrev pub answerAs : WordAnswer → Answer
 answerAs (Accepted v) = rankIs v
 answerAs (Refused a) = refusal a
+
+-- document 01's number for each case: 0, or the refusal
+abbrev pub wordNumber : WordAnswer → ℕ
+wordNumber (Accepted v) = served
+wordNumber (Refused a) = a
 
 -- "the placement stands beside that answer", and the message is what the lent buffer holds afterwards
 abbrev pub decodedAs : Decoded → List ℕ → Outcome

@@ -3,11 +3,11 @@ ghost use mathlib.Core.Path.{_≡_};
 ghost use mathlib.Core.List.{List};
 ghost use Prim.Native.Nat.{ℕ};
 ghost use lib.ListN.{take};
-ghost use Rattle.construction_a.specs.Outcomes.{unread as unreadAs, decodeAs, decodeOut};
+ghost use Rattle.construction_a.specs.Outcomes.{unread as unreadAs, answerNumber, decodeAs, decodeOut};
 ghost use Rattle.construction_a.specs.Reading.{readRank, read};
 ghost use Rattle.params.specs.Bridge.{given};
 ghost use Rattle.params.specs.Given.{figuresOf, Fitting, HeadsOf};
-ghost use Rattle.decoder.specs.Answer.{decodedAs};
+ghost use Rattle.decoder.specs.Answer.{wordNumber, decodedAs};
 ghost use Rattle.decoder.specs.DemandTwo.{DecodesExactly};
 ghost use Rattle.decoder.specs.Reader.{Lent, Ranked};
 use params::Layout;
@@ -18,7 +18,6 @@ use placements::Placement;
 use refusals::Refusal;
 
 mod agree;
-pub mod exported;
 pub mod starts;
 mod taking;
 
@@ -39,6 +38,7 @@ pub struct Decoded {
 pub fn decode(figures: Params, word: &[u8], message: &mut [u8]) -> Decoded
     ensures outcome { λ r. ⌜ decodedAs r (now (message .exit)) ≡ decodeOut (given figures) (now (word .entry)) (now (message .entry)) ⌝ }
     ensures exactly { λ r. ⌜ DecodesExactly (given figures) (now (word .entry)) (now (message .entry)) (decodedAs r (now (message .exit))) ⌝ }
+    ensures number { λ r. ⌜ wordNumber (r .answer) ≡ answerNumber (decodeOut (given figures) (now (word .entry)) (now (message .entry)) .answer) ⌝ }
 {
     let answer = Params::figures(figures.n, figures.q, figures.m, figures.b);
     match answer {

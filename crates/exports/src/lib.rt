@@ -1,5 +1,5 @@
-// The entry points for programs in other languages, on figures as numbers and lent bytes. Each but the lengths answers 0 or the refusal, which leaves every lent
-// buffer as it was. Assumes nothing.
+// The entry points for programs in other languages, on figures as numbers and lent bytes. Each but the lengths answers 0 or the refusal, which leaves
+// every lent buffer as it was. Assumes nothing.
 ghost use mathlib.Core.Path.{_≡_};
 ghost use Rattle.construction_a.specs.Figures.{params};
 ghost use Rattle.construction_a.specs.Outcomes.{unwritten};
@@ -7,7 +7,7 @@ ghost use Rattle.decoder.specs.Exported.{lentAs, exportedOut, messageLenOut};
 ghost use Rattle.jobcodec.specs.Given.{seen};
 ghost use Rattle.exports.specs.Words.{encodeBytesOut, covers, coverBytesOut, payloadLenOut};
 ghost use Rattle.exports.specs.Jobs.{called, callBytesOut, jobWriteBytesOut, jobReadBytesOut};
-use decoder::exported;
+use decoder::starts::decode_bytes;
 use params::LayoutAnswer;
 use params::Params;
 use params::bytes;
@@ -16,7 +16,10 @@ use refusals::Refusal;
 mod starts;
 mod table;
 
-// Word read, as the decoder has it: this archive is then the only one to link. Refusals: 1 2 3 4 7 8 9.
+// A length that no message and no payload has.
+const NO_LENGTH: u32 = 4294967295;
+
+// Word read: the message, and the starts of the bursts, 2 bytes each and the high byte first. Refusals: 1 2 3 4 7 8 9.
 #[no_mangle]
 pub extern "C" fn burgzemi_decode(
     n: u32,
@@ -29,15 +32,23 @@ pub extern "C" fn burgzemi_decode(
 ) -> u8
     ensures { λ r. ⌜ lentAs r (now (message .exit)) (now (starts .exit)) ≡ exportedOut (params n q m b) (now (word .entry)) (now (message .entry)) (now (starts .entry)) ⌝ }
 {
-    exported::burgzemi_decode(n, q, m, b, word, message, starts)
+    let answer = Params::figures(n, q, m, b);
+    match answer {
+        LayoutAnswer::Refused(number) => number,
+        LayoutAnswer::Fit(layout) => decode_bytes(layout, word, message, starts),
+    }
 }
 
-// How many symbols a message has; NO_LENGTH for figures that are refused.
+// How many symbols a message has, so that a program can lend them; NO_LENGTH for figures that are refused.
 #[no_mangle]
 pub extern "C" fn burgzemi_message_len(n: u32, q: u32, m: u32, b: u32) -> u32
     ensures { λ r. ⌜ r ≡ messageLenOut (params n q m b) ⌝ }
 {
-    exported::burgzemi_message_len(n, q, m, b)
+    let answer = Params::figures(n, q, m, b);
+    match answer {
+        LayoutAnswer::Refused(_) => NO_LENGTH,
+        LayoutAnswer::Fit(layout) => layout.message_len as u32,
+    }
 }
 
 // How many bytes a payload has, the job number's four included; NO_LENGTH for figures that are refused.
@@ -47,7 +58,7 @@ pub extern "C" fn burgzemi_payload_len(n: u32, q: u32, m: u32, b: u32) -> u32
 {
     let answer = Params::figures(n, q, m, b);
     match answer {
-        LayoutAnswer::Refused(_) => exported::NO_LENGTH,
+        LayoutAnswer::Refused(_) => NO_LENGTH,
         LayoutAnswer::Fit(layout) => bytes::payload_len(layout.q, layout.message_len) as u32,
     }
 }

@@ -18,11 +18,11 @@ use Rattle.construction_a.specs.Writing.{word}
 use Rattle.construction_a.specs.Outcomes.{Held, inUse, Encoded, unwritten, unserved, figuresOut}
 use Rattle.construction_a.proofs.Figures.{serve}
 use Rattle.construction_a.proofs.Outcomes.{figured-fits}
-use Rattle.params.specs.Answer.{figuredAs, LaidIn}
+use Rattle.params.specs.Answer.{figuredAs}
 use Rattle.params.specs.declared.LayoutAnswer.{LayoutAnswer}
 use Rattle.params.specs.declared.LayoutAnswer.the-variants.{Fit}
 use Rattle.params.specs.declared.Layout.{Layout}
-use Rattle.params.proofs.Answered.{fit-learnt, Bounds, bounds}
+use Rattle.params.proofs.Answered.{Told, fit-learnt, Bounds, bounds}
 use Rattle.jobs.specs.declared.Entry.{Entry}
 use Rattle.jobs.specs.Jobs.{Status, unknown, opened, cancelled, needsOpen}
 use Rattle.jobs.specs.Replay.{ReplayOut, replayOut}
@@ -54,7 +54,7 @@ module _ (f : Params) (es : List Entry) where
   read-unfit w out a e r = figures-refused f es (withhold out) _ a e r
 
   -- what a caller learns of an answer that is a layout
-  pub laid : (answer : LayoutAnswer) (l : Layout) → answer ≡ Fit l → figuredAs answer ≡ figuresOut f → LaidIn f answer → twice es ≡ false → Laid f l es
+  pub laid : (answer : LayoutAnswer) (l : Layout) → answer ≡ Fit l → figuredAs answer ≡ figuresOut f → Told f answer → twice es ≡ false → Laid f l es
   laid answer l e told layout once =
       let fit = figured-fits f (l .«placement_count») (l .«index_tail») (l .«message_len») (sym told ∙ ap figuredAs e) in
       record { range = fit .0; fit = fit .1; layout = fit-learnt f answer l e told layout .1; once = once }

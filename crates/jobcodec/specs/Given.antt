@@ -4,7 +4,6 @@ use mathlib.Core.Bool.{true, false}
 use mathlib.Core.List.{List}
 use Prim.Native.Nat.{ℕ, _≤_}
 use lib.ListN.{length}
-use Rattle.refusals.specs.Refusals.{served}
 use Rattle.cells.specs.Bytes.{payloadLen}
 use Rattle.construction_a.specs.Figures.{Params, maxAlphabet, inRange, fits, messageLen}
 use Rattle.params.specs.Answer.{LaidOut}
@@ -12,18 +11,11 @@ use Rattle.params.specs.declared.Layout.{Layout}
 use Rattle.jobs.specs.declared.Entry.{Entry}
 use Rattle.jobs.specs.Table.{twice}
 use Rattle.payloads.specs.Payload.{carriesJob}
-use Rattle.decoder.specs.declared.WordAnswer.{WordAnswer}
-use Rattle.decoder.specs.declared.WordAnswer.the-variants.{Accepted, Refused}
 use Rattle.jobcodec.specs.JobRead.{JobRead}
 
 -- what was seen of a job reading: its answer, and the lent payload
 abbrev pub seen : ℕ → List ℕ → JobRead
 seen a out = record { answer = a; payload = out }
-
--- 0 or the refusal
-abbrev pub refusalIn : WordAnswer → ℕ
-refusalIn (Accepted v) = served
-refusalIn (Refused a) = a
 
 -- the layout of figures that fit, and a table that holds no number twice
 pub record Laid (f : Params) (l : Layout) (es : List Entry) : Type 0 where

@@ -223,7 +223,8 @@ fn holds(entry: Entry, number: u32) -> bool
 }
 
 // Makes the calls of lent letters and numbers, one after the other from the empty table; each answer goes to its place in `answers`.
-// Refusals of the whole list: 3 for lists of other lengths, 11 for a letter other than O, C, F. The table is then the empty one, and `answers` keeps what it held.
+// Refusals of the whole list: 3 for lists of other lengths, 11 for a letter other than O, C, F. The table is then the empty one, and `answers` keeps
+// what it held.
 pub fn replay(letters: &[u8], numbers: &[u32], answers: &mut [u8]) -> TableAnswer
     ensures outcome { λ r. ⌜ replayed r (now (answers .exit)) ≡ replayOut (now (letters .entry)) (now (numbers .entry)) (now (answers .entry)) ⌝ }
     ensures ledger { λ r. ⌜ (r .answer ≡ served → Follows [] (callsOf (now (letters .entry)) (now (numbers .entry))) (now (answers .exit)) (entries (r .table))) ⌝ }

@@ -16,15 +16,15 @@ use Rattle.params.specs.declared.LayoutAnswer.{LayoutAnswer}
 use Rattle.params.specs.declared.LayoutAnswer.the-variants.{Fit}
 use Rattle.params.specs.Answer.{figuredAs, LaidOut, LaidIn}
 use Rattle.params.specs.Given.{maxBlocks, figuresOf, Fitting, HeadsOf}
-use Rattle.params.proofs.Answered.{Bounds, bounds}
+use Rattle.params.proofs.Answered.{Told, Bounds, bounds}
 
 same-figures : {f : Params} {n q m b : ℕ} → n ≡ f .n → q ≡ f .q → m ≡ f .m → b ≡ f .b → params n q m b ≡ f
 same-figures e₁ e₂ e₃ e₄ = rw (e₁, e₂, e₃, e₄)
 
 -- of an answer that was taken apart: the layout's figures are the caller's, and they fit
-pub layout-fits : (f : Params) (r : LayoutAnswer) (l : Layout) → r ≡ Fit l → figuredAs r ≡ figuresOut f → LaidIn f r → (figuresOf l ≡ f) × Fitting l
-layout-fits f r l e answer layout =
-    let is : LaidOut f l = subst (LaidIn f) e layout in
+pub layout-fits : (f : Params) (r : LayoutAnswer) (l : Layout) → r ≡ Fit l → figuredAs r ≡ figuresOut f → Told f r → (figuresOf l ≡ f) × Fitting l
+layout-fits f r l e answer told =
+    let is : LaidOut f l = subst (LaidIn f) e (told .0) in
     let same : figuresOf l ≡ f = same-figures (is .n-is) (is .q-is) (is .m-is) (is .b-is) in
     let fit = figured-fits f (l .«placement_count») (l .«index_tail») (l .«message_len») (sym answer ∙ ap figuredAs e) in
     (same, record { range = ap inRange same ∙ fit .0; fit = ap fits same ∙ fit .1; laid = subst (λ (g : Params). LaidOut g l) (sym same) is })

@@ -1,5 +1,7 @@
 -- What an answer of "figures alone" says: its number and values case by case, and what each field of a layout is. Assumes nothing.
 use mathlib.Core.Path.{_≡_}
+use Prim.Native.Nat.{ℕ}
+use Rattle.refusals.specs.Refusals.{served}
 use Rattle.construction_a.specs.Figures.{Params, parts, blockMin, placementCount, indexTail, messageLen}
 use Rattle.construction_a.specs.Outcomes.{FiguresOut, figured, unserved}
 use Rattle.params.specs.declared.Layout.{Layout}
@@ -10,6 +12,11 @@ use Rattle.params.specs.declared.LayoutAnswer.the-variants.{Fit, Refused
 abbrev pub figuredAs : LayoutAnswer → FiguresOut
 figuredAs (Fit l) = figured (l .«placement_count») (l .«index_tail») (l .«message_len»)
 figuredAs (Refused a) = unserved a
+
+-- document 01's number for each case: 0, or the refusal
+abbrev pub layoutNumber : LayoutAnswer → ℕ
+layoutNumber (Fit l) = served
+layoutNumber (Refused a) = a
 
 -- the layout has the figures, and each number that follows from them
 pub record LaidOut (f : Params) (l : Layout) : Type 0 where

@@ -1,13 +1,12 @@
 // The parameters of a code word (document 01's figures), and "figures alone": the layout that they give, or the refusal. Assumes nothing.
 ghost use mathlib.Core.Path.{_≡_};
 ghost use mathlib.Core.Bool.{true};
-ghost use mathlib.Core.List.{[], _∷_};
 ghost use Prim.Native.Nat.{_*_, _≤_};
-ghost use Rattle.construction_a.specs.Figures.{params, inRange, maxWord, maxAlphabet, maxBursts, parts as partsOf};
-ghost use Rattle.construction_a.specs.Outcomes.{figuresOut};
+ghost use Rattle.construction_a.specs.Figures.{params, inRange, parts as partsOf};
+ghost use Rattle.construction_a.specs.Outcomes.{figuresNumber, figuresOut};
 ghost use Rattle.cells.specs.Cut.{blockHead, blockWith};
 ghost use Rattle.params.specs.Bridge.{given};
-ghost use Rattle.params.specs.Answer.{figuredAs, LaidIn};
+ghost use Rattle.params.specs.Answer.{figuredAs, layoutNumber, LaidIn};
 ghost use Rattle.params.specs.Blocks.{HasPosition};
 ghost use Rattle.params.specs.Given.{figuresOf, Fitting, HeadsOf};
 use refusals::Refusal;
@@ -66,6 +65,7 @@ impl Params {
     pub fn figures(n: u32, q: u32, m: u32, b: u32) -> LayoutAnswer
         ensures answer { λ r. ⌜ figuredAs r ≡ figuresOut (params n q m b) ⌝ }
         ensures layout { λ r. ⌜ LaidIn (params n q m b) r ⌝ }
+        ensures number { λ r. ⌜ layoutNumber r ≡ figuresNumber (figuresOut (params n q m b)) ⌝ }
     {
         let given = Params { n, q, m, b };
         if !given.in_range() {
@@ -147,13 +147,6 @@ impl Params {
             return Params::MIN_PARTS as usize;
         }
         self.m as usize
-    }
-
-    // The largest figures: this ties the names here to those of specs/.
-    pub fn largest() -> [u32; 3]
-        ensures { λ r. ⌜ r ≡ maxWord ∷ maxAlphabet ∷ maxBursts ∷ [] ⌝ }
-    {
-        [Params::MAX_WORD, Params::MAX_ALPHABET, Params::MAX_BURSTS]
     }
 }
 

@@ -2,10 +2,8 @@
 ghost use mathlib.Core.Path.{_≡_};
 ghost use Rattle.refusals.specs.Refusals.{served, invalid, unfit, wrongLength, badSymbol, badStarts, uncovered, noPattern, valueTooLarge, disagrees, badPayload, badRecord, jobCancelled, alreadyOpen, notOpen, tableFull, refusals};
 
-// A refusal's number, and under this name the numbers themselves; 0 stands for an accepted call.
-pub struct Refusal {
-    pub number: u8,
-}
+// The numbers stand under this name; 0 stands for an accepted call.
+pub struct Refusal {}
 
 impl Refusal {
     pub const NONE: u8 = 0;

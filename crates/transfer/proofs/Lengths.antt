@@ -7,31 +7,33 @@ use mathlib.Core.Option.{Option, none, some}
 use Prim.Native.Nat.{ℕ, _+_, _*_, _≤_, _<_}
 use native.Mathlib.Nat.{div-le-self}
 use native.Mathlib.Omega.{arith}
-use lib.Dec.{eqb}
+use lib.Dec.{eqb, ltb}
+use borrow.Author.Tests.{lt-ltb, le-ltb}
 use lib.ListN.{length, getD}
-use Rattle.combinatorics.proofs.Cases.{eqb-same, eqb-other, eqb-true}
+use Rattle.combinatorics.proofs.Cases.{by-bool, by-le, eqb-same, eqb-other, eqb-true}
 use Rattle.combinatorics.proofs.Lists.{both}
 use Rattle.cells.specs.Bytes.{byteWidth, payloadLen}
 use Rattle.construction_a.specs.Figures.{Params, maxWord, messageLen}
 use Rattle.construction_a.specs.Outcomes.{FiguresOut, figured, unserved, figuresOut}
 use Rattle.construction_a.proofs.Outcomes.{figured-served}
-use Rattle.params.specs.Answer.{figuredAs, LaidIn}
+use Rattle.params.specs.Answer.{figuredAs}
 use Rattle.params.specs.Given.{figuresOf, Fitting}
 use Rattle.params.specs.declared.Layout.{Layout}
 use Rattle.params.specs.declared.LayoutAnswer.{LayoutAnswer}
 use Rattle.params.specs.declared.LayoutAnswer.the-variants.{Fit, Refused}
+use Rattle.params.proofs.Answered.{Told}
 use Rattle.params.proofs.Fitting.{layout-fits, bound}
 use Rattle.jobs.specs.Replay.{kindOf, isLetter}
 use Rattle.jobs.proofs.Turns.{no-kind}
 use Rattle.transfer.specs.Session.{Session}
 use Rattle.transfer.specs.Records.{letterS, letterW, letterR, headLen, isMarked, letterOf, ifFit, current, writeLen, readLen, recordLen, maxRecord, isWhole, readable}
-use Rattle.transfer.specs.Program.{reach}
+use Rattle.transfer.specs.Program.{reach, begunLen, neededFor}
 use Rattle.transfer.specs.Bridge.{Current, orZero}
 
 -- ---- The last accepted figures
 
 -- "figures alone" answers for them
-pub current-of : (f : Params) (r : LayoutAnswer) → figuredAs r ≡ figuresOut f → LaidIn f r → Current (some f) r
+pub current-of : (f : Params) (r : LayoutAnswer) → figuredAs r ≡ figuresOut f → Told f r → Current (some f) r
 current-of f (Fit l) answer layout =
     let is = layout-fits f (Fit l) l refl answer layout in
     (ap (ifFit f) (sym answer) ∙ ap some (sym (is .0)), is .1)
@@ -127,27 +129,105 @@ cut : (bytes : List ℕ) (k : Option ℕ) → headLen ≤ reach k → length byt
 cut bytes none h l = refl
 cut bytes (some k) h l = eqb-other (length bytes) k (λ e. omega arith)
 
-whole-is : (bytes : List ℕ) (k : Option ℕ) → headLen ≤ length bytes → isWhole bytes k ≡ eqb (length bytes) (orZero k)
-whole-is bytes none h = sym (eqb-other (length bytes) 0 (λ e. omega arith))
+either : (b : Bool) → _≡_ {A = Option ℕ} (cond b none none) none
+either true = refl
+either false = refl
+
+whole-is : (bytes : List ℕ) (k : Option ℕ) → orZero k ≢ 0 → isWhole bytes k ≡ eqb (length bytes) (orZero k)
+whole-is bytes none h = absurd (h refl)
 whole-is bytes (some k) h = refl
 
+not-whole : (bytes : List ℕ) (k : Option ℕ) → headLen ≤ reach k → orZero k ≡ 0 → isWhole bytes k ≡ false
+not-whole bytes none h e = refl
+not-whole bytes (some k) h e = absurd (omega arith)
+
+reach-none : (k : Option ℕ) → headLen ≤ reach k → orZero k ≡ 0 → reach k ≡ headLen
+reach-none none h e = refl
+reach-none (some k) h e = absurd (omega arith)
+
+reach-some : (k : Option ℕ) → orZero k ≢ 0 → reach k ≡ orZero k
+reach-some none h = absurd (h refl)
+reach-some (some k) h = refl
+
+reach-most : (k : Option ℕ) → orZero k ≤ maxRecord → reach k ≤ maxRecord
+reach-most none h = omega arith
+reach-most (some k) h = h
+
 module _ (s : Session) (bytes : List ℕ) where
-  pub short-unreadable : length bytes < headLen → readable s bytes ≡ false
-  unfolding readable
-  short-unreadable h = ap (λ (t : Bool). isMarked bytes && t) (cut bytes (recordLen s (letterOf bytes)) (reaches s (letterOf bytes)) h) ∙ never (isMarked bytes)
+  -- ---- The record that begins with these bytes
 
-  pub first-unreadable : getD bytes 0 0 ≢ 76 → readable s bytes ≡ false
-  unfolding readable
-  first-unreadable h = rw (eqb-other (getD bytes 0 0) 76 h)
+  pub begun-short : length bytes < headLen → begunLen s bytes ≡ none
+  unfolding begunLen
+  begun-short h = rw (lt-ltb (length bytes) headLen h)
 
-  pub second-unreadable : getD bytes 0 0 ≡ 76 → getD bytes 1 0 ≢ 84 → readable s bytes ≡ false
-  unfolding readable
-  second-unreadable e h = rw (eqb-same (getD bytes 0 0) 76 e, eqb-other (getD bytes 1 0) 84 h)
+  pub begun-unmarked : isMarked bytes ≡ false → begunLen s bytes ≡ none
+  unfolding begunLen
+  begun-unmarked e = rw e (either (ltb (length bytes) headLen))
 
-  pub marked-readable : headLen ≤ length bytes → getD bytes 0 0 ≡ 76 → getD bytes 1 0 ≡ 84
-      → readable s bytes ≡ eqb (length bytes) (orZero (recordLen s (letterOf bytes)))
+  pub begun-marked : headLen ≤ length bytes → isMarked bytes ≡ true → begunLen s bytes ≡ recordLen s (letterOf bytes)
+  unfolding begunLen
+  begun-marked h e = rw (le-ltb (length bytes) headLen h, e)
+
+  -- by the first two bytes
+  pub begun-first : getD bytes 0 0 ≢ 76 → begunLen s bytes ≡ none
+  begun-first h = begun-unmarked (ap (λ (b : Bool). b && eqb (getD bytes 1 0) 84) (eqb-other (getD bytes 0 0) 76 h))
+
+  pub begun-second : getD bytes 0 0 ≡ 76 → getD bytes 1 0 ≢ 84 → begunLen s bytes ≡ none
+  begun-second e h = begun-unmarked (rw (eqb-same (getD bytes 0 0) 76 e) (eqb-other (getD bytes 1 0) 84 h))
+
+  pub begun-both : headLen ≤ length bytes → getD bytes 0 0 ≡ 76 → getD bytes 1 0 ≡ 84 → begunLen s bytes ≡ recordLen s (letterOf bytes)
+  begun-both l e d = begun-marked l (rw (eqb-same (getD bytes 0 0) 76 e) (eqb-same (getD bytes 1 0) 84 d))
+
+  -- whatever holds of no length and of the letter's
+  begun-is : (P : Option ℕ → Type 0) → P none → P (recordLen s (letterOf bytes)) → P (begunLen s bytes)
+  begun-is P n r =
+      by-le headLen (length bytes) (λ b. P (begunLen s bytes))
+      (λ h. by-bool (isMarked bytes) (λ e. subst P (sym (begun-marked h e)) r) (λ e. subst P (sym (begun-unmarked e)) n))
+      (λ h. subst P (sym (begun-short h)) n)
+
+  -- mark and letter at least, and no more than the letter has
+  pub needed-least : headLen ≤ neededFor s bytes
+  needed-least = begun-is (λ k. headLen ≤ reach k) (omega arith) (reaches s (letterOf bytes))
+
+  pub needed-within : neededFor s bytes ≤ reach (recordLen s (letterOf bytes))
+  needed-within = begun-is (λ k. reach k ≤ reach (recordLen s (letterOf bytes))) (reaches s (letterOf bytes)) (omega arith)
+
+  begun-most : orZero (begunLen s bytes) ≤ maxRecord
+  begun-most = begun-is (λ k. orZero k ≤ maxRecord) (omega arith) (record-most s (letterOf bytes))
+
+  pub needed-most : neededFor s bytes ≤ maxRecord
+  needed-most = reach-most (begunLen s bytes) begun-most
+
+  -- a length that is that record's
+  pub begun-measured : (r : ℕ) (k : Option ℕ) → begunLen s bytes ≡ k → r ≡ orZero k → (r ≡ orZero (begunLen s bytes)) × (r ≤ maxRecord)
+  begun-measured r k e z =
+      let is : r ≡ orZero (begunLen s bytes) = z ∙ ap orZero (sym e) in
+      (is, omega (arith, is, begun-most))
+
+  module _ (r : ℕ) (e : r ≡ orZero (begunLen s bytes)) where
+    pub needed-none : r ≡ 0 → (headLen ≡ neededFor s bytes) × (headLen ≤ maxRecord)
+    needed-none z = (sym (reach-none (begunLen s bytes) needed-least (sym e ∙ z)), omega arith)
+
+    pub needed-some : r ≢ 0 → (r ≡ neededFor s bytes) × (r ≤ maxRecord)
+    needed-some n =
+        let is : r ≡ neededFor s bytes = e ∙ sym (reach-some (begunLen s bytes) (λ z. n (e ∙ z))) in
+        (is, omega (arith, is, needed-most))
+
+  -- ---- Whether it can be read
+
+  pub begun-readable : readable s bytes ≡ isWhole bytes (begunLen s bytes)
   unfolding readable
-  marked-readable l e d = rw (eqb-same (getD bytes 0 0) 76 e, eqb-same (getD bytes 1 0) 84 d) (whole-is bytes (recordLen s (letterOf bytes)) l)
+  begun-readable =
+      by-le headLen (length bytes) (λ b. readable s bytes ≡ isWhole bytes (begunLen s bytes))
+      (λ h. by-bool (isMarked bytes) (λ e. rw (e, begun-marked h e)) (λ e. rw (e, begun-unmarked e)))
+      (λ h. rw (begun-short h, cut bytes (recordLen s (letterOf bytes)) (reaches s (letterOf bytes)) h) (never (isMarked bytes)))
+
+  module _ (r : ℕ) (e : r ≡ orZero (begunLen s bytes)) where
+    pub none-unreadable : r ≡ 0 → readable s bytes ≡ false
+    none-unreadable z = begun-readable ∙ not-whole bytes (begunLen s bytes) needed-least (sym e ∙ z)
+
+    pub some-readable : r ≢ 0 → readable s bytes ≡ eqb (length bytes) r
+    some-readable n = begun-readable ∙ whole-is bytes (begunLen s bytes) (λ z. n (e ∙ z)) ∙ ap (eqb (length bytes)) (sym e)
 
   pub readable-whole : readable s bytes ≡ true → isWhole bytes (recordLen s (letterOf bytes)) ≡ true
   unfolding readable

@@ -3,7 +3,7 @@ use mathlib.Core.Path.{_≡_, refl, sym, ap, subst, _∙_}
 use mathlib.Core.Bool.{Bool, true, false, cond, false≢true, true≢false}
 use mathlib.Core.List.{List, [], _∷_, _++_}
 use mathlib.Core.Option.{Option, none, some}
-use Prim.Native.Nat.{ℕ, zero, suc, _+_, _≤_, _<_}
+use Prim.Native.Nat.{ℕ, zero, suc, _+_, _-_, _≤_, _<_}
 use native.Mathlib.Omega.{arith}
 use borrow.Author.Tests.{ltb-true}
 use lib.Dec.{eqb, ltb}
@@ -105,7 +105,7 @@ module _ {s : Session} {input : List ℕ} where
 
 -- ---- They print what the definition says
 
-prints : (left : ℕ) (s : Session) (input : List ℕ) → s .count + left ≡ maxRecords → Steps s input (printedFrom left s input)
+prints : (left : ℕ) (s : Session) (input : List ℕ) → s .count + left ≡ maxRecords → Steps s input (printedFrom endLine left s input)
 unfolding printedFrom
 prints zero s input h = go (isEmpty input) (step-is s input false (leb-fails (suc (s .count)) maxRecords (omega arith)))
   where
@@ -121,7 +121,7 @@ prints (suc left) s input h =
     served = servedOf s input
 
     rest : List ℕ
-    rest = printedFrom left (served .next) (behind s input)
+    rest = printedFrom endLine left (served .next) (behind s input)
 
     go : (b r : Bool) → (r ≡ true → Goes s served) → (served .next .count ≡ suc (s .count) → Steps (served .next) (behind s input) rest)
         → stepOf s input ≡ cond b (ended s) (must r (stopped s) served)
@@ -140,3 +140,62 @@ same-out {s} {input} (step h r) (step g r′) = ap (λ (t : List ℕ). stepOf s 
 pub steps-print : StepsPrint
 unfolding printed
 steps-print input = (prints maxRecords atStart input refl, λ out r. same-out r (prints maxRecords atStart input refl))
+
+-- ---- What is printed, by the next step, whatever the last line is
+
+module _ (last : List ℕ) (s : Session) (input : List ℕ) where
+  -- what is left to print, by the records that the session has served
+  abbrev pub printedOn : List ℕ
+  printedOn = printedFrom last (maxRecords - s .count) s input
+
+module _ (last : List ℕ) where
+  printed-none : (left : ℕ) (s : Session) (input : List ℕ) → isEmpty input ≡ true → printedFrom last left s input ≡ last
+  unfolding printedFrom
+  printed-none zero s input e = rw e
+  printed-none (suc left) s input e = rw e
+
+  -- no bytes: the last line
+  pub printed-last : (s : Session) → printedOn last s [] ≡ last
+  printed-last s = printed-none (maxRecords - s .count) s [] refl
+
+  module _ (s : Session) (input : List ℕ) (more : isEmpty input ≡ false) where
+    -- a step that stops prints the last of its lines
+    stops-by : (left : ℕ) → s .count + left ≡ maxRecords → stepOf s input .stops ≡ true → printedFrom last left s input ≡ stepOf s input .line
+    unfolding printedFrom
+    stops-by zero h stop =
+        let e : stepOf s input ≡ stopped s = step-is s input false (leb-fails (suc (s .count)) maxRecords (omega arith)) ∙ rw more in
+        rw more (sym (ap (λ (o : Step). o .line) e))
+    stops-by (suc left) h stop =
+        go (readable s (nextRecord s input)) (λ r. readable-goes s (nextRecord s input) r) (step-is s input true (leb-holds (suc (s .count)) maxRecords (omega arith)) ∙ rw more)
+      where
+        go : (r : Bool) → (r ≡ true → Goes s (servedOf s input)) → stepOf s input ≡ must r (stopped s) (servedOf s input)
+            → cond (isEmpty input) last (must r stopLine (servedOf s input .line ++ printedFrom last left (servedOf s input .next) (behind s input))) ≡ stepOf s input .line
+        go true g e = absurd (true≢false (sym stop ∙ ap (λ (o : Step). o .stops) e ∙ g refl .goes))
+        go false g e = rw more (sym (ap (λ (o : Step). o .line) e))
+
+    goes-by : (left : ℕ) → s .count + left ≡ maxRecords → stepOf s input .stops ≡ false
+        → printedFrom last left s input ≡ stepOf s input .line ++ printedFrom last (left - 1) (stepOf s input .next) (behind s input)
+    unfolding printedFrom
+    goes-by zero h goes = absurd (omega (arith, step-counts s (nextRecord s input) goes .0))
+    goes-by (suc left) h goes =
+        go (readable s (nextRecord s input)) (step-is s input true (leb-holds (suc (s .count)) maxRecords (omega arith)) ∙ rw more)
+      where
+        one : suc left - 1 ≡ left
+        one = omega arith
+
+        go : (r : Bool) → stepOf s input ≡ must r (stopped s) (servedOf s input)
+            → cond (isEmpty input) last (must r stopLine (servedOf s input .line ++ printedFrom last left (servedOf s input .next) (behind s input)))
+            ≡ stepOf s input .line ++ printedFrom last (suc left - 1) (stepOf s input .next) (behind s input)
+        go true e = rw (more, e, one)
+        go false e = absurd (true≢false (sym (ap (λ (o : Step). o .stops) e) ∙ goes))
+
+    module _ (h : s .count ≤ maxRecords) where
+      pub printed-stops : stepOf s input .stops ≡ true → printedOn last s input ≡ stepOf s input .line
+      printed-stops stop = stops-by (maxRecords - s .count) (omega arith) stop
+
+      pub printed-goes : stepOf s input .stops ≡ false
+          → printedOn last s input ≡ stepOf s input .line ++ printedOn last (stepOf s input .next) (behind s input)
+      printed-goes goes =
+          let k : maxRecords - s .count - 1 ≡ maxRecords - stepOf s input .next .count = omega (arith, step-counts s (nextRecord s input) goes .1) in
+          goes-by (maxRecords - s .count) (omega arith) goes
+          ∙ ap (λ (n : ℕ). stepOf s input .line ++ printedFrom last n (stepOf s input .next) (behind s input)) k

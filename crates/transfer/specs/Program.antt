@@ -4,16 +4,29 @@ use mathlib.Core.Bool.{true, false, cond}
 use mathlib.Core.List.{List, _++_}
 use mathlib.Core.Option.{Option, none, some}
 use Prim.Native.Nat.{ℕ, zero, suc}
-use lib.ListN.{take, drop}
+use lib.Dec.{ltb}
+use lib.ListN.{length, take, drop}
 use Rattle.refusals.specs.Refusals.{must}
 use Rattle.transfer.specs.Session.{Session, atStart, maxRecords}
 use Rattle.transfer.specs.Lines.{stopLine, endLine}
-use Rattle.transfer.specs.Records.{headLen, letterOf, isEmpty, recordLen, readable, serveOut, stepOut}
+use Rattle.transfer.specs.Records.{headLen, isMarked, letterOf, isEmpty, recordLen, readable, serveOut, stepOut}
 
 -- how many bytes are read for a record: mark and letter alone, where no record has that letter
 abbrev pub reach : Option ℕ → ℕ
 reach none = headLen
 reach (some k) = k
+
+-- The length of the record that begins with these bytes: nothing where mark and letter are not there yet, at a wrong mark, and where no record has
+-- that letter.
+unfoldable pub begunLen : Session → List ℕ → Option ℕ
+begunLen s bytes =
+    cond (ltb (length bytes) headLen) none
+    (cond (isMarked bytes) (recordLen s (letterOf bytes))
+    none)
+
+-- how many bytes the next record takes, by what is there of it. A record is refused by its mark or letter alone, so that no more is waited for.
+abbrev pub neededFor : Session → List ℕ → ℕ
+neededFor s bytes = reach (begunLen s bytes)
 
 -- the next record of what is left of the input, and what is left behind it
 abbrev pub nextRecord : Session → List ℕ → List ℕ
@@ -23,19 +36,24 @@ abbrev pub behind : Session → List ℕ → List ℕ
 behind s input = drop (reach (recordLen s (letterOf input))) input
 
 -- What is printed for the input that is left, where so many records may still be served. "It prints one line a record .. A wrong mark, unknown
--- letter, cut record, W or R before an accepted S, or any record after the 4294967295th prints "stop 11" and ends; end of input prints "end"."
-unfoldable pub printedFrom : ℕ → Session → List ℕ → List ℕ
-printedFrom zero s input = cond (isEmpty input) endLine stopLine
-printedFrom (suc left) s input =
+-- letter, cut record, W or R before an accepted S, or any record after the 4294967295th prints "stop 11" and ends; end of input prints "end"." The
+-- last line is that of an input without any bytes.
+unfoldable pub printedFrom : List ℕ → ℕ → Session → List ℕ → List ℕ
+printedFrom last zero s input = cond (isEmpty input) last stopLine
+printedFrom last (suc left) s input =
     let bytes = nextRecord s input in
     let out = serveOut s (letterOf bytes) bytes in
-    let served = out .line ++ printedFrom left (out .next) (behind s input) in
-    cond (isEmpty input) endLine
+    let served = out .line ++ printedFrom last left (out .next) (behind s input) in
+    cond (isEmpty input) last
     (must (readable s bytes) stopLine
     served)
 
 unfoldable pub printed : List ℕ → List ℕ
-printed input = printedFrom maxRecords atStart input
+printed input = printedFrom endLine maxRecords atStart input
+
+-- .. where a read fails behind these bytes, so that the next record is unreadable: "stop 11" stands where "end" would
+unfoldable pub printedUnread : List ℕ → List ℕ
+printedUnread input = printedFrom stopLine maxRecords atStart input
 
 -- ---- The same by steps
 

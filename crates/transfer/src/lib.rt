@@ -1,6 +1,6 @@
 // The transfer program, record by record: a session by value, how long a record is, and the step of one record. Assumes nothing.
 ghost use mathlib.Core.Path.{_≡_};
-ghost use mathlib.Core.Bool.{false};
+ghost use mathlib.Core.Bool.{true, false};
 ghost use mathlib.Core.Option.{some};
 ghost use Prim.Native.Nat.{_+_, _*_, _≤_, _<_};
 ghost use lib.ListN.{length};
@@ -16,8 +16,9 @@ ghost use Rattle.params.specs.Given.{figuresOf, Fitting};
 ghost use Rattle.placements.specs.Bridge.{heldAs};
 ghost use Rattle.text.specs.Text.{overwrite};
 ghost use Rattle.transfer.specs.Session.{atStart, maxRecords, after as afterRecord};
-ghost use Rattle.transfer.specs.Lines.{maxLine};
+ghost use Rattle.transfer.specs.Lines.{stopLine, maxLine};
 ghost use Rattle.transfer.specs.Records.{headLen, twoBytes, writeLen, readLen, recordLen, maxRecord, readable, current as currentOf, letterOf, figuresIn, writeOut, readOut, serveOut, stepOut, stopped, ended, figuresStep, callStep, writeStep, readStep};
+ghost use Rattle.transfer.specs.Program.{begunLen, neededFor};
 ghost use Rattle.transfer.specs.Bridge.{lastFigures, sessionOf, Current, orZero, HasStarts, Ready, Shown, Laid, Whole};
 use jobs::JobTable;
 use params::Layout;
@@ -50,7 +51,7 @@ pub struct StepAnswer {
 }
 
 // Mark and letter: what is read of a record before its length is known.
-pub const HEAD_LEN: usize = 3;
+const HEAD_LEN: usize = 3;
 
 const FIGURES_LEN: usize = 6;
 
@@ -123,6 +124,16 @@ pub fn step(session: Session, received: &[u8], line: &mut [u8; Session::MAX_LINE
     ensures stops { λ r. ⌜ r .stops ≡ stepOut (sessionOf session) (now (received .entry)) .stops ⌝ }
 {
     step_on(session, received, line)
+}
+
+// What can't be read at all, where a read failed: prints "stop 11" and ends.
+pub fn unreadable(session: Session, line: &mut [u8; Session::MAX_LINE]) -> StepAnswer
+    ensures next { λ r. ⌜ sessionOf (r .next) ≡ sessionOf session ⌝ }
+    ensures line { λ _. ⌜ now (line .exit) ≡ overwrite 0 stopLine (now (line .entry)) ⌝ }
+    ensures len { λ r. ⌜ r .len ≡ length stopLine ⌝ }
+    ensures stops { λ r. ⌜ r .stops ≡ true ⌝ }
+{
+    stop(session, line)
 }
 
 // The same with a line that has room for any.
@@ -324,7 +335,7 @@ fn read_payload(
 }
 
 // How many bytes a record with this letter has, mark and letter included; 0 for an unknown letter and for W or R before an accepted S.
-pub fn record_len(session: Session, letter: u8) -> usize
+fn record_len(session: Session, letter: u8) -> usize
     ensures len { λ r. ⌜ r ≡ orZero (recordLen (sessionOf session) letter) ⌝ }
     ensures most { λ r. ⌜ r ≤ maxRecord ⌝ }
 {
@@ -372,20 +383,44 @@ fn current(figures: LastFigures) -> LayoutAnswer
     }
 }
 
+// How many bytes the next record takes, by those that are there: mark and letter until they are there, and also where no record begins with them.
+pub fn needed(session: Session, waiting: &[u8]) -> usize
+    ensures bytes { λ r. ⌜ r ≡ neededFor (sessionOf session) (now (waiting .entry)) ⌝ }
+    ensures most { λ r. ⌜ r ≤ maxRecord ⌝ }
+{
+    let len = begun_len(session, waiting);
+    if len == 0 {
+        return HEAD_LEN;
+    }
+    len
+}
+
 // Whether a record has the mark, a known letter, and its letter's length.
 fn is_readable(session: Session, received: &[u8]) -> bool
     ensures { λ r. ⌜ r ≡ readable (sessionOf session) (now (received .entry)) ⌝ }
 {
-    if received.len() < HEAD_LEN {
+    let len = begun_len(session, received);
+    if len == 0 {
         return false;
+    }
+    received.len() == len
+}
+
+// How many bytes the record has that begins with these; 0 where mark and letter are not there yet, and where no record begins with them.
+fn begun_len(session: Session, received: &[u8]) -> usize
+    ensures len { λ r. ⌜ r ≡ orZero (begunLen (sessionOf session) (now (received .entry))) ⌝ }
+    ensures most { λ r. ⌜ r ≤ maxRecord ⌝ }
+{
+    if received.len() < HEAD_LEN {
+        return 0;
     }
     if received[0] != b'L' {
-        return false;
+        return 0;
     }
     if received[1] != b'T' {
-        return false;
+        return 0;
     }
-    received.len() == record_len(session, received[2])
+    record_len(session, received[2])
 }
 
 // The figures of an S record.

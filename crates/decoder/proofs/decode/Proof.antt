@@ -7,7 +7,6 @@ use Rattle.params.specs.Bridge.{given}
 use Rattle.params.specs.Given.{figuresOf, Fitting}
 use Rattle.params.proofs.Answered.{refused-learnt}
 use Rattle.params.proofs.Fitting.{layout-fits}
-use Rattle.decoder.specs.Answer.{decodedAs}
 use Rattle.decoder.proofs.Calls.{decode-unfit}
 use Rattle.decoder.proofs.DemandTwo.{by-outcome}
 use Rattle.decoder.proofs.decode.Statement.{statement}
@@ -39,7 +38,7 @@ returns c =
     let s = c .before .before .before .before .before .before .before in
     let number = c .before .before .answer .given in
     let out = s .args .message .now in
-    by-outcome (given (s .args .figures)) (s .args .word .now) out (decodedAs (c .unread .result) out)
+    by-outcome (given (s .args .figures)) (s .args .word .now) out (c .unread .result) out
     (c .unread .ensures out ∙ sym (decode-unfit (given (s .args .figures)) (s .args .word .now) out (number .0 .0) (refused-learnt (given (s .args .figures)) (c .before .before .before .before .figures .result) (number .0 .0) (number .1) (c .before .before .before .before .figures .ensures .0))))
 
 same-length : tie.Need-same-length
@@ -52,7 +51,7 @@ returns-2 c =
     let w = s .args .word .now in
     let out = s .args .message .now in
     let call = c .before .before .decode-fitting in
-    by-outcome f w out (decodedAs (call .result) (call .last .1 .1 .0)) (call .ensures ∙ ap (λ (g : Params). decodeOut g w out) (learnt (c .before .before .before .before .before) .0))
+    by-outcome f w out (call .result) (call .last .1 .1 .0) (call .ensures ∙ ap (λ (g : Params). decodeOut g w out) (learnt (c .before .before .before .before .before) .0))
 
 pub decode-spec : {M : Type 1} → statement M
 decode-spec =

@@ -1,10 +1,42 @@
--- `burgzemi_decode` meets its contract, which is that of the function that it calls. Assumes nothing.
+-- `burgzemi_decode` meets its contract: 1, 2, or what figures that fit give. Assumes nothing.
+use mathlib.Core.Path.{_≡_, sym, ap, _∙_}
 use borrow.Author.Needs.{needs}
+use Rattle.construction_a.specs.Figures.{Params, params}
+use Rattle.params.specs.Given.{figuresOf, Fitting}
+use Rattle.params.proofs.Answered.{refused-learnt}
+use Rattle.params.proofs.Fitting.{layout-fits}
+use Rattle.decoder.specs.Exported.{exportedOut}
+use Rattle.decoder.proofs.Bytes.{exported-unfit}
 use Rattle.exports.proofs.burgzemi_decode.Statement.{statement}
 use Rattle.exports.proofs.burgzemi_decode.Tie as tie
 
-burgzemi-decode-requires : tie.Need-burgzemi-decode-requires
-burgzemi-decode-requires c κs = search needs
+abbrev f : tie.Start → Params
+f s = params (s .args .n) (s .args .q) (s .args .m) (s .args .b)
+
+-- the layout that was answered
+learnt : (c : tie.After-answer2) → (figuresOf (c .answer2 .given .0 .0) ≡ f (c .before .before .before .before .before .before)) × Fitting (c .answer2 .given .0 .0)
+learnt c =
+    let r = c .before .before .figures in
+    layout-fits (f (c .before .before .before .before .before .before)) (r .result) (c .answer2 .given .0 .0) (c .answer2 .given .1) (r .ensures .0) (r .ensures .1)
+
+figures-requires : tie.Need-figures-requires
+figures-requires c κs = search needs
+
+enum-known-answer : tie.Need-enum-known-answer
+enum-known-answer c = search needs
+
+enum-known-answer-2 : tie.Need-enum-known-answer-2
+enum-known-answer-2 c = search needs
+
+decode-bytes-requires : tie.Need-decode-bytes-requires
+decode-bytes-requires c κs = learnt (c .before .before .before) .1
+
+returns : tie.Need-returns
+returns c =
+    let s = c .before .before .before .before .before .before .before in
+    let told = c .before .answer .given in
+    let r = c .before .before .before .figures in
+    sym (exported-unfit (f s) (s .args .word .now) (s .args .message .now) (s .args .starts .now) (told .0 .0) (refused-learnt (f s) (r .result) (told .0 .0) (told .1) (r .ensures .0)))
 
 same-length : tie.Need-same-length
 same-length c = search needs
@@ -12,8 +44,20 @@ same-length c = search needs
 same-length-2 : tie.Need-same-length-2
 same-length-2 c = search needs
 
-returns : tie.Need-returns
-returns c = c .before .before .before .before .burgzemi-decode .ensures
+returns-2 : tie.Need-returns-2
+returns-2 c =
+    let s = c .before .before .before .before .before .before .before .before .before .before .before .before .before .before in
+    c .before .before .before .before .decode-bytes .ensures ∙ ap (λ (g : Params). exportedOut g (s .args .word .now) (s .args .message .now) (s .args .starts .now)) (learnt (c .before .before .before .before .before .before .before .before) .0)
 
 pub burgzemi-decode-spec : {M : Type 1} → statement M
-burgzemi-decode-spec = tie.close (tie.spec burgzemi-decode-requires same-length same-length-2 returns)
+burgzemi-decode-spec =
+    tie.close
+    (tie.spec
+    figures-requires
+    enum-known-answer
+    enum-known-answer-2
+    decode-bytes-requires
+    returns
+    same-length
+    same-length-2
+    returns-2)

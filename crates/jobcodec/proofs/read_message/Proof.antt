@@ -15,9 +15,8 @@ use Rattle.jobs.specs.Slots.{entries}
 use Rattle.payloads.proofs.Payload.{carries-five}
 use Rattle.decoder.specs.declared.Decoded.{Decoded as Answered}
 use Rattle.decoder.specs.declared.WordAnswer.{WordAnswer}
-use Rattle.decoder.specs.Answer.{answerAs, decodedAs}
+use Rattle.decoder.specs.Answer.{answerAs, wordNumber, decodedAs}
 use Rattle.jobcodec.specs.JobRead.{withhold, jobIn, jobReadOut}
-use Rattle.jobcodec.specs.Given.{refusalIn}
 use Rattle.jobcodec.proofs.Outcomes.{jobAfter, read-decodes}
 use Rattle.jobcodec.proofs.read_message.Statement.{statement}
 use Rattle.jobcodec.proofs.read_message.Tie as tie
@@ -54,7 +53,7 @@ returns c =
     let s = c .before .before .before .before .before .before .before .before .before .before in
     let told = c .before .enum-told2 .given in
     let d = c .before .before .before .before .before .decode in
-    ap (withhold (s .args .payload .now)) (c .refused-with .ensures ∙ ap refusalIn (told .1)) ∙ sym (decoded s (d .result) (d .last .1 .1 .0) _ (told .1) (d .ensures .0))
+    ap (withhold (s .args .payload .now)) (c .refused-with .ensures ∙ ap wordNumber (told .1)) ∙ sym (decoded s (d .result) (d .last .1 .1 .0) _ (told .1) (d .ensures .0))
 
 cast-hand-out : tie.Need-cast-hand-out
 cast-hand-out c = search needs

@@ -55,7 +55,9 @@ slice-write-bytes : tie.Need-slice-write-bytes Inv-loop μ-loop
 slice-write-bytes c = omega (arith, c .before .before .loop .inv .1)
 
 cast-bytes-2 : tie.Need-cast-bytes-2 Inv-loop μ-loop
-cast-bytes-2 c = search needs
+cast-bytes-2 c =
+    let h : Fits w16 (getD (c .before .before .before .args .t1 .starts) (c .before .before .loop .j) 0) = search needs in
+    omega arith
 
 mul-bytes-2 : tie.Need-mul-bytes-2 Inv-loop μ-loop
 mul-bytes-2 c = search needs

@@ -1,13 +1,15 @@
 -- `Params::figures` meets its contract: the refusals in their order, then the layout. Assumes nothing.
-use mathlib.Core.Path.{_≡_, sym, _∙_}
+use mathlib.Core.Path.{_≡_, sym, ap, _∙_}
 use mathlib.Core.Bool.{true}
 use native.Mathlib.Nat.{mul-le-mul-right}
 use native.Mathlib.Omega.{arith}
 use borrow.Author.Needs.{needs}
 use borrow.Author.Tests.{not-true, not-false}
 use Rattle.construction_a.specs.Figures.{Params, params, inRange}
+use Rattle.construction_a.specs.Outcomes.{figuresNumber}
 use Rattle.construction_a.proofs.Figures.{ranged, unfitting}
 use Rattle.construction_a.proofs.Outcomes.{figures-invalid, figures-unfit}
+use Rattle.params.proofs.Answered.{number-is}
 use Rattle.params.proofs.Params.figures.Statement.{statement}
 use Rattle.params.proofs.Params.figures.Tie as tie
 
@@ -18,7 +20,9 @@ in-range-requires : tie.Need-in-range-requires
 in-range-requires c κs = search needs
 
 returns : tie.Need-returns
-returns c = (sym (figures-invalid (figures (c .before .before)) (sym (c .before .in-range .ensures) ∙ not-true (c .before .in-range .result) (c .if1 .taken))), tt)
+returns c =
+    let e = figures-invalid (figures (c .before .before)) (sym (c .before .in-range .ensures) ∙ not-true (c .before .in-range .result) (c .if1 .taken)) in
+    (sym e, (tt, sym (ap figuresNumber e)))
 
 in-range : (s : tie.Else1) → inRange (figures (s .before .before)) ≡ true
 in-range s = sym (s .before .in-range .ensures) ∙ not-false (s .before .in-range .result) (s .if1 .left)
@@ -32,13 +36,16 @@ returns-2 : tie.Need-returns-2
 returns-2 c =
     let f = figures (c .before .before .before) in
     let i = in-range (c .before) in
-    (sym (figures-unfit f i (unfitting f i (λ ok. omega (arith, ok .total, c .if2 .taken)))), tt)
+    let e = figures-unfit f i (unfitting f i (λ ok. omega (arith, ok .total, c .if2 .taken))) in
+    (sym e, (tt, sym (ap figuresNumber e)))
 
 laid-out-requires : tie.Need-laid-out-requires
 laid-out-requires c κs = (in-range (c .before), c .if2 .left)
 
 returns-3 : tie.Need-returns-3
-returns-3 c = search needs
+returns-3 c =
+    let told = c .laid-out .ensures in
+    (told .0, (told .1, number-is (figures (c .before .before .before .before)) (c .laid-out .result) (told .0)))
 
 pub figures-spec : {M : Type 1} → statement M
 figures-spec = tie.close (tie.spec in-range-requires returns mul-if2 returns-2 laid-out-requires returns-3)

@@ -1,0 +1,222 @@
+-- Demand 3 holds of calls on a table in bytes, and of a session of the transfer program. Assumes nothing.
+use mathlib.Core.Path.{_≡_, refl, sym, ap, subst, _∙_}
+use mathlib.Core.Logic.{_≢_}
+use mathlib.Core.Bool.{Bool, true, false, _&&_, false≢true}
+use mathlib.Core.List.{List, [], _∷_, _++_}
+use mathlib.Core.Option.{Option, none, some}
+use Prim.Native.Nat.{ℕ, _+_, _≤_, _<_}
+use native.Mathlib.Omega.{arith}
+use lib.Dec.{eqb}
+use lib.ListN.{length, getD, drop, replicate}
+use Rattle.refusals.specs.Refusals.{served, invalid, unfit, wrongLength}
+use Rattle.combinatorics.specs.Lists.{all}
+use Rattle.combinatorics.proofs.Cases.{by-bool, by-eq, eqb-true, eqb-other}
+use Rattle.combinatorics.proofs.Lists.{both, all-append}
+use Rattle.cells.specs.Bytes.{payloadLen}
+use Rattle.construction_a.specs.Figures.{Params, inRange, fits, placementCount, indexTail, messageLen}
+use Rattle.construction_a.specs.Outcomes.{figured, figuresNumber, figuresOut}
+use Rattle.construction_a.proofs.Outcomes.{figures-invalid, figures-unfit, figures-served}
+use Rattle.jobs.specs.declared.Entry.{Entry}
+use Rattle.jobs.specs.Jobs.{Kind, finishing, Call, on, Status, unknown, opened, cancelled, needsOpen}
+use Rattle.jobs.specs.Replay.{kindOf, known, callBy, isLetter, callBefore}
+use Rattle.jobs.specs.Ledger.{status, verdict, enter, verdictsFrom, ledgerFrom}
+use Rattle.jobs.specs.Table.{emptyTable, answersFrom, tableFrom}
+use Rattle.payloads.specs.Payload.{jobNumber}
+use Rattle.jobcodec.specs.DemandThree.{ClaimA}
+use Rattle.jobcodec.specs.JobRead.{JobRead, jobReadOut}
+use Rattle.jobcodec.proofs.DemandThree.{follows-claim, demand-three}
+use Rattle.exports.specs.Follows.{callOn, answersOn, bytesAfter, emptyBytes, numbered}
+use Rattle.exports.specs.Jobs.{CallLent, called}
+use Rattle.exports.specs.Table.{tableLen, statesKnown, tableIn}
+use Rattle.exports.proofs.Follows.{bytes-follow}
+use Rattle.exports.proofs.JobLaws.{call-length, call-state, read-whole}
+use Rattle.transfer.specs.Session.{Session, atStart, maxRecords, after}
+use Rattle.transfer.specs.Lines.{refusalLine}
+use Rattle.transfer.specs.Records.{letterS, letterR, headLen, isMarked, letterOf, current, recordLen, readable, Step, figuresIn, figuresStep, callStep, readStep, readOut, stepOut}
+use Rattle.transfer.proofs.Serving.{step-serves, serve-S, serve-R, serve-call-is}
+use Rattle.demands.specs.DemandThree.{BytesClaimed, sessionAfter, linesOf, isCall, callsIn, answerLines, IsSession, SessionClaimed}
+
+-- ---- A program in C
+
+-- the bytes after the calls fit: one call more would be refused with 3 or 1 otherwise, and the ledger answers neither
+last-answer : (calls : List Call) (bytes : List ℕ) (h : List Call) (c : Call) → answersOn bytes (calls ++ (c ∷ [])) ≡ verdictsFrom h (calls ++ (c ∷ []))
+    → callOn (bytesAfter bytes calls) c .answer ≡ verdict (ledgerFrom h calls) c
+unfolding answersOn bytesAfter verdictsFrom ledgerFrom
+last-answer [] bytes h c e = ap (λ (l : List ℕ). getD l 0 0) e
+last-answer (d ∷ cs) bytes h c e = last-answer cs (callOn bytes d .table) (enter h d) c (ap (λ (l : List ℕ). drop 1 l) e)
+
+abbrev next : Call
+next = on finishing 0
+
+-- what the ledger answers a finishing with
+never-3 : (s : Status) → needsOpen s ≢ wrongLength
+never-3 unknown e = omega (arith, e)
+never-3 opened e = omega (arith, e)
+never-3 cancelled e = omega (arith, e)
+
+never-1 : (s : Status) → needsOpen s ≢ invalid
+never-1 unknown e = omega (arith, e)
+never-1 opened e = omega (arith, e)
+never-1 cancelled e = omega (arith, e)
+
+module _ (calls : List Call) (h : all numbered calls ≡ true) where
+  abbrev final : List ℕ
+  final = bytesAfter emptyBytes calls
+
+  next-answer : callOn final next .answer ≡ needsOpen (status (ledgerFrom [] calls) 0)
+  unfolding verdict all
+  next-answer = last-answer calls emptyBytes [] next (bytes-follow (calls ++ (next ∷ [])) (all-append numbered calls (next ∷ []) h refl) .judged)
+
+  refused-not : (a : ℕ) → callOn final next ≡ called a final → ((s : Status) → needsOpen s ≢ a) → ⊥
+  refused-not a e never = never (status (ledgerFrom [] calls) 0) (sym next-answer ∙ ap (λ (o : CallLent). o .answer) e)
+
+  size : length final ≡ tableLen
+  size = by-eq (length final) tableLen (λ _. length final ≡ tableLen) (λ e. e) (λ d. absurd (refused-not wrongLength (call-length final 70 0 d) never-3))
+
+  states : statesKnown final ≡ true
+  unfolding kindOf
+  states = by-bool (statesKnown final) (λ e. e) (λ e. absurd (refused-not invalid (call-state final 70 0 size refl e) never-1))
+
+pub bytes-claimed : BytesClaimed
+bytes-claimed f calls w out h =
+    let b = bytesAfter emptyBytes calls in
+    subst (λ (r : JobRead). ClaimA f calls w out (answersOn emptyBytes calls) r) (read-whole f b w out (size calls h) (states calls h))
+    (follows-claim f [] calls (answersOn emptyBytes calls) (tableIn b) w out (bytes-follow calls h))
+
+-- ---- A session of the transfer program
+
+-- a record of a known length is not empty
+some-bytes : (r : List ℕ) (len : ℕ) → eqb (length r) len ≡ true → 0 < len → length r ≢ 0
+some-bytes r len e h z = omega (arith, eqb-true (length r) len e, h, z)
+
+-- S, W and R are no calls
+not-S : (letter : ℕ) → isLetter letter ≡ true → letter ≢ letterS
+unfolding kindOf
+not-S letter l e = false≢true (rw e at l)
+
+-- the call of a letter, and those behind it
+module _ (es : List Entry) (n : ℕ) (cs : List Call) where
+  answers-before : (k : Option Kind) → known k ≡ true → answersFrom es (callBefore k n cs) ≡ callBy k es n .answer ∷ answersFrom (callBy k es n .table) cs
+  unfolding answersFrom
+  answers-before (some k) h = refl
+  answers-before none h = absurd (false≢true h)
+
+  table-before : (k : Option Kind) → known k ≡ true → tableFrom es (callBefore k n cs) ≡ tableFrom (callBy k es n .table) cs
+  unfolding tableFrom
+  table-before (some k) h = refl
+  table-before none h = absurd (false≢true h)
+
+-- a record that is marked, has a letter that passes, and is whole
+record Parts (r : List ℕ) (letter : Bool) (len : ℕ) : Type 0 where
+  marked : isMarked r ≡ true
+  lettered : letter ≡ true
+  whole : eqb (length r) len ≡ true
+
+parts : (r : List ℕ) (letter : Bool) (len : ℕ) → (isMarked r && letter && eqb (length r) len) ≡ true → Parts r letter len
+parts r letter len h =
+    let b = both (isMarked r && letter) (eqb (length r) len) h in
+    let a = both (isMarked r) letter (b .0) in
+    record { marked = a .0; lettered = a .1; whole = b .1 }
+
+one-made : (s : Session) (r : List ℕ) → isCall r ≡ true → s .count < maxRecords
+    → stepOut s r ≡ callStep s (letterOf r) (callBy (kindOf (letterOf r)) (s .table) (jobNumber (drop headLen r)))
+unfolding readable recordLen
+one-made s r h few =
+    let p = parts r (isLetter (letterOf r)) (headLen + 4) h in
+    let other = not-S (letterOf r) (p .lettered) in
+    step-serves s r (some-bytes r (headLen + 4) (p .whole) (omega arith)) few (rw (p .marked, eqb-other (letterOf r) letterS other, p .lettered, p .whole))
+    ∙ serve-call-is s (letterOf r) r other (p .lettered)
+
+record Made (s : Session) (rs : List (List ℕ)) : Type 0 where
+  lines : linesOf s rs ≡ answerLines rs (answersFrom (s .table) (callsIn rs))
+  figures : sessionAfter s rs .figures ≡ s .figures
+  table : sessionAfter s rs .table ≡ tableFrom (s .table) (callsIn rs)
+  count : sessionAfter s rs .count ≡ s .count + length rs
+
+all-made : (rs : List (List ℕ)) (s : Session) → all isCall rs ≡ true → s .count + length rs ≤ maxRecords → Made s rs
+unfolding all linesOf answerLines sessionAfter callsIn answersFrom tableFrom
+all-made [] s h few = record { lines = refl; figures = refl; table = refl; count = omega arith }
+all-made (r ∷ rs) s h few =
+    let b = both (isCall r) (all isCall rs) h in
+    let l = letterOf r in
+    let n = jobNumber (drop headLen r) in
+    let o = callBy (kindOf l) (s .table) n in
+    let e = one-made s r (b .0) (omega (arith, few)) in
+    let known-letter = parts r (isLetter l) (headLen + 4) (b .0) .lettered in
+    let m = all-made rs (after s (s .figures) (o .table)) (b .1) (omega (arith, few)) in
+    let to : sessionAfter s (r ∷ rs) ≡ sessionAfter (after s (s .figures) (o .table)) rs = ap (λ (o : Step). sessionAfter (o .next) rs) e in
+    record {
+      lines = rw (e, answers-before (s .table) n (callsIn rs) (kindOf l) known-letter) (ap {B = List (List ℕ)} (λ x. refusalLine l (o .answer) ∷ x) (m .lines));
+      figures = ap (λ (s : Session). s .figures) to ∙ m .figures;
+      table = ap (λ (s : Session). s .table) to ∙ m .table ∙ sym (table-before (s .table) n (callsIn rs) (kindOf l) known-letter);
+      count = ap (λ (s : Session). s .count) to ∙ m .count ∙ omega arith;
+    }
+
+-- an S that is accepted
+module _ (f : Params) where
+  accepted-fits : figuresNumber (figuresOut f) ≡ served → (inRange f ≡ true) × (fits f ≡ true)
+  accepted-fits e =
+      by-bool (inRange f)
+      (λ i. by-bool (fits f) (λ d. (i, d)) (λ d. absurd (let x : unfit ≡ served = sym (ap figuresNumber (figures-unfit f i d)) ∙ e in omega (arith, x))))
+      (λ i. absurd (let x : invalid ≡ served = sym (ap figuresNumber (figures-invalid f i)) ∙ e in omega (arith, x)))
+
+  figures-are : figuresNumber (figuresOut f) ≡ served → figuresOut f ≡ figured (placementCount f) (indexTail f) (messageLen f)
+  figures-are e = let b = accepted-fits e in figures-served f (b .0) (b .1)
+
+module _ (figures reading : List ℕ) (calls : List (List ℕ)) (h : IsSession figures calls reading) where
+  abbrev f : Params
+  f = figuresIn figures
+
+  abbrev begun : Session
+  begun = stepOut atStart figures .next
+
+  is-begun : begun ≡ after atStart (some f) emptyTable
+  unfolding readable recordLen
+  is-begun =
+      let p = parts figures (eqb (letterOf figures) letterS) (headLen + 6) (h .is-S) in
+      let s = eqb-true (letterOf figures) letterS (p .lettered) in
+      let e = step-serves atStart figures (some-bytes figures (headLen + 6) (p .whole) (omega arith)) (omega arith) (rw (p .marked, p .lettered, p .whole))
+      ∙ serve-S atStart (letterOf figures) figures s
+      ∙ ap (figuresStep atStart f) (figures-are f (h .accepted)) in
+      ap (λ (o : Step). o .next) e
+
+  abbrev ended : Session
+  ended = sessionAfter begun calls
+
+  made : Made begun calls
+  made = all-made calls begun (h .are-calls) (rw is-begun (omega (arith, h .few)))
+
+  figures-held : current (ended .figures) ≡ some f
+  figures-held = rw (made .figures, is-begun, figures-are f (h .accepted))
+
+  abbrev buffer : List ℕ
+  buffer = replicate (payloadLen (f .q) (messageLen f)) 0
+
+  read-last : stepOut ended reading ≡ readStep ended (jobReadOut f (tableFrom emptyTable (callsIn calls)) (drop headLen reading) buffer)
+  unfolding readable recordLen kindOf
+  read-last =
+      let p = parts reading (eqb (letterOf reading) letterR) (headLen + f .n) (h .is-R) in
+      let s = eqb-true (letterOf reading) letterR (p .lettered) in
+      step-serves ended reading (some-bytes reading (headLen + f .n) (p .whole) (omega arith)) (rw (made .count, is-begun) (omega (arith, h .few)))
+      (rw (p .marked, s, figures-held, p .whole))
+      ∙ serve-R ended (letterOf reading) reading s
+      ∙ ap (readOut ended reading) figures-held
+      ∙ ap (λ (es : List Entry). readStep ended (jobReadOut f es (drop headLen reading) buffer))
+      (made .table ∙ ap (λ (s : Session). tableFrom (s .table) (callsIn calls)) is-begun)
+
+  lines-are : linesOf begun calls ≡ answerLines calls (answersFrom emptyTable (callsIn calls))
+  lines-are = made .lines ∙ ap (λ (s : Session). answerLines calls (answersFrom (s .table) (callsIn calls))) is-begun
+
+pub session-claimed : SessionClaimed
+session-claimed figures calls reading h =
+    let cs = callsIn calls in
+    let g = figuresIn figures in
+    let out : List ℕ = replicate (payloadLen (g .q) (messageLen g)) 0 in (
+      answersFrom emptyTable cs,
+      jobReadOut g (tableFrom emptyTable cs) (drop headLen reading) out,
+      record {
+        claim = demand-three g cs (drop headLen reading) out;
+        answered = lines-are figures reading calls h;
+        printed = read-last figures reading calls h;
+      },
+    )

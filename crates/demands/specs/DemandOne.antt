@@ -1,0 +1,101 @@
+-- Demand 1, of the outcome of every entry point and for every input: the answer is 0 or a listed number, and where it is not 0 nothing has changed. That
+-- each call ends and touches lent memory alone is what a proved function has; that its answer and lent memory are these outcomes is its contract. The
+-- proof is `demand-one` of proofs/DemandOne.antt. The lengths for other languages refuse nothing and have no field. Assumes nothing.
+use mathlib.Core.Path.{_≡_}
+use mathlib.Core.Logic.{_≢_}
+use mathlib.Core.Bool.{true}
+use mathlib.Core.List.{List, [], _∷_}
+use mathlib.Core.Option.{Option}
+use Prim.Native.Nat.{ℕ}
+use lib.Dec.{eqb}
+use Rattle.refusals.specs.Refusals.{served}
+use Rattle.combinatorics.specs.Lists.{all, any}
+use Rattle.construction_a.specs.Figures.{Params, inRange, fits}
+use Rattle.construction_a.specs.Ranking.{CoversLeast}
+use Rattle.construction_a.specs.Outcomes.{Held, held, figuresNumber, figuresOut, encodeOut, worn, coverOut, answerNumber, decodeOut}
+use Rattle.construction_a.specs.DemandTwo.{DemandTwo}
+use Rattle.jobs.specs.declared.Entry.{Entry}
+use Rattle.jobs.specs.Jobs.{Kind, opening, cancelling, finishing}
+use Rattle.jobs.specs.Replay.{kindOf, callBy, replayOut}
+use Rattle.jobs.specs.Simulation.{Simulation}
+use Rattle.jobs.specs.Table.{emptyTable, openOut, cancelOut, finishOut}
+use Rattle.decoder.specs.Exported.{exportedOut}
+use Rattle.jobcodec.specs.DemandThree.{isRefusal}
+use Rattle.jobcodec.specs.JobWrite.{jobWriteOut}
+use Rattle.jobcodec.specs.JobRead.{jobReadOut}
+use Rattle.jobcodec.specs.ListRead.{ListSaid, listRefused, jobAnswer, ListOut, listOut}
+use Rattle.exports.specs.Words.{encodeBytesOut, coverBytesOut}
+use Rattle.exports.specs.Jobs.{callBytesOut, jobWriteBytesOut, jobReadBytesOut}
+use Rattle.transfer.specs.Session.{Session, after}
+use Rattle.transfer.specs.Lines.{refusalLine, servedLine}
+use Rattle.transfer.specs.Records.{letterOf, Step, stopped, ended, goesOn, stepOut}
+use Rattle.demands.specs.Orders.{figuresAlone, wordWrite, covering, wordRead, jobWrite, jobRead, call, callByLetter, callOnBytes, listOfCalls}
+
+-- A call whose order is given answers a; what was lent is then `left`.
+pub record AnswersBy {A : Type 0} (order : List ℕ) (a : ℕ) (lent left : A) : Type 0 where
+  -- the order has numbers of document 01's two lists
+  pub numbers : all isRefusal order ≡ true
+  -- 0, or a number of the order
+  pub answer : any (eqb a) (served ∷ order) ≡ true
+  -- "Every refusal returns its number only; output buffers and book keep their contents."
+  pub keeps : a ≢ served → left ≡ lent
+
+-- A list of calls and the job reading after it: a list that is refused leaves both buffers; a reading that is refused leaves its own, and the calls
+-- were made.
+abbrev pub ListAnswers : ListSaid → List ℕ → List ℕ → ListOut → Type 0
+ListAnswers (listRefused a) answers out o = AnswersBy {A = List ℕ × List ℕ} listOfCalls a (answers, out) (o .answers, o .payload)
+ListAnswers (jobAnswer a) answers out o = AnswersBy jobRead a out (o .payload)
+
+-- A step of the transfer program answers by its line: "the letter, 0 or the refusal". A refused record changes neither figures nor table; only the count
+-- of records goes on.
+pub data StepAnswers (s : Session) (letter : ℕ) : Step → Type 0 where
+  -- "end of input prints "end""
+  at-end : StepAnswers s letter (ended s)
+  -- "prints "stop 11" and ends"
+  stops : StepAnswers s letter (stopped s)
+  refuses : (a : ℕ) → isRefusal a ≡ true → StepAnswers s letter (goesOn (after s (s .figures) (s .table)) (refusalLine letter a))
+  serves : (f : Option Params) (es : List Entry) (fields : List (List ℕ)) → StepAnswers s letter (goesOn (after s f es) (servedLine letter fields))
+
+pub record DemandOne : Type 0 where
+  -- ---- Words. Nothing is lent to "figures alone"; a refused covering or reading has no start beside it.
+  pub figures-alone : (f : Params) → AnswersBy {A = Unit {0}} figuresAlone (figuresNumber (figuresOut f)) tt tt
+  pub word-write : (f : Params) (at : Held) (ms out : List ℕ) → AnswersBy wordWrite (encodeOut f at ms out .answer) out (encodeOut f at ms out .word)
+  pub cover : (f : Params) (map : List ℕ) → AnswersBy covering (coverOut f map .answer) (held []) (coverOut f map .placement)
+  pub word-read : (f : Params) (w out : List ℕ)
+      → AnswersBy {A = Held × List ℕ} wordRead (answerNumber (decodeOut f w out .answer)) (held [], out)
+      (decodeOut f w out .placement, decodeOut f w out .message)
+  -- ---- The job table
+  pub open-job : (es : List Entry) (n : ℕ) → AnswersBy (call opening) (openOut es n .answer) es (openOut es n .table)
+  pub cancel-job : (es : List Entry) (n : ℕ) → AnswersBy (call cancelling) (cancelOut es n .answer) es (cancelOut es n .table)
+  pub finish-job : (es : List Entry) (n : ℕ) → AnswersBy (call finishing) (finishOut es n .answer) es (finishOut es n .table)
+  pub call-by : (k : Option Kind) (es : List Entry) (n : ℕ) → AnswersBy (callByLetter k) (callBy k es n .answer) es (callBy k es n .table)
+  -- from the empty table
+  pub replay : (letters numbers answers : List ℕ)
+      → AnswersBy {A = List Entry × List ℕ} listOfCalls (replayOut letters numbers answers .answer) (emptyTable, answers)
+      (replayOut letters numbers answers .table, replayOut letters numbers answers .answers)
+  -- ---- Jobs
+  pub job-write : (f : Params) (es : List Entry) (at : Held) (payload out : List ℕ)
+      → AnswersBy jobWrite (jobWriteOut f es at payload out .answer) out (jobWriteOut f es at payload out .word)
+  pub job-read : (f : Params) (es : List Entry) (w out : List ℕ) → AnswersBy jobRead (jobReadOut f es w out .answer) out (jobReadOut f es w out .payload)
+  pub list-and-read : (f : Params) (letters numbers answers w out : List ℕ)
+      → ListAnswers (listOut f letters numbers answers w out .answer) answers out (listOut f letters numbers answers w out)
+  -- ---- For other languages
+  pub word-read-bytes : (f : Params) (w out starts : List ℕ)
+      → AnswersBy {A = List ℕ × List ℕ} wordRead (exportedOut f w out starts .answer) (out, starts)
+      (exportedOut f w out starts .message, exportedOut f w out starts .starts)
+  pub word-write-bytes : (f : Params) (starts ms out : List ℕ)
+      → AnswersBy wordWrite (encodeBytesOut f starts ms out .answer) out (encodeBytesOut f starts ms out .word)
+  pub cover-bytes : (f : Params) (map starts : List ℕ) → AnswersBy covering (coverBytesOut f map starts .answer) starts (coverBytesOut f map starts .starts)
+  pub call-bytes : (table : List ℕ) (letter number : ℕ)
+      → AnswersBy (callOnBytes (kindOf letter)) (callBytesOut table letter number .answer) table (callBytesOut table letter number .table)
+  pub job-write-bytes : (f : Params) (table starts payload out : List ℕ)
+      → AnswersBy jobWrite (jobWriteBytesOut f table starts payload out .answer) out (jobWriteBytesOut f table starts payload out .word)
+  pub job-read-bytes : (f : Params) (table w out : List ℕ)
+      → AnswersBy jobRead (jobReadBytesOut f table w out .answer) out (jobReadBytesOut f table w out .payload)
+  -- ---- The transfer program
+  pub step : (s : Session) (bytes : List ℕ) → StepAnswers s (letterOf bytes) (stepOut s bytes)
+  -- ---- "Each number comes under its condition and under no other": those of the table as the ledger has them, 6 where no placement covers the map,
+  -- and 7, 8 and 9 as the found word has them. The others' conditions are the tests in the outcomes themselves.
+  pub table-conditions : Simulation
+  pub cover-conditions : (f : Params) → inRange f ≡ true → fits f ≡ true → (map : List ℕ) → CoversLeast f (worn map)
+  pub read-conditions : DemandTwo

@@ -1,0 +1,82 @@
+-- Demand 3 in the terms of those who call: a program in C, and whoever sends records to the transfer program. The claim is that of
+-- jobcodec/specs/DemandThree. The proofs are `bytes-claimed` and `session-claimed` of proofs/DemandThree.antt. Assumes nothing.
+use mathlib.Core.Path.{_≡_}
+use mathlib.Core.Bool.{Bool, true, _&&_}
+use mathlib.Core.List.{List, [], _∷_}
+use Prim.Native.Nat.{ℕ, _+_, _≤_}
+use lib.Dec.{eqb}
+use lib.ListN.{length, drop, replicate}
+use Rattle.refusals.specs.Refusals.{served}
+use Rattle.combinatorics.specs.Lists.{all}
+use Rattle.cells.specs.Bytes.{payloadLen}
+use Rattle.construction_a.specs.Figures.{Params, messageLen}
+use Rattle.construction_a.specs.Outcomes.{figuresNumber, figuresOut}
+use Rattle.jobs.specs.Jobs.{Call}
+use Rattle.jobs.specs.Replay.{kindOf, isLetter, callBefore}
+use Rattle.payloads.specs.Payload.{jobNumber}
+use Rattle.jobcodec.specs.DemandThree.{ClaimA}
+use Rattle.jobcodec.specs.JobRead.{JobRead}
+use Rattle.exports.specs.Follows.{answersOn, bytesAfter, emptyBytes, numbered}
+use Rattle.exports.specs.Jobs.{jobReadBytesOut}
+use Rattle.transfer.specs.Lines.{refusalLine}
+use Rattle.transfer.specs.Records.{letterS, letterR, headLen, isMarked, letterOf, figuresIn, readStep, stepOut}
+use Rattle.transfer.specs.Session.{Session, atStart, maxRecords}
+
+-- ---- A program in C
+
+-- Any list of `burgzemi_call` on 320 bytes of 0, each on the bytes that the one before left, then `burgzemi_job_read` on the last ones: the claim of the
+-- answers, and of what the reading answers and leaves in the lent payload.
+abbrev pub BytesClaimed : Type 0
+BytesClaimed =
+    (f : Params) (calls : List Call) (w out : List ℕ) → all numbered calls ≡ true
+    → ClaimA f calls w out (answersOn emptyBytes calls) (jobReadBytesOut f (bytesAfter emptyBytes calls) w out)
+
+-- ---- A session of the transfer program: an S, any O, C and F, then an R
+
+-- the steps of records, one after the other: the session after them, and the lines
+unfoldable pub sessionAfter : Session → List (List ℕ) → Session
+sessionAfter s [] = s
+sessionAfter s (r ∷ rs) = sessionAfter (stepOut s r .next) rs
+
+unfoldable pub linesOf : Session → List (List ℕ) → List (List ℕ)
+linesOf s [] = []
+linesOf s (r ∷ rs) = stepOut s r .line ∷ linesOf (stepOut s r .next) rs
+
+-- a record with this letter and so many bytes
+abbrev pub isRecord : ℕ → ℕ → List ℕ → Bool
+isRecord letter len r = isMarked r && eqb (letterOf r) letter && eqb (length r) len
+
+-- "O (open), C (cancel), F (finish) a job number (4)"
+abbrev pub isCall : List ℕ → Bool
+isCall r = isMarked r && isLetter (letterOf r) && eqb (length r) (headLen + 4)
+
+-- the calls that they are
+unfoldable pub callsIn : List (List ℕ) → List Call
+callsIn [] = []
+callsIn (r ∷ rs) = callBefore (kindOf (letterOf r)) (jobNumber (drop headLen r)) (callsIn rs)
+
+pub record IsSession (figures : List ℕ) (calls : List (List ℕ)) (reading : List ℕ) : Type 0 where
+  pub is-S : isRecord letterS (headLen + 6) figures ≡ true
+  -- "an accepted S"
+  pub accepted : figuresNumber (figuresOut (figuresIn figures)) ≡ served
+  pub are-calls : all isCall calls ≡ true
+  pub is-R : isRecord letterR (headLen + figuresIn figures .n) reading ≡ true
+  -- not "any record after the 4294967295th"
+  pub few : length calls + 2 ≤ maxRecords
+
+-- "It prints one line a record .. the letter, 0 or the refusal"
+unfoldable pub answerLines : List (List ℕ) → List ℕ → List (List ℕ)
+answerLines [] answers = []
+answerLines (r ∷ rs) [] = []
+answerLines (r ∷ rs) (a ∷ answers) = refusalLine (letterOf r) a ∷ answerLines rs answers
+
+-- what is printed are the lines of answers and of a job reading that the claim is true of; the payload's buffer is the program's own and holds 0
+pub record SessionClaim (figures : List ℕ) (calls : List (List ℕ)) (reading answers : List ℕ) (r : JobRead) : Type 0 where
+  pub claim : let f = figuresIn figures in ClaimA f (callsIn calls) (drop headLen reading) (replicate (payloadLen (f .q) (messageLen f)) 0) answers r
+  pub answered : linesOf (stepOut atStart figures .next) calls ≡ answerLines calls answers
+  pub printed : let s = sessionAfter (stepOut atStart figures .next) calls in stepOut s reading ≡ readStep s r
+
+abbrev pub SessionClaimed : Type 0
+SessionClaimed =
+    (figures : List ℕ) (calls : List (List ℕ)) (reading : List ℕ) → IsSession figures calls reading
+    → (answers : List ℕ) × (r : JobRead) × SessionClaim figures calls reading answers r

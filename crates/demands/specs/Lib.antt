@@ -1,0 +1,3 @@
+pub mod Orders
+pub mod DemandOne
+pub mod DemandThree

@@ -1,0 +1,49 @@
+-- "Orders: ..": the numbers that each call can refuse with, in document 01's order. Where lent bytes add a refusal, it stands at its place. Assumes nothing.
+use mathlib.Core.List.{List, [], _∷_}
+use mathlib.Core.Option.{Option, none, some}
+use Prim.Native.Nat.{ℕ}
+use Rattle.refusals.specs.Refusals.{invalid, unfit, wrongLength, badSymbol, badStarts, uncovered, noPattern, valueTooLarge, disagrees, badPayload, badRecord, jobCancelled, alreadyOpen, notOpen, tableFull}
+use Rattle.jobs.specs.Jobs.{Kind, opening, cancelling, finishing}
+
+-- "figures alone 1 2"
+abbrev pub figuresAlone : List ℕ
+figuresAlone = invalid ∷ unfit ∷ []
+
+-- "word write 1 2 3 5 4"
+abbrev pub wordWrite : List ℕ
+wordWrite = invalid ∷ unfit ∷ wrongLength ∷ badStarts ∷ badSymbol ∷ []
+
+-- "covering 1 2 3 4 6"
+abbrev pub covering : List ℕ
+covering = invalid ∷ unfit ∷ wrongLength ∷ badSymbol ∷ uncovered ∷ []
+
+-- "word read 1 2 3 4 7 8 9"
+abbrev pub wordRead : List ℕ
+wordRead = invalid ∷ unfit ∷ wrongLength ∷ badSymbol ∷ noPattern ∷ valueTooLarge ∷ disagrees ∷ []
+
+-- "job write 1 2 10 3 5 12 14"
+abbrev pub jobWrite : List ℕ
+jobWrite = invalid ∷ unfit ∷ badPayload ∷ wrongLength ∷ badStarts ∷ jobCancelled ∷ notOpen ∷ []
+
+-- "job read 1 2, 10 for K, 3 4 7 8 9, 10, 12 14"
+abbrev pub jobRead : List ℕ
+jobRead = invalid ∷ unfit ∷ badPayload ∷ wrongLength ∷ badSymbol ∷ noPattern ∷ valueTooLarge ∷ disagrees ∷ badPayload ∷ jobCancelled ∷ notOpen ∷ []
+
+-- "open 1 12 13 15; cancel 1 12 15; finish 1 12 14"
+abbrev pub call : Kind → List ℕ
+call opening = invalid ∷ jobCancelled ∷ alreadyOpen ∷ tableFull ∷ []
+call cancelling = invalid ∷ jobCancelled ∷ tableFull ∷ []
+call finishing = invalid ∷ jobCancelled ∷ notOpen ∷ []
+
+-- a call by its letter: 11 for a letter that is none of the three
+abbrev pub callByLetter : Option Kind → List ℕ
+callByLetter none = badRecord ∷ []
+callByLetter (some k) = call k
+
+-- a call on a table in bytes: 3 before all
+abbrev pub callOnBytes : Option Kind → List ℕ
+callOnBytes k = wrongLength ∷ callByLetter k
+
+-- a list of calls: 3 for lists of other lengths, 11 for a letter
+abbrev pub listOfCalls : List ℕ
+listOfCalls = wrongLength ∷ badRecord ∷ []

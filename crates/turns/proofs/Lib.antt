@@ -1,0 +1,9 @@
+pub mod Front
+pub mod Cut
+pub mod Pieces
+pub mod Serving
+pub mod After
+pub mod Views
+pub mod Printing
+pub mod Ending
+pub mod Inputs
