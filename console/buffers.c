@@ -56,5 +56,11 @@ int main(void)
         printf("buffers: a message has another length\n");
         wrong = 1;
     }
+    if (burgzemi_message_len(BURGZEMI_MAX_WORD, 256, 6, 112) != 3388 || burgzemi_message_len(BURGZEMI_MAX_WORD + 1, 256, 6, 112) != BURGZEMI_NO_LENGTH
+        || burgzemi_message_len(999, 256, BURGZEMI_MAX_BURSTS, 15) != 823 || burgzemi_message_len(999, 256, BURGZEMI_MAX_BURSTS + 1, 15) != BURGZEMI_NO_LENGTH
+        || burgzemi_message_len(999, 256, BURGZEMI_MAX_BURSTS, 14) != BURGZEMI_NO_LENGTH) {
+        printf("buffers: a message at the limits has another length\n");
+        wrong = 1;
+    }
     return wrong;
 }

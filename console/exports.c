@@ -81,7 +81,43 @@ static void words(void)
     length("payload of the transfer example", burgzemi_payload_len(15, 256, 1, 2), 11);
     length("payload of no message", burgzemi_payload_len(3, 4, 1, 1), 0);
     length("payload of b 6", burgzemi_payload_len(30, 2, 1, 6), BURGZEMI_NO_LENGTH);
-    length("payload of m 7", burgzemi_payload_len(30, 2, 7, 3), BURGZEMI_NO_LENGTH);
+    length("payload of m 9", burgzemi_payload_len(30, 2, 9, 3), BURGZEMI_NO_LENGTH);
+}
+
+/* ---- The longest word and the most bursts: written, covered, damaged and read, all with q 256, where a byte takes one symbol */
+
+static void large_strip(const char *what, uint32_t n, uint32_t m, uint32_t b, uint32_t k)
+{
+    static uint8_t word[BURGZEMI_MAX_WORD], damaged[BURGZEMI_MAX_WORD], message[BURGZEMI_MAX_WORD], map[BURGZEMI_MAX_WORD], got[BURGZEMI_MAX_WORD];
+    uint8_t table[BURGZEMI_TABLE_LEN] = {0}, starts[2 * BURGZEMI_MAX_BURSTS + 2] = {0}, other[2 * BURGZEMI_MAX_BURSTS + 2] = {0};
+    length(what, burgzemi_message_len(n, 256, m, b), k);
+    length(what, burgzemi_payload_len(n, 256, m, b), k);
+    for (uint32_t i = 0; i < k; i++)
+        message[i] = (uint8_t)(i * 7 + 1);
+    memset(map, 0, n);
+    for (uint32_t i = 0; i < m; i++) {
+        uint32_t start = n - (m - i) * (b + 1);
+        starts[2 * i] = (uint8_t)(start >> 8);
+        starts[2 * i + 1] = (uint8_t)start;
+        map[start] = map[start + b - 1] = 1;
+    }
+    see(what, burgzemi_cover(n, 256, m, b, map, n, other, 2 * m), BURGZEMI_SERVED, other, starts, sizeof starts);
+
+    memset(word, 0xA5, n);
+    memset(got, 0xA5, n);
+    see(what, burgzemi_encode(n, 256, m, b, starts, 2 * m + 2, message, k, word, n), BURGZEMI_LENGTH, word, got, n);
+    unsigned answer = burgzemi_encode(n, 256, m, b, starts, 2 * m, message, k, word, n);
+    memcpy(damaged, word, n);
+    for (uint32_t i = 0; i < m; i++)
+        memset(damaged + n - (m - i) * (b + 1), 0xFF, b);
+    memset(other, 0, sizeof other);
+    see(what, burgzemi_decode(n, 256, m, b, damaged, n, got, k, other, 2 * m), answer, got, message, k);
+    see(what, answer, BURGZEMI_SERVED, other, starts, sizeof starts);
+
+    /* The job whose number the message begins with. */
+    see(what, burgzemi_call(table, sizeof table, 'O', 0x01080F16), BURGZEMI_SERVED, got, message, k);
+    see(what, burgzemi_job_write(n, 256, m, b, table, sizeof table, starts, 2 * m, message, k, got, n), BURGZEMI_SERVED, got, word, n);
+    see(what, burgzemi_job_read(n, 256, m, b, table, sizeof table, damaged, n, got, k), BURGZEMI_SERVED, got, message, k);
 }
 
 /* ---- Covering: n 30, q 2, m 1, b 3 */
@@ -243,6 +279,8 @@ static void transfer_example(void)
 int main(void)
 {
     words();
+    large_strip("4096 symbols, 6 bursts", BURGZEMI_MAX_WORD, 6, 112, 3388);
+    large_strip("999 symbols, 8 bursts", 999, BURGZEMI_MAX_BURSTS, 15, 823);
     maps();
     calls();
     transfer_example();

@@ -16,7 +16,8 @@ enum burgzemi_answer {
     BURGZEMI_SERVED = 0,
     /* from the input */
     BURGZEMI_INVALID = 1,      /* a figure out of range, or a job table with one number twice or with an unknown state */
-    BURGZEMI_UNFIT = 2,        /* the figures don't fit: m * b is above n, or the shortest block has fewer than b + r symbols, r as document 01 has it */
+    BURGZEMI_UNFIT = 2,        /* the figures don't fit: m * b is above n, there are more than 9223372036854775807 placements, or the shortest block
+                                  has fewer than b + r symbols, r as document 01 has it */
     BURGZEMI_LENGTH = 3,       /* a list, a placement or a buffer has another length than the figures give */
     BURGZEMI_SYMBOL = 4,       /* a symbol of q or more, or a byte above 1 in a defect map */
     BURGZEMI_STARTS = 5,       /* starts too close, descending, or past the end */
@@ -35,10 +36,11 @@ enum burgzemi_answer {
 
 /*
  * The largest figures: no word, and so no message and no payload, is longer, and no placement has more bursts. BURGZEMI_MAX_WORD bytes hold any of
- * those, 2 * BURGZEMI_MAX_BURSTS bytes the starts of any placement; the length that is passed is still exactly n, k, K or 2 * m.
+ * those, 2 * BURGZEMI_MAX_BURSTS bytes the starts of any placement; the length that is passed is still exactly n, k, K or 2 * m. Not all go together:
+ * figures with 7 bursts fit up to n 1999, with 8 up to n 999, as longer words have too many placements.
  */
-#define BURGZEMI_MAX_WORD 1024
-#define BURGZEMI_MAX_BURSTS 6
+#define BURGZEMI_MAX_WORD 4096
+#define BURGZEMI_MAX_BURSTS 8
 
 /* What burgzemi_message_len and burgzemi_payload_len answer for figures that are refused. */
 #define BURGZEMI_NO_LENGTH UINT32_MAX
@@ -56,8 +58,8 @@ enum burgzemi_answer {
  */
 
 /*
- * How many symbols the message of a word has, 0 included: k of the figures n (symbols of a word, 3 to 1024), q (each symbol is a byte below
- * it, 2 to 256), m (bursts, 1 to 6) and b (positions of a burst, at least 1). BURGZEMI_NO_LENGTH where burgzemi_decode answers 1 or 2.
+ * How many symbols the message of a word has, 0 included: k of the figures n (symbols of a word, 3 to 4096), q (each symbol is a byte below
+ * it, 2 to 256), m (bursts, 1 to 8) and b (positions of a burst, at least 1). BURGZEMI_NO_LENGTH where burgzemi_decode answers 1 or 2.
  */
 uint32_t burgzemi_message_len(uint32_t n, uint32_t q, uint32_t m, uint32_t b);
 

@@ -1,5 +1,7 @@
 //! Figures on a grid with every boundary, through each call that takes figures.
 
+use second::choose::choose;
+use second::figures::{MAX_N, MAX_RUNS};
 use second::Figures;
 
 use crate::judge::Judge;
@@ -7,6 +9,8 @@ use crate::sides::Numbers;
 
 const EDGES: [u32; 4] = [65535, 65536, 1 << 31, u32::MAX];
 
+/// Word lengths around each boundary. Those up to 1026, with m to 6, were the grid before change request 11: what was
+/// served within the former limits, n to 1024 and m to 6, still is. (`former` has the words themselves.)
 fn lengths() -> Vec<u32> {
     let mut lengths: Vec<u32> = (0..=48).collect();
     for edge in [
@@ -15,7 +19,20 @@ fn lengths() -> Vec<u32> {
         lengths.extend([edge - 1, edge, edge + 1, edge + 2]);
     }
     lengths.extend([1000, 1008, 1020, 1021, 1022]);
+    // The shortest with 7 runs and with 8; more than 1024; the longest of all.
+    lengths.extend([
+        49, 50, 63, 64, 65, 98, 128, 2048, 3072, 4094, 4095, 4096, 4097,
+    ]);
+    // n - m * b + m is 1733 or 1734 for 7 runs, 887 or 888 for 8: T is just within the limit, and just above it.
+    for b in [1, 2, 3, 38, 39, 40] {
+        lengths.extend([1733, 1734].map(|things| things + 7 * (b - 1)));
+    }
+    for b in [1, 2, 3, 14, 15, 16] {
+        lengths.extend([887, 888].map(|things| things + 8 * (b - 1)));
+    }
     lengths.extend(EDGES);
+    lengths.sort_unstable();
+    lengths.dedup();
     lengths
 }
 
@@ -27,12 +44,27 @@ fn alphabets() -> Vec<u32> {
     alphabets
 }
 
-/// Burst lengths around the largest that fits, around n / m, and so large that products wrap.
+/// The least burst length for which T is within its limit, where figures in range have one.
+fn least_counted(n: u32, m: u32) -> Option<u32> {
+    let (n, m) = (n as usize, m as usize);
+    if n > MAX_N || !(1..=MAX_RUNS).contains(&m) {
+        return None;
+    }
+    let counted = |&b: &usize| choose(n - m * b + m, m).is_some();
+    (1..=n / m).find(counted).map(|b| b as u32)
+}
+
+/// Burst lengths around the largest that fits, around the least whose T is within its limit, around n / m, and so large
+/// that products wrap.
 fn bursts(n: u32, q: u32, m: u32) -> Vec<u32> {
     let mut bursts = vec![0, 1, 2, 3];
     let fits = |b: &u32| Figures::new(n, q, m, *b).is_ok();
-    if let Some(largest) = (1..=n.min(1024)).rev().find(fits) {
+    // b is at most L, a third of n at most.
+    if let Some(largest) = (1..=n.min(MAX_N as u32) / 3).rev().find(fits) {
         bursts.extend([largest - 1, largest, largest + 1]);
+    }
+    if let Some(least) = least_counted(n, m) {
+        bursts.extend([least - 1, least, least + 1]);
     }
     let share = n / m.max(1);
     bursts.extend([share.saturating_sub(1), share, share.saturating_add(1)]);
@@ -44,24 +76,27 @@ fn bursts(n: u32, q: u32, m: u32) -> Vec<u32> {
     bursts
 }
 
-/// Makes every call with the figures alone: refusals 1, 2 and 10, and 3 for what fits.
-fn figures_alone(judge: &mut Judge, f: Numbers) {
-    judge.lengths(f);
-    judge.decode(f, &[], 0, 0);
-    judge.encode(f, &[], &[], 0);
-    judge.cover(f, &[], 0);
-    judge.job_write(f, &[], &[], &[], 0);
-    judge.job_read(f, &[], &[], 0);
-}
-
-pub fn run(judge: &mut Judge) {
+/// Calls `visit` with all figures of the grid.
+pub fn each(mut visit: impl FnMut(Numbers)) {
     for n in lengths() {
         for q in alphabets() {
-            for m in (0..=8).chain(EDGES) {
+            for m in (0..=9).chain(EDGES) {
                 for b in bursts(n, q, m) {
-                    figures_alone(judge, (n, q, m, b));
+                    visit((n, q, m, b));
                 }
             }
         }
     }
+}
+
+/// Makes every call with the figures alone: refusals 1, 2 and 10, and 3 for what fits.
+pub fn run(judge: &mut Judge) {
+    each(|f| {
+        judge.lengths(f);
+        judge.decode(f, &[], 0, 0);
+        judge.encode(f, &[], &[], 0);
+        judge.cover(f, &[], 0);
+        judge.job_write(f, &[], &[], &[], 0);
+        judge.job_read(f, &[], &[], 0);
+    });
 }

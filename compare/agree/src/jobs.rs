@@ -132,9 +132,9 @@ fn refused_reading(judge: &mut Judge, rng: &mut Rng, f: &Figures, good: &[u8]) {
 /// Figures with one of them off.
 fn off(rng: &mut Rng, (n, q, m, b): (u32, u32, u32, u32)) -> (u32, u32, u32, u32) {
     match rng.below(6) {
-        0 => (rng.pick(&[0, 2, 1025]), q, m, b),
+        0 => (rng.pick(&[0, 2, 4097]), q, m, b),
         1 => (n, rng.pick(&[0, 1, 257]), m, b),
-        2 => (n, q, rng.pick(&[0, 7]), b),
+        2 => (n, q, rng.pick(&[0, 9]), b),
         3 => (n, q, m, 0),
         4 => (n, q, m, n / m.max(1) + 1),
         _ => (n, q, m, n),

@@ -1,6 +1,7 @@
 //! The judge: makes each call on both sides, compares answers and every byte of the buffers, and counts.
 
 use second::blocks::Layout;
+use second::figures::MAX_RUNS;
 use second::Figures;
 
 use crate::sides::{Numbers, Side, PROVED, SECOND};
@@ -90,7 +91,7 @@ pub struct Answer {
 pub struct Judge {
     seen: [[u64; 17]; OPS.len()],
     /// Accepted words, by m and by how many parts have no block that looks F.
-    accepted: [[u64; 3]; 7],
+    accepted: [[u64; 3]; MAX_RUNS + 1],
     pub differences: u64,
 }
 

@@ -1,6 +1,7 @@
 //! What the comparisons share: a seeded generator, the two sides, the judge, and the making of inputs.
 
 pub mod calls;
+pub mod former;
 pub mod grid;
 pub mod jobs;
 pub mod judge;

@@ -2,6 +2,7 @@
 
 use second::blocks::Layout;
 use second::choose::unrank;
+use second::figures::{MAX_N, MAX_RUNS};
 use second::job::width;
 use second::Figures;
 
@@ -12,14 +13,22 @@ pub fn numbers(f: &Figures) -> Numbers {
     (f.n as u32, f.q, f.m as u32, f.b as u32)
 }
 
+/// Lengths at the limits: the longest that fit with 8 runs, with 7, and at all, before change request 11 and since; those
+/// where runs of one position have just too many placements; and the shortest with 7 and 8 runs.
+const EDGES: [u64; 14] = [
+    49, 64, 887, 888, 998, 999, 1024, 1025, 1733, 1734, 1998, 1999, 4095, 4096,
+];
+
 /// Figures that fit: short and long words, small and large alphabets, and burst lengths up to the largest.
 pub fn figures(rng: &mut Rng) -> Figures {
     loop {
-        let m = rng.between(1, 6) as u32;
-        let n = match rng.below(6) {
+        let m = rng.between(1, MAX_RUNS as u64) as u32;
+        let n = match rng.below(8) {
             0 => rng.between(3, 40),
             1 | 2 => rng.between(30, 200),
-            3 => rng.between(1000, 1024),
+            3 => rng.between(1000, 1050),
+            4 => rng.between(1025, MAX_N as u64),
+            5 => rng.pick(&EDGES),
             _ => rng.between(100, 1024),
         } as u32;
         let q = match rng.below(4) {
@@ -32,15 +41,17 @@ pub fn figures(rng: &mut Rng) -> Figures {
     }
 }
 
-/// These figures with some burst length that fits, often the largest.
+/// These figures with some burst length that fits, often the largest or the least.
 fn with_length(rng: &mut Rng, n: u32, q: u32, m: u32) -> Option<Figures> {
     let block = n / (m * m.max(3));
     let fits = |b: &u32| Figures::new(n, q, m, *b).is_ok();
     let largest = (1..=block).rev().find(fits)?;
+    // Runs of one position may have too many placements where longer ones don't.
+    let least = (1..=block).find(fits)?;
     let b = match rng.below(4) {
         0 => largest,
-        1 => 1,
-        _ => rng.between(1, largest as u64) as u32,
+        1 => least,
+        _ => rng.between(least as u64, largest as u64) as u32,
     };
     Figures::new(n, q, m, b).ok()
 }
@@ -114,7 +125,7 @@ pub fn damage(rng: &mut Rng, f: &Figures, starts: &[u16], word: &mut [u8]) {
     }
 }
 
-/// How many values the I-blocks can spell; below 2^99.
+/// How many values the I-blocks can spell: less than T, below 2^63, times q^m, at most 2^64.
 pub fn values(f: &Figures) -> u128 {
     let one = (f.q as u128 - 1) * (f.q as u128).pow(f.r as u32);
     one.pow(f.m as u32)

@@ -4,6 +4,7 @@ use second::job::payload_len;
 use second::{raw, Figures};
 
 use crate::calls::{number, TABLE};
+use crate::grid;
 use crate::make::{damage, figures, numbers, odd_message, placement, start_bytes, symbols};
 use crate::rng::Rng;
 use crate::words::bad_starts_of;
@@ -46,6 +47,23 @@ pub fn stream(rng: &mut Rng, records: u64) -> Vec<u8> {
         }
     }
     stream.ending(kind)
+}
+
+/// A stream of the grid's figures, all that a record can hold: the program prints T, r and k of each that fits.
+pub fn figures_alone() -> Vec<u8> {
+    let mut stream = Stream {
+        rng: &mut Rng::new(0),
+        bytes: Vec::new(),
+        figures: None,
+        pool: 1,
+        sound: true,
+    };
+    grid::each(|(n, q, m, b)| {
+        if n <= 65535 && (1..=256).contains(&q) && m <= 255 && b <= 65535 {
+            stream.set((n, q, m, b));
+        }
+    });
+    stream.bytes
 }
 
 /// A stream that the program serves to its end, for long runs and for measuring: writings and readings of open jobs.
@@ -116,9 +134,13 @@ impl Stream<'_> {
         let f = figures(self.rng);
         let (mut n, mut q, mut m, mut b) = numbers(&f);
         match self.rng.below(6) {
-            0 => n = self.rng.pick(&[0, 2, 3, 1023, 1024, 1025, 65535]),
+            0 => {
+                n = self
+                    .rng
+                    .pick(&[0, 2, 3, 1024, 1025, 4095, 4096, 4097, 65535])
+            }
             1 => q = self.rng.pick(&[1, 2, 3, 256]),
-            2 => m = self.rng.pick(&[0, 1, 6, 7, 255]),
+            2 => m = self.rng.pick(&[0, 1, 6, 7, 8, 9, 255]),
             3 => b = self.rng.pick(&[0, 1, 65535]),
             4 => b = n / (m * m.max(3)) + self.rng.below(2) as u32,
             _ => b += 1,

@@ -1,4 +1,5 @@
-//! Document 01's bench strips that aren't starred, with the answers that the paper gives.
+//! Document 01's bench strips that aren't starred, with the answers that the paper gives, and figures at the limits of
+//! document 02's change request 11.
 
 use crate::judge::{Judge, Op};
 use crate::sides::Numbers;
@@ -10,7 +11,7 @@ fn is(judge: &mut Judge, op: Op, strip: &str, holds: bool) {
         op,
         holds,
         &|| strip.to_string(),
-        "not what document 01 says",
+        "not what the documents say",
     );
 }
 
@@ -19,6 +20,7 @@ pub fn run(judge: &mut Judge) {
     covering(judge);
     reading(judge);
     book(judge);
+    limits(judge);
 }
 
 fn seventeen(judge: &mut Judge) {
@@ -92,4 +94,32 @@ fn book(judge: &mut Judge) {
         "65 takes the first place",
         opened.out[..5] == [1, 0, 0, 0, 65],
     );
+}
+
+/// What the lengths alone tell of figures with q 256: 3 where they fit.
+fn limits(judge: &mut Judge) {
+    for (n, m, b, number) in [
+        (1025, 1, 1, 3),
+        (4096, 6, 1, 3),
+        (4096, 6, 112, 3),
+        (4096, 6, 113, 2),
+        (4096, 7, 83, 2),
+        (4096, 8, 64, 2),
+        (1999, 7, 39, 3),
+        (1999, 7, 38, 2),
+        (2000, 7, 39, 2),
+        (999, 8, 15, 3),
+        (999, 8, 14, 2),
+        (1000, 8, 15, 2),
+        (888, 8, 1, 2),
+        (888, 8, 2, 3),
+        (64, 8, 1, 3),
+        (63, 8, 1, 2),
+        (4097, 8, 4096, 1),
+        (4096, 9, 4096, 1),
+    ] {
+        let answer = judge.decode((n, 256, m, b), &[], 0, 1).number;
+        let strip = format!("n {n}, q 256, m {m}, b {b} is {number}");
+        is(judge, Op::Figures, &strip, answer == number);
+    }
 }

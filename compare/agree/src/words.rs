@@ -110,9 +110,13 @@ fn other_value(judge: &mut Judge, rng: &mut Rng, strip: &Strip) {
 fn any_word(judge: &mut Judge, rng: &mut Rng, f: &Figures) {
     let word = symbols(rng, f.q, f.n);
     judge.decode(numbers(f), &word, f.k, 2 * f.m);
-    let blocks = f.blocks() as u32;
-    let fixed = likely_pattern(rng, f) & ((1 << blocks) - 1);
+    let fixed = likely_pattern(rng, f) & all_blocks(f);
     patterned(judge, rng, f, fixed);
+}
+
+/// The set of all blocks, of which there are up to 64.
+fn all_blocks(f: &Figures) -> u64 {
+    u64::MAX >> (u64::BITS - f.blocks() as u32)
 }
 
 /// A set of blocks that look F, near those that the rule lists: whole parts without, or one or two in each part.
@@ -168,10 +172,10 @@ pub fn patterns(judge: &mut Judge, rng: &mut Rng, n: u32, m: u32, step: u64) {
     for q in [2, 3, 256] {
         let largest = (1..n).rev().find_map(|b| Figures::new(n, q, m, b).ok());
         let Some(f) = largest else { continue };
-        let mut fixed = rng.below(step);
-        while fixed < 1 << f.blocks() {
+        let mut next = Some(rng.below(step));
+        while let Some(fixed) = next.filter(|&fixed| fixed <= all_blocks(&f)) {
             patterned(judge, rng, &f, fixed);
-            fixed += rng.between(1, 2 * step - 1);
+            next = fixed.checked_add(rng.between(1, 2 * step - 1));
         }
     }
 }

@@ -14,7 +14,7 @@ const SEED: u64 = 1996;
 /// The figures of each row. Burst lengths: the largest power of two that fits, at most 16; rows that none fits are left out.
 pub fn rows() -> Vec<Figures> {
     let mut rows = Vec::new();
-    for n in [64, 256, 1024] {
+    for n in [64, 256, 1024, 4096] {
         for m in [1, 3, 6] {
             for q in [2, 16, 256] {
                 let lengths = [16, 8, 4, 2, 1];

@@ -13,12 +13,14 @@ use crate::rows::name;
 
 const ROUNDS: usize = 5;
 const RECORDS: u64 = 40_000;
-const FIGURES: [(u32, u32, u32, u32); 5] = [
+const FIGURES: [(u32, u32, u32, u32); 7] = [
     (64, 256, 1, 16),
     (256, 16, 3, 16),
     (1024, 2, 1, 16),
     (1024, 256, 3, 16),
     (1024, 256, 6, 16),
+    (4096, 256, 1, 16),
+    (4096, 256, 6, 16),
 ];
 
 /// The seconds that a program takes for the stream.

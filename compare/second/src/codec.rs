@@ -2,7 +2,7 @@
 
 use crate::blocks::{burst_blocks, index_blocks, pattern, Layout, Reserved};
 use crate::choose::{rank, unrank};
-use crate::figures::Figures;
+use crate::figures::{Figures, MAX_RUNS};
 
 /// Whether the starts make a placement: m are given, runs ascend, don't touch each other's positions and end inside the word.
 pub fn placed(f: &Figures, starts: &[u16]) -> bool {
@@ -81,7 +81,7 @@ pub fn decode(f: &Figures, word: &[u8], message: &mut [u8], starts: &mut [u16]) 
 pub struct Found {
     pub rank: u64,
     /// Those past m are 0.
-    pub starts: [u16; 6],
+    pub starts: [u16; MAX_RUNS],
     reserved: Reserved,
 }
 
@@ -107,7 +107,8 @@ pub fn read(f: &Figures, word: &[u8]) -> Result<Found, u8> {
     let rank = read_rank(f, &layout, index, word).ok_or(8)?;
     let starts = unrank(f, rank);
     let bursts = burst_blocks(f, &layout, &starts[..f.m]);
-    let all = (1u64 << f.blocks()) - 1;
+    // There may be 64 blocks, which fill the set.
+    let all = u64::MAX >> (u64::BITS - f.blocks() as u32);
     if index_blocks(f, bursts) != index || all & !bursts & !index & !fixed != 0 {
         return Err(9);
     }
@@ -129,17 +130,16 @@ fn read_rank(f: &Figures, layout: &Layout, index: u64, word: &[u8]) -> Option<u6
     let mut value = 0;
     for block in (0..f.blocks()).filter(|&block| index >> block & 1 == 1) {
         let begin = layout.begin[block] as usize;
-        value = value * (q - 1) + (word[begin] as u64 - 1);
-        // Further digits never lessen the value, and one below 2^51 leaves room for the next digit.
-        if value >= f.t {
-            return None;
-        }
+        value = next_value(f, value, q - 1, word[begin] - 1)?;
         for &symbol in &word[begin + 1..=begin + f.r] {
-            value = value * q + symbol as u64;
-            if value >= f.t {
-                return None;
-            }
+            value = next_value(f, value, q, symbol)?;
         }
     }
     Some(value)
+}
+
+/// A value with one digit more, or none where it is T or more: further digits never lessen it, and T fits in 64 bits.
+fn next_value(f: &Figures, value: u64, base: u64, digit: u8) -> Option<u64> {
+    let value = value.checked_mul(base)?.checked_add(digit as u64)?;
+    (value < f.t).then_some(value)
 }

@@ -3,8 +3,8 @@
 use crate::choose::choose;
 
 pub const MIN_N: u32 = 3;
-pub const MAX_N: usize = 1024;
-pub const MAX_RUNS: usize = 6;
+pub const MAX_N: usize = 4096;
+pub const MAX_RUNS: usize = 8;
 pub const MAX_BLOCKS: usize = MAX_RUNS * MAX_RUNS;
 
 /// Figures that fit.
@@ -20,7 +20,7 @@ pub struct Figures {
     pub r: usize,
     /// How many symbols the message has.
     pub k: usize,
-    /// T, how many placements there are.
+    /// T, how many placements there are; at most `MAX_COUNT`.
     pub t: u64,
 }
 
@@ -38,7 +38,7 @@ impl Figures {
         }
         let (n, m, b) = (n as usize, m as usize, b as usize);
         let p = if m <= 2 { 3 } else { m };
-        let t = choose(n - m * b + m, m);
+        let t = choose(n - m * b + m, m).ok_or(2)?;
         let r = symbols_after_first(q, m, t);
         let block = n / (p * m);
         if r >= block || b > block - r {
@@ -71,10 +71,10 @@ impl Figures {
 /// r: the least for which m I-blocks spell at least `t` values.
 fn symbols_after_first(q: u32, m: usize, t: u64) -> usize {
     let mut r = 0;
-    let mut values = (q as u64 - 1).pow(m as u32);
-    // t is below 2^51, so a product that doesn't fit is large enough.
+    let mut values = (q as u64 - 1).saturating_pow(m as u32);
+    // t is below 2^63, so what 64 bits don't hold is large enough.
     while values < t {
-        values = values.saturating_mul((q as u64).pow(m as u32));
+        values = values.saturating_mul((q as u64).saturating_pow(m as u32));
         r += 1;
     }
     r

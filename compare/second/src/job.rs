@@ -2,7 +2,7 @@
 
 use crate::book::Book;
 use crate::codec::{placed, read, write};
-use crate::figures::{Figures, MAX_N};
+use crate::figures::Figures;
 
 /// The least K that has room for a number and some text.
 pub const LEAST_PAYLOAD: usize = 5;
@@ -73,9 +73,9 @@ pub fn write_job(f: &Figures, book: &Book, starts: &[u16], payload: &[u8], word:
     if let Err(refusal) = book.require_open(number(payload)) {
         return refusal;
     }
-    let mut message = [0; MAX_N];
-    spell(f.q, payload, &mut message[..f.k]);
-    write(f, starts, &message[..f.k], word);
+    let mut message = vec![0; f.k];
+    spell(f.q, payload, &mut message);
+    write(f, starts, &message, word);
     0
 }
 
@@ -92,15 +92,15 @@ pub fn read_job(f: &Figures, book: &Book, word: &[u8], payload: &mut [u8]) -> u8
         Ok(found) => found,
         Err(refusal) => return refusal,
     };
-    let mut message = [0; MAX_N];
-    found.message(f, word, &mut message[..f.k]);
-    let mut bytes = [0; MAX_N];
-    if !unspell(f.q, &message[..f.k], &mut bytes[..len]) {
+    let mut message = vec![0; f.k];
+    found.message(f, word, &mut message);
+    let mut bytes = vec![0; len];
+    if !unspell(f.q, &message, &mut bytes) {
         return 10;
     }
     if let Err(refusal) = book.require_open(number(&bytes)) {
         return refusal;
     }
-    payload.copy_from_slice(&bytes[..len]);
+    payload.copy_from_slice(&bytes);
     0
 }

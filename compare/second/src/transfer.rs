@@ -3,7 +3,7 @@
 use std::io::Write;
 
 use crate::book::Book;
-use crate::figures::{Figures, MAX_N, MAX_RUNS};
+use crate::figures::{Figures, MAX_RUNS};
 use crate::job;
 
 const MARK: [u8; 2] = [0x4C, 0x54];
@@ -102,20 +102,19 @@ impl Machine {
         for (start, pair) in starts[..f.m].iter_mut().zip(body.chunks_exact(2)) {
             *start = u16::from_be_bytes([pair[0], pair[1]]);
         }
-        let mut word = [0; MAX_N];
-        let word = &mut word[..f.n];
-        let refusal = job::write_job(f, &self.book, &starts[..f.m], &body[2 * f.m..], word);
+        let mut word = vec![0; f.n];
+        let payload = &body[2 * f.m..];
+        let refusal = job::write_job(f, &self.book, &starts[..f.m], payload, &mut word);
         answer(out, b'W', refusal);
         if refusal == 0 {
             out.push(b' ');
-            hex(out, word);
+            hex(out, &word);
         }
     }
 
     fn read(&self, f: &Figures, body: &[u8], out: &mut Vec<u8>) {
-        let mut payload = [0; MAX_N];
-        let payload = &mut payload[..job::payload_len(f)];
-        let refusal = job::read_job(f, &self.book, body, payload);
+        let mut payload = vec![0; job::payload_len(f)];
+        let refusal = job::read_job(f, &self.book, body, &mut payload);
         answer(out, b'R', refusal);
         if refusal == 0 {
             out.push(b' ');

@@ -26,7 +26,7 @@ fn placements(f: &Figures, each: &mut impl FnMut(&[u16])) {
 fn fitting(longest: u32, each: &mut impl FnMut(Figures)) {
     for n in 3..=longest {
         for q in [2, 3, 4, 7, 16, 256] {
-            for m in 1..=6 {
+            for m in 1..=8 {
                 (1..=n)
                     .filter_map(|b| Figures::new(n, q, m, b).ok())
                     .for_each(&mut *each);
@@ -78,7 +78,7 @@ fn coverings_of_every_map() {
     for n in 3..=12 {
         for m in 1..=4 {
             for b in (1..=4).filter(|b| m * b <= n) {
-                let t = second::choose::choose(n - m * b + m, m);
+                let t = second::choose::choose(n - m * b + m, m).expect("a small count");
                 let f = Figures {
                     n,
                     q: 2,
@@ -131,10 +131,19 @@ fn read_back(f: &Figures, starts: &[u16]) {
 }
 
 #[test]
-fn a_part_of_the_largest_word_reads_back() {
-    let f = Figures::new(1024, 256, 6, 20).expect("these figures fit");
-    for rank in [0, 1, f.t / 2, f.t / 3 * 2, f.t - 2, f.t - 1] {
-        read_back(&f, &unrank(&f, rank)[..f.m]);
+fn some_ranks_of_the_largest_figures_read_back() {
+    for (n, m, b) in [
+        (1024, 6, 20),
+        (4096, 6, 1),
+        (4096, 6, 112),
+        (1999, 7, 39),
+        (999, 8, 15),
+        (64, 8, 1),
+    ] {
+        let f = Figures::new(n, 256, m, b).expect("these figures fit");
+        for rank in [0, 1, f.t / 2, f.t / 3 * 2, f.t - 2, f.t - 1] {
+            read_back(&f, &unrank(&f, rank)[..f.m]);
+        }
     }
 }
 

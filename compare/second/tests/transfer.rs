@@ -89,6 +89,18 @@ fn figures_without_room_for_a_job() {
 }
 
 #[test]
+fn the_largest_figures() {
+    assert_eq!(
+        printed("4C54 53 1000 FF 06 0001; 4C54 53 03E7 FF 08 000F; 4C54 53 1000 FF 08 0001"),
+        "S 0 6534856347522607104 1 4054\nS 0 9207044098280898870 0 823\nS 2\nend\n"
+    );
+    assert_eq!(
+        printed("4C54 53 1001 FF 01 0001; 4C54 53 03E7 FF 09 000F"),
+        "S 1\nS 1\nend\n"
+    );
+}
+
+#[test]
 fn one_record_too_many() {
     let mut machine = Machine::default();
     machine.records = u32::MAX - 1;

@@ -30,9 +30,9 @@ pub use refusal::Refusal;
 pub use table::Table;
 
 /// The longest word.
-pub const MAX_WORD: usize = 1024;
+pub const MAX_WORD: usize = 4096;
 /// The most runs that a placement has.
-pub const MAX_RUNS: usize = 6;
+pub const MAX_RUNS: usize = 8;
 
 /// Figures that fit, with the lengths that follow from them.
 #[derive(Clone, Copy, PartialEq, Eq, Debug)]
@@ -105,7 +105,7 @@ impl Deref for Placement {
     }
 }
 
-/// Starts as the C calls take them. More than six are passed as seven, a length that every figure refuses.
+/// Starts as the C calls take them. More than a placement has are passed as one more than that, a length that all figures refuse.
 struct StartBytes {
     bytes: [u8; 2 * MAX_RUNS + 2],
     len: usize,

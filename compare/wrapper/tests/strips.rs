@@ -1,6 +1,6 @@
 //! Bench strips of document 01, through the wrapper.
 
-use burgzemi::{cover, decode, encode, Figures, Refusal, Table};
+use burgzemi::{cover, decode, encode, Figures, Refusal, Table, MAX_RUNS, MAX_WORD};
 
 fn symbols(text: &str) -> Vec<u8> {
     text.bytes()
@@ -23,6 +23,41 @@ fn figures() {
     assert_eq!(Figures::new(3, 3, 1, 1), Err(Refusal::UNFIT));
     assert!(Figures::new(60, 17, 2, 9).is_ok());
     assert_eq!(Figures::new(60, 17, 2, 10), Err(Refusal::UNFIT));
+}
+
+/// Document 02's change request 11.
+#[test]
+fn limits() {
+    assert_eq!((MAX_WORD, MAX_RUNS), (4096, 8));
+    let fits = |n, m, b| Figures::new(n, 256, m, b).map(|f| f.message_len());
+    assert_eq!(fits(4096, 6, 112), Ok(3388));
+    assert_eq!(fits(4097, 6, 112), Err(Refusal::INVALID));
+    assert_eq!(fits(999, 8, 15), Ok(823));
+    assert_eq!(fits(999, 9, 15), Err(Refusal::INVALID));
+    // Above 9223372036854775807 placements.
+    assert_eq!(fits(888, 8, 1), Err(Refusal::UNFIT));
+    assert_eq!(fits(888, 8, 2), Ok(816));
+}
+
+#[test]
+fn eight_runs() {
+    let strip = Figures::new(999, 256, 8, 15).expect("these figures fit");
+    let starts: [u16; 8] = std::array::from_fn(|i| 984 - 16 * (7 - i as u16));
+    let mut word = [0xEE; 999];
+    for wrong in [7, 9, 12] {
+        let given: Vec<u16> = starts.iter().copied().cycle().take(wrong).collect();
+        assert_eq!(
+            encode(&strip, &given, &[5; 823], &mut word),
+            Err(Refusal::LENGTH)
+        );
+    }
+    assert_eq!(encode(&strip, &starts, &[5; 823], &mut word), Ok(()));
+    for start in starts {
+        word[start as usize..start as usize + 15].fill(0xFF);
+    }
+    let mut message = [0; 823];
+    let placement = decode(&strip, &word, &mut message).expect("a written word is read");
+    assert_eq!((&placement[..], message), (&starts[..], [5; 823]));
 }
 
 #[test]

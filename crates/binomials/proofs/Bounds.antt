@@ -1,27 +1,64 @@
--- The largest counts that the limits allow fit 64 bits. Assumes nothing.
+-- Which counts fit: out of how many things k can be chosen in at most maxCount ways, and what is met on the way there. Assumes nothing.
 use mathlib.Core.Path.{_≡_, refl, sym, _∙_}
-use mathlib.Core.Bool.{true, false, true≢false}
-use Prim.Native.Nat.{ℕ, suc, _≤_}
+use mathlib.Core.Bool.{Bool, true, false, _&&_, true≢false}
+use Prim.Native.Nat.{ℕ, suc, _≤_, _<_}
 use native.Mathlib.Omega.{arith}
-use lib.Dec.{ltb}
+use lib.Dec.{leb, ltb}
 use Rattle.combinatorics.specs.Choose.{choose}
 use Rattle.combinatorics.specs.Stretch.{has}
-use Rattle.combinatorics.proofs.Cases.{by-le, leb-holds}
+use Rattle.combinatorics.proofs.Cases.{by-le, by-bool, leb-holds}
 use Rattle.combinatorics.proofs.Choose.{quick, quick-is, choose-mono}
 use Rattle.combinatorics.proofs.Stretch.{has-some}
-use Rattle.binomials.specs.Limits.{maxThings, maxChosen}
+use Rattle.construction_a.specs.Figures.{maxCount}
+use Rattle.binomials.specs.Limits.{maxThings, maxChosen, maxTaken, mostThings}
 
--- the largest count of all
-abbrev pub mostWays : ℕ
-mostWays = 1577953087760896
+-- none of a stretch passes
+none-has : (n k : ℕ) (w : ℕ → Bool) → has n 0 w ≡ false → k < n → w k ≡ false
+none-has n k w none l = by-bool (w k) (λ t. absurd (true≢false (sym (has-some n 0 k w (omega arith) (omega arith) t) ∙ none))) (λ e. e)
 
--- one computation over every k that is served
-all-fit : has (suc maxChosen) 0 (λ k. ltb mostWays (quick maxThings k)) ≡ false
+-- a number that no test of a stretch finds too large
+small : (n k most : ℕ) (v : ℕ → ℕ) → has n 0 (λ x. ltb most (v x)) ≡ false → k < n → v k ≤ most
+small n k most v none l =
+    by-le (suc most) (v k) (λ _. v k ≤ most)
+    (λ g. absurd (true≢false (sym (has-some n 0 k (λ x. ltb most (v x)) (omega arith) (omega arith) (leb-holds (suc most) (v k) g)) ∙ none)))
+    (λ g. omega arith)
+
+-- ---- a few things, by one product
+
+-- the largest count of so few
+abbrev pub mostFew : ℕ
+mostFew = 9584242993188864
+
+all-few : has (suc maxTaken) 0 (λ k. ltb mostFew (quick maxThings k)) ≡ false
+unfolding has quick
+all-few = refl
+
+pub choose-few : (n k : ℕ) → n ≤ maxThings → k ≤ maxTaken → choose n k ≤ mostFew
+choose-few n k h l = omega (arith, choose-mono k h, quick-is maxThings k, small (suc maxTaken) k mostFew (quick maxThings) all-few (omega arith))
+
+-- ---- all that a count can give
+
+-- one computation over every k that is served, and every number that is chosen before it
+all-fit : has (suc maxChosen) 0 (λ k. has (suc k) 0 (λ i. ltb maxCount (quick (mostThings k) i))) ≡ false
 unfolding has quick
 all-fit = refl
 
-pub choose-fits : (n k : ℕ) → n ≤ maxThings → k ≤ maxChosen → choose n k ≤ mostWays
-choose-fits n k h l =
-    by-le (suc mostWays) (quick maxThings k) (λ _. choose n k ≤ mostWays)
-    (λ g. absurd (true≢false (sym (has-some (suc maxChosen) 0 k (λ k. ltb mostWays (quick maxThings k)) (omega arith) (omega arith) (leb-holds (suc mostWays) (quick maxThings k) g)) ∙ all-fit)))
-    (λ g. omega (arith, choose-mono k h, quick-is maxThings k))
+-- and one thing more is too many, but where there are no more
+all-over : has (suc maxChosen) 0 (λ k. leb (suc (mostThings k)) maxThings && leb (quick (suc (mostThings k)) k) maxCount) ≡ false
+unfolding has quick
+all-over = refl
+
+pub ways-fit : (n k i : ℕ) → n ≤ mostThings k → k ≤ maxChosen → i ≤ k → choose n i ≤ maxCount
+ways-fit n k i h l s =
+    omega (arith, choose-mono i h, quick-is (mostThings k) i, small (suc k) i maxCount (quick (mostThings k)) (none-has (suc maxChosen) k (λ k. has (suc k) 0 (λ i. ltb maxCount (quick (mostThings k) i))) all-fit (omega arith)) (omega arith))
+
+-- "or say that it exceeds 9223372036854775807"
+pub most-is : (n k : ℕ) → n ≤ maxThings → k ≤ maxChosen → choose n k ≤ maxCount → n ≤ mostThings k
+most-is n k h l fit =
+    by-le n (mostThings k) (λ _. n ≤ mostThings k) (λ g. g)
+    (λ g.
+    let m = suc (mostThings k) in
+    let over : ℕ → Bool = λ k. leb (suc (mostThings k)) maxThings && leb (quick (suc (mostThings k)) k) maxCount in
+    let little : quick m k ≤ maxCount = omega (arith, quick-is m k, choose-mono {a = m} {b = n} k g) in
+    let yes : over k ≡ true = rw (leb-holds m maxThings (omega arith), leb-holds (quick m k) maxCount little) in
+    absurd (true≢false (sym (has-some (suc maxChosen) 0 k over (omega arith) (omega arith) yes) ∙ all-over)))

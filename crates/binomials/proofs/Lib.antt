@@ -1,2 +1,5 @@
 pub mod Bounds
+pub mod Counting
+pub mod Former
 mod Orders
+mod Scaling

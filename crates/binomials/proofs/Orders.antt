@@ -11,8 +11,8 @@ use Rattle.combinatorics.specs.Stretch.{has}
 use Rattle.combinatorics.proofs.Cases.{by-le, leb-holds}
 use Rattle.combinatorics.proofs.Choose.{choose-beyond, choose-zero, product-is}
 use Rattle.combinatorics.proofs.Stretch.{has-some}
-use Rattle.binomials.specs.Limits.{maxThings, maxChosen}
-use Rattle.binomials.proofs.Bounds.{mostWays, choose-fits}
+use Rattle.binomials.specs.Limits.{maxThings, maxTaken}
+use Rattle.binomials.proofs.Bounds.{mostFew, choose-few}
 
 -- in how many orders k things come
 unfoldable pub orders : ℕ → ℕ
@@ -32,17 +32,17 @@ orders-some (suc k) = omega (arith, mul-le-mul {n₁ = 1} {m₁ = 1} (orders-som
     one-le k = omega arith
 
 abbrev pub mostOrders : ℕ
-mostOrders = 720
+mostOrders = 120
 
 -- one computation over every k that is served
-all-fit : has (suc maxChosen) 0 (λ k. ltb mostOrders (orders k)) ≡ false
+all-fit : has (suc maxTaken) 0 (λ k. ltb mostOrders (orders k)) ≡ false
 unfolding has orders
 all-fit = refl
 
-pub orders-fit : (k : ℕ) → k ≤ maxChosen → orders k ≤ mostOrders
+pub orders-fit : (k : ℕ) → k ≤ maxTaken → orders k ≤ mostOrders
 orders-fit k l =
     by-le (suc mostOrders) (orders k) (λ _. orders k ≤ mostOrders)
-    (λ g. absurd (true≢false (sym (has-some (suc maxChosen) 0 k (λ k. ltb mostOrders (orders k)) (omega arith) (omega arith) (leb-holds (suc mostOrders) (orders k) g)) ∙ all-fit)))
+    (λ g. absurd (true≢false (sym (has-some (suc maxTaken) 0 k (λ k. ltb mostOrders (orders k)) (omega arith) (omega arith) (leb-holds (suc mostOrders) (orders k) g)) ∙ all-fit)))
     (λ g. omega arith)
 
 -- none at first
@@ -55,10 +55,10 @@ pub taken-next : (n k : ℕ) → orders k * choose n k * (n - k) ≡ orders (k +
 unfolding orders
 taken-next n k = rw (add-one k, mul-assoc (orders k) (choose n k) (n - k), product-is n k) (sym (mul-assoc (orders k) (suc k) (choose n (suc k))))
 
-pub taken-fits : (n k : ℕ) → n ≤ maxThings → k < maxChosen → orders k * choose n k * (n - k) ≤ mostOrders * mostWays
+pub taken-fits : (n k : ℕ) → n ≤ maxThings → k < maxTaken → orders k * choose n k * (n - k) ≤ mostOrders * mostFew
 taken-fits n k h l =
     rw (taken-next n k)
-    (mul-le-mul {n₂ = mostOrders} {m₂ = mostWays} (orders-fit (k + 1) (omega arith)) (choose-fits n (k + 1) h (omega arith)))
+    (mul-le-mul {n₂ = mostOrders} {m₂ = mostFew} (orders-fit (k + 1) (omega arith)) (choose-few n (k + 1) h (omega arith)))
 
 -- the ways to choose, where all are taken
 pub choose-of-taken : (n k : ℕ) → orders k * choose n k / orders k ≡ choose n k

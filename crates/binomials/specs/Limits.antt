@@ -1,6 +1,10 @@
--- Up to where the ways to choose are worked out. Assumes nothing.
+-- Up to where the ways to choose are worked out, and what a count answers. Assumes nothing.
+use mathlib.Core.Bool.{cond}
 use Prim.Native.Nat.{ℕ}
-use Rattle.construction_a.specs.Figures.{maxWord, maxBursts}
+use lib.Dec.{eqb}
+use Rattle.construction_a.specs.Figures.{maxWord, maxBursts, Counted, counted, tooMany}
+use Rattle.binomials.specs.declared.CountAnswer.{CountAnswer}
+use Rattle.binomials.specs.declared.CountAnswer.the-variants.{Ways, TooMany}
 
 -- no more things than a word has symbols, and no more chosen than a placement has bursts
 abbrev pub maxThings : ℕ
@@ -8,3 +12,16 @@ maxThings = maxWord
 
 abbrev pub maxChosen : ℕ
 maxChosen = maxBursts
+
+-- the most things out of which k can be chosen in ways that a count can give: `most-is` of proofs/Bounds.antt
+abbrev pub mostThings : ℕ → ℕ
+mostThings k = cond (eqb k 7) 1733 (cond (eqb k 8) 887 maxThings)
+
+-- how many are chosen at most by one product
+abbrev pub maxTaken : ℕ
+maxTaken = 5
+
+-- the value of a count, or that it is too large
+abbrev pub countedAs : CountAnswer → Counted
+countedAs (Ways t) = counted t
+countedAs TooMany = tooMany

@@ -1,18 +1,91 @@
-// The ways to choose things: every count and rank asks for them here, so that a table can stand behind this one function.
+// The ways to choose things: every count and rank asks for them here, so that a table can stand behind this one function. Assumes nothing.
 ghost use mathlib.Core.Path.{_≡_};
-ghost use Prim.Native.Nat.{_≤_};
+ghost use Prim.Native.Nat.{_*_, _/_, _≤_};
 ghost use Rattle.combinatorics.specs.Choose.{choose as ways};
-ghost use Rattle.binomials.specs.Limits.{maxThings, maxChosen};
+ghost use Rattle.construction_a.specs.Figures.{maxCount, countOut};
+ghost use Rattle.binomials.specs.Limits.{maxThings, maxChosen, maxTaken, mostThings, countedAs};
 
-// The ways to choose k things out of n: the ways to take them one after another, by the orders in which the same things come. One division
-// for the whole product, because a division takes longest.
-pub fn choose(n: u64, k: u64) -> u64
+// A count: its value, or that it exceeds MAX_COUNT.
+pub enum CountAnswer {
+    Ways(u64),
+    TooMany,
+}
+
+// The largest count that is given.
+pub const MAX_COUNT: u64 = 9223372036854775807;
+
+// No more things than the longest word has symbols.
+const MAX_THINGS: u64 = 4096;
+
+// Out of so many things 7, and 8, are chosen in at most MAX_COUNT ways, and out of one more in more ways than that. Fewer are chosen out of
+// MAX_THINGS in less.
+const MOST_FOR_7: u64 = 1733;
+
+const MOST_FOR_8: u64 = 887;
+
+// How many are taken by one product: so many factors fit 64 bits.
+const MAX_TAKEN: u64 = 5;
+
+// The ways to choose k things out of n, or that they are too many.
+pub fn count(n: u64, k: u64) -> CountAnswer
     requires { ⌜ (n ≤ maxThings) × (k ≤ maxChosen) ⌝ }
+    ensures value { λ r. ⌜ countedAs r ≡ countOut (ways n k) ⌝ }
+    ensures limit { λ _. do ⌜ (← ⟦MAX_COUNT⟧ .entry) ≡ maxCount ⌝ }
+{
+    if most_things(k) < n {
+        return CountAnswer::TooMany;
+    }
+    CountAnswer::Ways(choose(n, k))
+}
+
+// The ways to choose k things out of n, where a count can give them: the first few by one product, each further one by a step.
+pub fn choose(n: u64, k: u64) -> u64
+    requires { ⌜ (n ≤ maxThings) × (k ≤ maxChosen) × (ways n k ≤ maxCount) ⌝ }
     ensures { λ r. ⌜ r ≡ ways n k ⌝ }
 {
     if n < k {
         return 0;
     }
+    if k <= MAX_TAKEN {
+        return choose_few(n, k);
+    }
+    let mut chosen = choose_few(n, MAX_TAKEN);
+    let mut i: u64 = MAX_TAKEN;
+    while i < k {
+        chosen = scaled(chosen, n - i, i + 1);
+        i += 1;
+    }
+    chosen
+}
+
+// The most things out of which k can be chosen in at most MAX_COUNT ways.
+fn most_things(k: u64) -> u64
+    requires { ⌜ k ≤ maxChosen ⌝ }
+    ensures { λ r. ⌜ r ≡ mostThings k ⌝ }
+{
+    if k < 7 {
+        return MAX_THINGS;
+    }
+    if k == 7 {
+        return MOST_FOR_7;
+    }
+    MOST_FOR_8
+}
+
+// A product by a quotient, where the product itself may pass 64 bits.
+fn scaled(a: u64, b: u64, d: u64) -> u64
+    requires { ⌜ (1 ≤ d) × (d ≤ maxChosen) × (b ≤ maxThings) × (a * b / d ≤ maxCount) ⌝ }
+    ensures { λ r. ⌜ r ≡ a * b / d ⌝ }
+{
+    a / d * b + a % d * b / d
+}
+
+// The ways to choose a few things: the ways to take them one after another, by the orders in which the same things come. One division
+// for the whole product, because a division takes longest.
+fn choose_few(n: u64, k: u64) -> u64
+    requires { ⌜ (n ≤ maxThings) × (k ≤ maxTaken) × (k ≤ n) ⌝ }
+    ensures { λ r. ⌜ r ≡ ways n k ⌝ }
+{
     let mut taken: u64 = 1;
     let mut orders: u64 = 1;
     let mut i: u64 = 0;

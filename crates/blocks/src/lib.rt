@@ -52,11 +52,11 @@ fn with_index(kinds: [u8; Layout::MAX_BLOCKS], parts: usize, m: usize) -> [u8; L
     requires { ⌜ (0 < m) × (parts * m ≤ maxBlocks) × (parts ≤ maxBlocks) × (m ≤ maxBlocks) × (count (parts * m) 0 (bursts kinds) ≡ m) ⌝ }
     ensures { λ r. ⌜ ((k : ℕ) → k < parts * m → getD r k 0 ≡ marked (isIndexIn m (bursts kinds) (chosen parts m (bursts kinds))) kinds k) ⌝ }
 {
-    let full = part_with(kinds, parts, m, m);
+    let full = part_with(&kinds, parts, m, m);
     if full < parts {
         return with_part(kinds, m, following(parts, full));
     }
-    let bare = part_with(kinds, parts, m, 0);
+    let bare = part_with(&kinds, parts, m, 0);
     if bare < parts {
         return with_part(kinds, m, bare);
     }
@@ -127,9 +127,9 @@ fn first_spare(kinds: [u8; Layout::MAX_BLOCKS], blocks: usize) -> usize
 }
 
 // Whether part `part` has so many burst blocks: it is left as soon as it has more, or too few blocks to come.
-fn has_bursts(kinds: [u8; Layout::MAX_BLOCKS], m: usize, part: usize, wanted: usize) -> bool
+fn has_bursts(kinds: &[u8; Layout::MAX_BLOCKS], m: usize, part: usize, wanted: usize) -> bool
     requires { ⌜ part * m + m ≤ maxBlocks ⌝ }
-    ensures { λ r. ⌜ r ≡ eqb (partCount m (bursts kinds) part) wanted ⌝ }
+    ensures { λ r. ⌜ r ≡ eqb (partCount m (bursts (now (kinds .entry))) part) wanted ⌝ }
 {
     let from = part * m;
     let mut missing = wanted;
@@ -150,9 +150,9 @@ fn has_bursts(kinds: [u8; Layout::MAX_BLOCKS], m: usize, part: usize, wanted: us
 }
 
 // The first part that has so many burst blocks, or `parts`.
-fn part_with(kinds: [u8; Layout::MAX_BLOCKS], parts: usize, m: usize, wanted: usize) -> usize
+fn part_with(kinds: &[u8; Layout::MAX_BLOCKS], parts: usize, m: usize, wanted: usize) -> usize
     requires { ⌜ parts * m ≤ maxBlocks ⌝ }
-    ensures { λ r. ⌜ r ≡ partWith parts m (bursts kinds) wanted ⌝ }
+    ensures { λ r. ⌜ r ≡ partWith parts m (bursts (now (kinds .entry))) wanted ⌝ }
 {
     let mut i: usize = 0;
     while i < parts {

@@ -63,3 +63,10 @@ choose-beyond n k h =
 pub choose-of-none : (k : ℕ) → 0 < k → choose 0 k ≡ 0
 choose-of-none zero h = absurd (omega arith)
 choose-of-none (suc k) h = choose-none k
+
+-- one thing fewer chosen, out of fewer
+pub choose-before : (c n k : ℕ) → c < n → 0 < k → choose c (k - 1) ≤ choose n k
+choose-before c n zero h l = absurd (omega arith)
+choose-before c n (suc k) h l =
+    let e : suc k - 1 ≡ k = omega arith in
+    rw e (omega (arith, pascal c k, choose-mono {a = suc c} {b = n} (suc k) h))

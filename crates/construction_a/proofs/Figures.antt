@@ -9,15 +9,15 @@ use lib.Dec.{leb, ltb, eqb}
 use lib.ListN.{length}
 use Rattle.combinatorics.specs.Bursts.{apart}
 use Rattle.combinatorics.specs.Stretch.{first}
-use Rattle.combinatorics.proofs.Cases.{by-le, by-bool, leb-holds, eqb-same, eqb-true}
+use Rattle.combinatorics.proofs.Cases.{by-le, by-bool, leb-holds, leb-fails, eqb-same, eqb-true}
 use Rattle.combinatorics.proofs.Bursts.{Placed, placed-of, of-placed}
 use Rattle.combinatorics.proofs.Lists.{both}
 use Rattle.combinatorics.proofs.Stretch.{first-true, first-false}
 use Rattle.cells.specs.Digits.{span, places}
 use Rattle.cells.proofs.Digits.{span-places}
-use Rattle.construction_a.specs.Figures.{Params, maxWord, maxAlphabet, maxBursts, inRange, isPlacement, parts, blockMin, placementCount, indexValues, leastTail, indexTail, fits}
+use Rattle.construction_a.specs.Figures.{Params, maxWord, maxAlphabet, maxBursts, maxCount, counted, tooMany, countOut, inRange, isPlacement, parts, blockMin, placementCount, indexValues, leastTail, indexTail, fits}
 
--- "n is 3 to 1024, q 2 to 256, m 1 to 6, b at least 1", as facts
+-- "n is 3 to 4096, q 2 to 256, m 1 to 8, b at least 1", as facts
 pub record Ranged (f : Params) : Type 0 where
   pub n-least : 3 ≤ f .n
   pub n-most : f .n ≤ maxWord
@@ -35,6 +35,7 @@ pub record Served (f : Params) : Type 0 where
   pub most : f .m ≤ parts f
   pub long : 0 < f .b
   pub total : f .m * f .b ≤ f .n
+  pub counted : placementCount f ≤ maxCount
   pub room : indexTail f < f .n / (parts f * f .m)
   pub short : f .b ≤ f .n / (parts f * f .m) - indexTail f
 
@@ -98,27 +99,38 @@ pub serve : (f : Params) → inRange f ≡ true → fits f ≡ true → Served f
 unfolding fits blockMin
 serve f i h =
     let r = ranged f i in
-    let x = both (leb (f .m * f .b) (f .n) && ltb (indexTail f) (blockMin f)) (leb (f .b) (blockMin f - indexTail f)) h in
-    let y = both (leb (f .m * f .b) (f .n)) (ltb (indexTail f) (blockMin f)) (x .0) in
+    let c = leb (f .m * f .b) (f .n) && leb (placementCount f) maxCount in
+    let x = both (c && ltb (indexTail f) (blockMin f)) (leb (f .b) (blockMin f - indexTail f)) h in
+    let y = both c (ltb (indexTail f) (blockMin f)) (x .0) in
+    let z = both (leb (f .m * f .b) (f .n)) (leb (placementCount f) maxCount) (y .0) in
     record {
       range = r;
       three = three-parts f;
       some = r .m-least;
       most = parts-most f;
       long = r .b-least;
-      total = le-of (f .m * f .b) (f .n) (y .0);
+      total = le-of (f .m * f .b) (f .n) (z .0);
+      counted = le-of (placementCount f) maxCount (z .1);
       room = le-of (suc (indexTail f)) (blockMin f) (y .1);
       short = le-of (f .b) (blockMin f - indexTail f) (x .1);
     }
 
 -- the facts as the test again, and figures that don't fit
-pub fitting : (f : Params) → f .m * f .b ≤ f .n → indexTail f < blockMin f → f .b ≤ blockMin f - indexTail f → fits f ≡ true
+pub fitting : (f : Params) → f .m * f .b ≤ f .n → placementCount f ≤ maxCount → indexTail f < blockMin f → f .b ≤ blockMin f - indexTail f → fits f ≡ true
 unfolding fits
-fitting f total room short =
-    rw (leb-holds (f .m * f .b) (f .n) total, leb-holds (suc (indexTail f)) (blockMin f) room, leb-holds (f .b) (blockMin f - indexTail f) short)
+fitting f total count room short =
+    rw (leb-holds (f .m * f .b) (f .n) total, leb-holds (placementCount f) maxCount count, leb-holds (suc (indexTail f)) (blockMin f) room, leb-holds (f .b) (blockMin f - indexTail f) short)
 
 pub unfitting : (f : Params) → inRange f ≡ true → ¬ Served f → fits f ≡ false
 unfitting f i h = by-bool (fits f) (λ t. absurd (h (serve f i t))) (λ e. e)
+
+-- ---- a count, "its value or .. that it exceeds 9223372036854775807"
+
+pub count-given : (t : ℕ) → t ≤ maxCount → countOut t ≡ counted t
+count-given t h = rw (leb-holds t maxCount h)
+
+pub count-over : (t : ℕ) → maxCount < t → countOut t ≡ tooMany
+count-over t h = rw (leb-fails t maxCount h)
 
 -- ---- "k is n less m × (b + p + r − 1)"
 

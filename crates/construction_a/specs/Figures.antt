@@ -20,15 +20,15 @@ params n q m b = record { n = n; q = q; m = m; b = b }
 
 -- "The largest figures .. are named once"
 abbrev pub maxWord : ℕ
-maxWord = 1024
+maxWord = 4096
 
 abbrev pub maxAlphabet : ℕ
 maxAlphabet = 256
 
 abbrev pub maxBursts : ℕ
-maxBursts = 6
+maxBursts = 8
 
--- "n is 3 to 1024, q 2 to 256, m 1 to 6, b at least 1."
+-- "n is 3 to 1024, q 2 to 256, m 1 to 6, b at least 1"; document 02, ticket 11: "Raise n to 4096, m to 8"
 unfoldable pub inRange : Params → Bool
 inRange f =
     leb 3 (f .n) && leb (f .n) maxWord && leb 2 (f .q) && leb (f .q) maxAlphabet && leb 1 (f .m) && leb (f .m) maxBursts && leb 1 (f .b)
@@ -61,6 +61,17 @@ blockMin f = f .n / (parts f * f .m)
 abbrev pub placementCount : Params → ℕ
 placementCount f = placements (f .n) (f .m) (f .b)
 
+-- document 02, ticket 11: "The count of placements must now give its value or say that it exceeds 9223372036854775807"
+abbrev pub maxCount : ℕ
+maxCount = 9223372036854775807
+
+pub data Counted : Type 0 where
+  counted : ℕ → Counted
+  tooMany : Counted
+
+abbrev pub countOut : ℕ → Counted
+countOut t = cond (leb t maxCount) (counted t) tooMany
+
 -- "An I-block's first 1 + r symbols can spell q − 1 values in the first place and q in each of the r others": what m of them spell
 abbrev pub indexValues : ℕ → ℕ → ℕ → ℕ
 indexValues q m r = ((q - 1) * q ^ r) ^ m
@@ -74,9 +85,10 @@ leastTail q m count limit = first limit 0 (λ r. leb count (indexValues q m r))
 unfoldable pub indexTail : Params → ℕ
 indexTail f = leastTail (f .q) (f .m) (placementCount f) (blockMin f)
 
--- "Figures fit when m × b is at most n, r is below L, and b is at most L − r."
+-- "Figures fit when m × b is at most n, r is below L, and b is at most L − r." Ticket 11: "figures over that [count] are 2, judged once m × b is
+-- found to be at most n and before r is sought"
 unfoldable pub fits : Params → Bool
-fits f = leb (f .m * f .b) (f .n) && ltb (indexTail f) (blockMin f) && leb (f .b) (blockMin f - indexTail f)
+fits f = leb (f .m * f .b) (f .n) && leb (placementCount f) maxCount && ltb (indexTail f) (blockMin f) && leb (f .b) (blockMin f - indexTail f)
 
 -- "A message has k symbols, possibly none: k is n less m × (b + p + r − 1)."
 unfoldable pub messageLen : Params → ℕ

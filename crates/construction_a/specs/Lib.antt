@@ -1,4 +1,5 @@
 pub mod Figures
+pub mod Former
 pub mod Writing
 pub mod Ranking
 pub mod Reading

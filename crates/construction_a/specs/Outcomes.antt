@@ -13,7 +13,7 @@ use Rattle.construction_a.specs.Figures.{Params, maxBursts, inRange, fit
 use Rattle.construction_a.specs.Writing.{rank, placementOf, word}
 use Rattle.construction_a.specs.Reading.{read}
 
--- "A placement is held as six starts and the count in use."
+-- "A placement is held as six starts and the count in use", eight since document 02, ticket 11
 pub record Held : Type 0 where
   pub starts : List ℕ
   pub count : ℕ

@@ -8,12 +8,10 @@ use native.Mathlib.Numerals.{add-one}
 use native.Mathlib.Omega.{arith}
 use lib.ListN.{length, take}
 use lib.Pow.{pow-add, pow-mono}
-use Rattle.combinatorics.specs.Bursts.{contracted}
 use Rattle.combinatorics.proofs.Cases.{by-le}
 use Rattle.cells.specs.Cells.{weave}
 use Rattle.cells.specs.Digits.{span, spell, places}
 use Rattle.cells.proofs.Digits.{span-places, span-first, span-longer, length-places, length-spell}
-use Rattle.binomials.proofs.Bounds.{mostWays, choose-fits}
 use Rattle.construction_a.specs.Figures.{Params, isPlacement, placementCount, indexTail}
 use Rattle.construction_a.specs.Writing.{plan, rank, word}
 use Rattle.construction_a.proofs.Figures.{Served, index-least, span-enough}
@@ -23,9 +21,9 @@ use Rattle.params.specs.declared.Layout.{Layout}
 use Rattle.params.proofs.Fitting.{served}
 use Rattle.encoder.specs.Digits.{maxDigits, Spellable}
 
--- the largest count of placements is below this power of 2
+-- the largest count of placements that is served is below this power of 2
 abbrev countBits : ℕ
-countBits = 51
+countBits = 63
 
 -- r further symbols spell at least as many values as that many bits a block
 span-least : (q m r : ℕ) → 2 ≤ q → 2 ^ (m * r) ≤ span q (places m r)
@@ -35,12 +33,6 @@ span-least q m (suc r) h =
     (mul-le-mul (span-least q m r h) (pow-le-pow-left h m))
 
 module _ (f : Params) (ok : Served f) where
-  ways-most : placementCount f ≤ mostWays
-  unfolding Rattle.combinatorics.specs.Bursts.placements
-  ways-most =
-      choose-fits (contracted (f .n) (f .m) (f .b)) (f .m)
-      (omega (arith, le-mul-of-pos-right (f .m) (ok .long), ok .range .n-most, ok .total)) (ok .range .m-most)
-
   -- one symbol fewer would not do, so it spells fewer values than there are placements
   fewer : (r : ℕ) → indexTail f ≡ suc r → f .m * r < countBits
   fewer r e =
@@ -48,7 +40,7 @@ module _ (f : Params) (ok : Served f) where
       (λ l. absurd (omega (
         arith,
         index-least f r
-            (omega (arith, ways-most, span-least (f .q) (f .m) r (ok .range .q-least), span-places (f .q) (f .m) r, pow-mono {i = countBits} {j = f .m * r} l)),
+            (omega (arith, ok .counted, span-least (f .q) (f .m) r (ok .range .q-least), span-places (f .q) (f .m) r, pow-mono {i = countBits} {j = f .m * r} l)),
         e,
       )))
       (λ l. l)

@@ -34,14 +34,14 @@ pub fn index_read(layout: Layout, heads: &[u16; Layout::MAX_HEADS], word: &[u8])
     requires { ⌜ Finding layout (now word) × HeadsOf (figuresOf layout) (now heads) ⌝ }
     ensures { λ r. ⌜ indexIn (layout .m) r ≡ indexFound (partsOf (figuresOf layout)) (layout .m) (looksFixed (figuresOf layout) (now (word .entry))) ⌝ }
 {
-    index_found(looks_of(layout, heads, word), layout.parts, layout.m)
+    index_found(&looks_of(layout, heads, word), layout.parts, layout.m)
 }
 
 // The index blocks that the blocks which look fixed show: every block of the part without such a block, or of the later of two such parts, or one
 // block of each part.
-pub fn index_found(looks: [u8; Layout::MAX_BLOCKS], parts: usize, m: usize) -> IndexBlocks
+pub fn index_found(looks: &[u8; Layout::MAX_BLOCKS], parts: usize, m: usize) -> IndexBlocks
     requires { ⌜ Parted parts m ⌝ }
-    ensures { λ r. ⌜ indexIn m r ≡ indexFound parts m (looksIn looks) ⌝ }
+    ensures { λ r. ⌜ indexIn m r ≡ indexFound parts m (looksIn (now (looks .entry))) ⌝ }
 {
     let bare = bare_parts(looks, parts, m);
     let part = bare.later(parts);
@@ -76,9 +76,9 @@ fn whole_part(m: usize, part: usize) -> IndexBlocks
 }
 
 // One block of each part, where each part shows one.
-fn one_each(looks: [u8; Layout::MAX_BLOCKS], parts: usize, m: usize) -> IndexBlocks
+fn one_each(looks: &[u8; Layout::MAX_BLOCKS], parts: usize, m: usize) -> IndexBlocks
     requires { ⌜ Parted parts m ⌝ }
-    ensures { λ r. ⌜ indexIn parts r ≡ collect parts 0 (indexInPart m (looksIn looks)) ⌝ }
+    ensures { λ r. ⌜ indexIn parts r ≡ collect parts 0 (indexInPart m (looksIn (now (looks .entry)))) ⌝ }
 {
     let mut blocks = [0u8; Placement::MAX];
     let mut i: usize = 0;
@@ -97,9 +97,9 @@ fn one_each(looks: [u8; Layout::MAX_BLOCKS], parts: usize, m: usize) -> IndexBlo
 }
 
 // The parts without a block that looks fixed: all their blocks are open.
-fn bare_parts(looks: [u8; Layout::MAX_BLOCKS], parts: usize, m: usize) -> Candidates
+fn bare_parts(looks: &[u8; Layout::MAX_BLOCKS], parts: usize, m: usize) -> Candidates
     requires { ⌜ Parted parts m ⌝ }
-    ensures { λ r. ⌜ r ≡ candidatesOf (bareParts parts m (looksIn looks)) ⌝ }
+    ensures { λ r. ⌜ r ≡ candidatesOf (bareParts parts m (looksIn (now (looks .entry)))) ⌝ }
 {
     let mut bare = Candidates::none();
     let mut i: usize = 0;
@@ -114,9 +114,9 @@ fn bare_parts(looks: [u8; Layout::MAX_BLOCKS], parts: usize, m: usize) -> Candid
 }
 
 // The blocks of a part that don't look fixed, counted within the part.
-fn open_blocks(looks: [u8; Layout::MAX_BLOCKS], m: usize, part: usize) -> Candidates
+fn open_blocks(looks: &[u8; Layout::MAX_BLOCKS], m: usize, part: usize) -> Candidates
     requires { ⌜ part * m + m ≤ maxBlocks ⌝ }
-    ensures { λ r. ⌜ r ≡ candidatesOf (openBlocks m (looksIn looks) part) ⌝ }
+    ensures { λ r. ⌜ r ≡ candidatesOf (openBlocks m (looksIn (now (looks .entry))) part) ⌝ }
 {
     let from = part * m;
     let mut shown = Candidates::none();

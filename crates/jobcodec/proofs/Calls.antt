@@ -6,7 +6,7 @@ use mathlib.Core.List.{List, []}
 use Prim.Native.Nat.{ℕ, _≤_, _<_}
 use native.Mathlib.Omega.{arith}
 use lib.Dec.{eqb}
-use lib.ListN.{length, take, replicate}
+use lib.ListN.{length, take, replicate, length-replicate}
 use lib.Seq.{length-take-le}
 use Rattle.refusals.specs.Refusals.{must, served, invalid, unfit, wrongLength, badStarts, badPayload}
 use Rattle.combinatorics.specs.Bursts.{apart}
@@ -73,8 +73,9 @@ module _ (f : Params) (l : Layout) (es : List Entry) (h : Laid f l es) where
   unfolding messageLen
   message-short = omega (arith, h .layout .len-is, h .layout .n-is, laid-bounds .n-most)
 
-  pub room-is : length {A = ℕ} (take (l .«message_len») (replicate maxWord 0)) ≡ messageLen f
-  room-is = length-take-le {A = ℕ} (l .«message_len») (replicate maxWord 0) message-short ∙ h .layout .len-is
+  -- what is lent of an array that has room for the message
+  pub room-is : (room : ℕ) → l .«message_len» ≤ room → length {A = ℕ} (take (l .«message_len») (replicate room 0)) ≡ messageLen f
+  room-is room le = length-take-le {A = ℕ} (l .«message_len») (replicate room 0) (omega (arith, length-replicate {A = ℕ} room 0)) ∙ h .layout .len-is
 
   -- five bytes or more
   pub ready : (count : ℕ) → count ≡ payloadLen (l .q) (l .«message_len») → 5 ≤ count → Ready f es

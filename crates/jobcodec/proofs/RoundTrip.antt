@@ -89,9 +89,9 @@ module _ (f : Params) (es : List Entry) (at : Held) (payload out : List ℕ) whe
   pub written-word : Written f es at payload out → jobWriteOut f es at payload out .word ≡ word f (inUse at) (messageOf (f .q) (messageLen f) payload)
   written-word wr = rw (past-lengths f es at payload out (wr .ready) (wr .count) (wr .long) (wr .lent), wr .placed, wr .is-open)
 
-  -- ---- Reading it back, from six starts and K bytes
+  -- ---- Reading it back, from a placement and K bytes
 
-  module _ (six : length (at .starts) ≡ maxBursts) (bytes : allBelow byteValues payload ≡ true) where
+  module _ (sized : length (at .starts) ≡ maxBursts) (bytes : allBelow byteValues payload ≡ true) where
     -- placement and payload are a pair that gives every word that agrees with the written one outside the bursts
     pub written-gives : (w : List ℕ) → Written f es at payload out
         → ((x : ℕ) → x < f .n → inBurst (f .b) (inUse at) x ≡ false → getD w x 0 ≡ getD (jobWriteOut f es at payload out .word) x 0)

@@ -6,16 +6,28 @@ use native.Mathlib.Nat.{mul-pos, mul-le-mul, le-mul-of-pos-right, div-le-self}
 use native.Mathlib.Omega.{arith}
 use Rattle.refusals.specs.Refusals.{unfit}
 use Rattle.combinatorics.specs.Bursts.{contracted}
-use Rattle.construction_a.specs.Figures.{Params, maxWord, maxBursts, inRange, fits, parts, blockMin, placementCount, leastTail, indexTail, messageLen}
+use Rattle.construction_a.specs.Figures.{Params, maxWord, maxBursts, maxCount, inRange, fits, parts, blockMin, placementCount, leastTail, indexTail, messageLen}
 use Rattle.construction_a.specs.Outcomes.{figured, unserved, figuresOut}
 use Rattle.construction_a.proofs.Figures.{Ranged, ranged, Served, serve, three-parts, parts-few, fitting, unfitting, message-room}
 use Rattle.construction_a.proofs.Outcomes.{figures-unfit, figures-served}
 
--- ---- Figures in range whose bursts a word can hold, and p
+-- ---- Figures in range whose bursts a word can hold, and their count
+
+module _ (f : Params) (range : inRange f ≡ true) (total : f .m * f .b ≤ f .n) where
+  -- no more to choose from than the word has symbols
+  pub contracted-fits : contracted (f .n) (f .m) (f .b) ≤ maxWord
+  contracted-fits = let r = ranged f range in omega (arith, le-mul-of-pos-right (f .m) (r .b-least), r .n-most)
+
+  -- "figures over that are 2"
+  pub count-unfit : maxCount < placementCount f → figuresOut f ≡ unserved unfit
+  count-unfit l = figures-unfit f range (unfitting f range (λ ok. omega (arith, ok .counted)))
+
+-- ---- p, where they can be counted
 
 pub record Parted (f : Params) (p : ℕ) : Type 0 where
   pub range : inRange f ≡ true
   pub total : f .m * f .b ≤ f .n
+  pub counted : placementCount f ≤ maxCount
   pub p-is : p ≡ parts f
 
 module _ {f : Params} {p : ℕ} (h : Parted f p) where
@@ -27,10 +39,6 @@ module _ {f : Params} {p : ℕ} (h : Parted f p) where
 
   pub blocks-few : p * f .m ≤ maxBursts * maxBursts
   blocks-few = rw (h .p-is) (mul-le-mul {n₂ = maxBursts} {m₂ = maxBursts} (parts-few f in-range) (in-range .m-most))
-
-  -- no more to choose from than the word has symbols
-  pub contracted-fits : contracted (f .n) (f .m) (f .b) ≤ maxWord
-  contracted-fits = omega (arith, le-mul-of-pos-right (f .m) (in-range .b-least), in-range .n-most, h .total)
 
   pub min-is : f .n / (p * f .m) ≡ blockMin f
   unfolding blockMin
@@ -72,7 +80,7 @@ module _ {f : Params} {p r : ℕ} (h : Fitted f p r) where
   parted = h .searched .parted
 
   fit : fits f ≡ true
-  fit = fitting f (parted .total) (omega (arith, min-is parted, tail-is (h .searched), h .room)) (omega (arith, min-is parted, tail-is (h .searched), h .short))
+  fit = fitting f (parted .total) (parted .counted) (omega (arith, min-is parted, tail-is (h .searched), h .room)) (omega (arith, min-is parted, tail-is (h .searched), h .short))
 
   pub taken-fits : f .m * (f .b + p + r - 1) ≤ f .n
   taken-fits = rw (parted .p-is, tail-is (h .searched)) (message-room f (serve f (parted .range) fit))

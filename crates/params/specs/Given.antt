@@ -12,6 +12,10 @@ use Rattle.params.specs.declared.Layout.{Layout}
 abbrev pub maxBlocks : ℕ
 maxBlocks = maxBursts * maxBursts
 
+-- the symbols of a short word, for which a shorter array is lent
+abbrev pub shortWord : ℕ
+shortWord = 1024
+
 -- the figures of a layout
 abbrev pub figuresOf : Layout → Params
 figuresOf l = params (l .n) (l .q) (l .m) (l .b)

@@ -1,7 +1,7 @@
 // Where the blocks of a word start, worked out once for a reading or a writing, which asks for it many times. Assumes nothing.
 ghost use mathlib.Core.Path.{_≡_};
-ghost use Prim.Native.Nat.{ℕ, _+_, _≤_, _<_};
-ghost use lib.ListN.{getD};
+ghost use Prim.Native.Nat.{ℕ, suc, _+_, _≤_, _<_};
+ghost use lib.ListN.{length, getD};
 ghost use Rattle.cells.specs.Cut.{pieceStart};
 ghost use Rattle.construction_a.specs.Figures.{maxWord};
 ghost use Rattle.params.specs.Given.{maxBlocks, figuresOf, Fitting, HeadsOf};
@@ -20,32 +20,24 @@ pub fn heads_of(layout: Layout) -> [u16; Layout::MAX_HEADS]
     while i < parts {
         let from = cut::piece_start(layout.n, parts, i);
         let len = cut::piece_len(layout.n, parts, i);
-        let next = with_part(heads, i * m, m, from, len);
-        heads = next;
+        put_part(&mut heads, i * m, m, from, len);
         i += 1;
     }
     heads[parts * m] = layout.n as u16;
     heads
 }
 
-// The same with the m blocks of a part of this length: their numbers go from `first` on, their positions from `from` on.
-fn with_part(
-    heads: [u16; Layout::MAX_HEADS],
-    first: usize,
-    m: usize,
-    from: usize,
-    len: usize,
-) -> [u16; Layout::MAX_HEADS]
-    requires { ⌜ (0 < m) × (first + m ≤ maxBlocks) × (from + len ≤ maxWord) ⌝ }
-    ensures before { λ r. ⌜ ((k : ℕ) → k < first → getD r k 0 ≡ getD heads k 0) ⌝ }
-    ensures part { λ r. ⌜ ((j : ℕ) → j < m → getD r (first + j) 0 ≡ from + pieceStart len m j) ⌝ }
+// The m blocks of a part of this length: their numbers go from `first` on, their positions from `from` on.
+fn put_part(heads: &mut [u16; Layout::MAX_HEADS], first: usize, m: usize, from: usize, len: usize)
+    requires { ⌜ (0 < m) × (first + m ≤ maxBlocks) × (from + len ≤ maxWord) × (length (now heads) ≡ suc maxBlocks) ⌝ }
+    ensures size { λ _. ⌜ length (now (heads .exit)) ≡ suc maxBlocks ⌝ }
+    ensures before { λ _. ⌜ ((k : ℕ) → k < first → getD (now (heads .exit)) k 0 ≡ getD (now (heads .entry)) k 0) ⌝ }
+    ensures part { λ _. ⌜ ((j : ℕ) → j < m → getD (now (heads .exit)) (first + j) 0 ≡ from + pieceStart len m j) ⌝ }
 {
-    let mut next = heads;
     let mut j: usize = 0;
     while j < m {
         let head = from + cut::piece_start(len, m, j);
-        next[first + j] = head as u16;
+        heads[first + j] = head as u16;
         j += 1;
     }
-    next
 }

@@ -2,13 +2,14 @@
 ghost use mathlib.Core.Path.{_≡_};
 ghost use mathlib.Core.Bool.{true};
 ghost use Prim.Native.Nat.{_*_, _≤_};
-ghost use Rattle.construction_a.specs.Figures.{params, inRange, parts as partsOf};
+ghost use Rattle.construction_a.specs.Figures.{params, inRange, maxCount, placementCount, parts as partsOf};
 ghost use Rattle.construction_a.specs.Outcomes.{figuresNumber, figuresOut};
 ghost use Rattle.cells.specs.Cut.{blockHead, blockWith};
 ghost use Rattle.params.specs.Bridge.{given};
 ghost use Rattle.params.specs.Answer.{figuredAs, layoutNumber, LaidIn};
 ghost use Rattle.params.specs.Blocks.{HasPosition};
 ghost use Rattle.params.specs.Given.{figuresOf, Fitting, HeadsOf};
+use binomials::CountAnswer;
 use refusals::Refusal;
 
 pub mod bytes;
@@ -47,7 +48,10 @@ pub enum LayoutAnswer {
 impl Params {
     pub const MIN_WORD: u32 = 3;
 
-    pub const MAX_WORD: u32 = 1024;
+    pub const MAX_WORD: u32 = 4096;
+
+    // Strips of up to so many symbols are lent a shorter local array: an array is cleared as a whole, and a short strip should not pay for a long one.
+    pub const SHORT_WORD: u32 = 1024;
 
     pub const MIN_ALPHABET: u32 = 2;
 
@@ -55,7 +59,7 @@ impl Params {
 
     pub const MIN_BURSTS: u32 = 1;
 
-    pub const MAX_BURSTS: u32 = 6;
+    pub const MAX_BURSTS: u32 = 8;
 
     pub const MIN_BURST_LEN: u32 = 1;
 
@@ -111,14 +115,27 @@ impl Params {
         ensures answer { λ r. ⌜ figuredAs r ≡ figuresOut (given self) ⌝ }
         ensures layout { λ r. ⌜ LaidIn (given self) r ⌝ }
     {
+        let things = (self.n - self.m * self.b + self.m) as u64;
+        let count = binomials::count(things, self.m as u64);
+        match count {
+            CountAnswer::Ways(placements) => self.counted(placements),
+            CountAnswer::TooMany => LayoutAnswer::Refused(Refusal::UNFIT),
+        }
+    }
+
+    // The same for figures whose placements are counted. Refusal: 2.
+    fn counted(self, count: u64) -> LayoutAnswer
+        requires { ⌜ (inRange (given self) ≡ true) × (self .m * self .b ≤ self .n) × (count ≡ placementCount (given self)) × (count ≤ maxCount) ⌝ }
+        ensures answer { λ r. ⌜ figuredAs r ≡ figuresOut (given self) ⌝ }
+        ensures layout { λ r. ⌜ LaidIn (given self) r ⌝ }
+    {
         let n = self.n as usize;
         let q = self.q as u64;
         let m = self.m as usize;
         let b = self.b as usize;
         let parts = self.parts();
         let block_min = n / (parts * m);
-        let placement_count = binomials::choose((n - m * b + m) as u64, m as u64);
-        let index_tail = tail::least_tail(q, m, placement_count, block_min);
+        let index_tail = tail::least_tail(q, m, count, block_min);
         if block_min <= index_tail {
             return LayoutAnswer::Refused(Refusal::UNFIT);
         }
@@ -133,7 +150,7 @@ impl Params {
             b,
             parts,
             block_min,
-            placement_count,
+            placement_count: count,
             index_tail,
             message_len,
         })

@@ -8,11 +8,11 @@ use lib.Dec.{ltb, eqb}
 use lib.ListN.{length, replicate}
 use lib.Seq.{take-append-seam}
 use Rattle.refusals.specs.Refusals.{must, served, wrongLength, badSymbol, uncovered}
-use Rattle.combinatorics.specs.Bursts.{apart, coverRank}
+use Rattle.combinatorics.specs.Bursts.{apart, rankOf, coverRank}
 use Rattle.combinatorics.specs.Lists.{allBelow}
 use Rattle.combinatorics.proofs.Cases.{eqb-same, eqb-other}
 use Rattle.combinatorics.proofs.Loops.{apart-longer}
-use Rattle.construction_a.specs.Figures.{Params, maxWord, maxBursts, inRange, fits, placementCount}
+use Rattle.construction_a.specs.Figures.{Params, maxWord, maxBursts, maxCount, inRange, fits, placementCount}
 use Rattle.construction_a.specs.Outcomes.{inUse, held, worn, unserved, figuresOut, unplaced, coverOut}
 use Rattle.construction_a.specs.Writing.{placementOf}
 use Rattle.construction_a.proofs.Figures.{Served}
@@ -24,8 +24,8 @@ pub room-of : (f : Params) → Served f → Room (f .n) (f .m) (f .b)
 room-of f ok = record { short = ok .range .n-most; few = ok .range .m-most; some = ok .long; within = ok .total }
 
 -- a placement that passed the test for refusal 5
-pub rankable : {p : Placement} (n b : ℕ) → p .count ≤ maxBursts → n ≤ maxWord → 1 ≤ b → apart b n 0 (startsIn p) ≡ true → Rankable p b
-rankable {p} n b few short some valid = record { few = few; some = some; valid = apart-longer b n maxWord 0 (startsIn p) short valid }
+pub rankable : {p : Placement} (n b : ℕ) → p .count ≤ maxBursts → n ≤ maxWord → 1 ≤ b → apart b n 0 (startsIn p) ≡ true → rankOf b (startsIn p) ≤ maxCount → Rankable p b
+rankable {p} n b few short some valid small = record { few = few; some = some; valid = apart-longer b n maxWord 0 (startsIn p) short valid; small = small }
 
 pub starts-held : {p : Placement} (ss : List ℕ) → heldAs p ≡ held ss → startsIn p ≡ ss
 starts-held ss e = ap inUse e ∙ take-append-seam ss (replicate (maxBursts - length ss) 0)

@@ -19,8 +19,8 @@ use Rattle.placements.specs.declared.Placement.{Placement}
 -- a placement that passed the tests for refusals 3 and 5
 pub placing-of : (l : Layout) (at : Placement) → length (at .starts) ≡ maxBursts → Fitting l → at .count ≡ l .m → apart (l .b) (l .n) 0 (startsIn at) ≡ true → Placing l at
 unfolding isPlacement
-placing-of l at six g e valid =
-    let count : length (startsIn at) ≡ l .m = length-take-le (at .count) (at .starts) (omega (arith, served l g .range .m-most, six)) ∙ e in
+placing-of l at sized g e valid =
+    let count : length (startsIn at) ≡ l .m = length-take-le (at .count) (at .starts) (omega (arith, served l g .range .m-most, sized)) ∙ e in
     record { layout = g; count = e; placed = rw (eqb-same (length (startsIn at)) (l .m) count) valid }
 
 module _ (l : Layout) (at : Placement) (g : Placing l at) where

@@ -4,15 +4,15 @@ use mathlib.Core.Bool.{Bool, true, cond}
 use mathlib.Core.List.{List, []}
 use Prim.Native.Nat.{ℕ, _*_, _≤_}
 use lib.Dec.{ltb}
-use Rattle.combinatorics.specs.Bursts.{apart, placements, startsOf, coverRank}
-use Rattle.construction_a.specs.Figures.{maxWord, maxBursts, isPlacement}
+use Rattle.combinatorics.specs.Bursts.{apart, placements, rankOf, startsOf, coverRank}
+use Rattle.construction_a.specs.Figures.{maxWord, maxBursts, maxCount, isPlacement}
 use Rattle.construction_a.specs.Outcomes.{Held, inUse, held, worn, Covered}
 use Rattle.params.specs.Given.{figuresOf, Fitting}
 use Rattle.params.specs.declared.Layout.{Layout}
 use Rattle.placements.specs.declared.Placement.{Placement}
 use Rattle.placements.specs.declared.CoverAnswer.{CoverAnswer}
 
--- "A placement is held as six starts and the count in use."
+-- "A placement is held as six starts and the count in use", eight since document 02, ticket 11
 abbrev pub heldAs : Placement → Held
 heldAs p = record { starts = p .starts; count = p .count }
 
@@ -20,11 +20,12 @@ heldAs p = record { starts = p .starts; count = p .count }
 abbrev pub startsIn : Placement → List ℕ
 startsIn p = inUse (heldAs p)
 
--- a placement that has a rank: its bursts are apart, and within the longest word
+-- a placement that has a rank: its bursts are apart, and within the longest word, and the rank is no larger than a count can be
 pub record Rankable (p : Placement) (b : ℕ) : Type 0 where
   pub few : p .count ≤ maxBursts
   pub some : 1 ≤ b
   pub valid : apart b maxWord 0 (startsIn p) ≡ true
+  pub small : rankOf b (startsIn p) ≤ maxCount
 
 -- m bursts of b have room among n positions, within the limits
 pub record Room (n m b : ℕ) : Type 0 where

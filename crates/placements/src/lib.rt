@@ -9,7 +9,7 @@ ghost use Rattle.combinatorics.specs.Choose.{choose};
 ghost use Rattle.combinatorics.specs.Rank.{ways};
 ghost use Rattle.combinatorics.specs.Stretch.{top, lastEnd};
 ghost use Rattle.binomials.specs.Limits.{maxThings, maxChosen};
-ghost use Rattle.construction_a.specs.Figures.{maxWord, maxBursts, inRange, fits};
+ghost use Rattle.construction_a.specs.Figures.{maxWord, maxBursts, maxCount, inRange, fits};
 ghost use Rattle.construction_a.specs.Outcomes.{held, worn, unplaced as unplacedAs, coverOut};
 ghost use Rattle.params.specs.Bridge.{given};
 ghost use Rattle.placements.specs.Bridge.{heldAs, coveredAs, startsIn, coverable, leastCover, Rankable, Room};
@@ -17,7 +17,8 @@ use params::LayoutAnswer;
 use params::Params;
 use refusals::Refusal;
 
-// "A placement is held as six starts and the count in use." Starts past the count are 0 in an answer and unread in a call.
+// "A placement is held as six starts and the count in use"; document 02, ticket 11: "Raise .. a placement's starts to eight." Starts past the
+// count are 0 in an answer and unread in a call.
 pub struct Placement {
     pub starts: [u16; Placement::MAX],
     pub count: u32,
@@ -81,7 +82,7 @@ impl Placement {
     // The placement of m bursts of b among n positions that has this rank. The last burst's reduced start is the largest whose share of
     // the rank is not too much; what is left is the rank of the bursts before it.
     pub fn unrank(n: u32, m: u32, b: u32, rank: u64) -> Self
-        requires { ⌜ Room n m b × (rank < placements n m b) ⌝ }
+        requires { ⌜ Room n m b × (placements n m b ≤ maxCount) × (rank < placements n m b) ⌝ }
         ensures { λ r. ⌜ heldAs r ≡ held (startsOf n m b rank) ⌝ }
     {
         let gap = (b - 1) as u64;
@@ -114,7 +115,7 @@ struct LastBurst {
 // Its reduced start is the largest number below `below` out of which `number` things can be chosen in at most `rank` ways: a search by halves,
 // but that one thing can be chosen in as many ways as there are things.
 fn last_burst(below: u64, number: u64, rank: u64) -> LastBurst
-    requires { ⌜ (below ≤ maxThings) × (1 ≤ number) × (number ≤ maxChosen) × (rank < choose below number) ⌝ }
+    requires { ⌜ (below ≤ maxThings) × (1 ≤ number) × (number ≤ maxChosen) × (choose below number ≤ maxCount) × (rank < choose below number) ⌝ }
     ensures reduced { λ r. ⌜ r .reduced ≡ top (ways number) below rank ⌝ }
     ensures share { λ r. ⌜ r .share ≡ choose (r .reduced) number ⌝ }
 {

@@ -15,7 +15,7 @@ use Rattle.combinatorics.proofs.Cases.{by-le, by-bool, eqb-same, eqb-other, leb
 use Rattle.combinatorics.proofs.Stretch.{Each, top-only}
 use Rattle.cells.specs.Cells.{burst, fixed, digit, message}
 use Rattle.cells.proofs.Cut.{block-with, block-first, block-end, block-next, block-rises}
-use Rattle.construction_a.specs.Figures.{Params, parts, blocks, headOf, blockOf, indexTail}
+use Rattle.construction_a.specs.Figures.{Params, maxBursts, parts, blocks, headOf, blockOf, indexTail}
 use Rattle.construction_a.specs.Writing.{isBurst, isIndex, cellOf, kindAt}
 use Rattle.construction_a.proofs.Figures.{Served}
 use Rattle.construction_a.proofs.Plan.{ends-burst, head-clear, index-not-burst, kind-is}
@@ -346,5 +346,5 @@ module _ (l : Layout) (at : Placement) (g : Placing l at) where
   unfolding passedBy
   passed-no i x q d = rw (leb-holds (suc i) (length (startsIn at)) (omega (arith, starts-count l at g)), start-is l at g i q, leb-fails (getD (at .starts) i 0 + l .b) x d)
 
-  pub few : l .m ≤ 6
+  pub few : l .m ≤ maxBursts
   few = served l (g .layout) .range .m-most

@@ -19,6 +19,7 @@ fn main() {
         m: 2,
         b: 10,
     });
+    longer_rows();
     sound_row();
     worn_row();
     first_written();
@@ -26,6 +27,25 @@ fn main() {
     third_written();
     read_rows();
     table_rows();
+}
+
+// Strips of up to 4096 symbols and eight bursts: the largest counts, and where a longer burst fits and a shorter one has too many placements.
+fn longer_rows() {
+    byte_row(4096, 6, 1);
+    byte_row(4096, 6, 112);
+    byte_row(4096, 7, 1);
+    byte_row(1999, 7, 39);
+    byte_row(999, 8, 15);
+    byte_row(888, 8, 1);
+    byte_row(888, 8, 2);
+    byte_row(64, 8, 1);
+    byte_row(4097, 1, 1);
+    byte_row(4096, 9, 1);
+}
+
+// Symbols that are bytes.
+fn byte_row(n: u32, m: u32, b: u32) {
+    figures_row(Params { n, q: 256, m, b });
 }
 
 // The answer to figures alone: T, r and k, or the refusal.
@@ -65,7 +85,7 @@ fn first_written() {
     let message = [1u8; 20];
     let mut word = [0u8; 30];
     let at = Placement {
-        starts: [12, 0, 0, 0, 0, 0],
+        starts: [12, 0, 0, 0, 0, 0, 0, 0],
         count: 1,
     };
     let answer = encoder::encode(first_strip(), at, &message, &mut word);
@@ -76,7 +96,7 @@ fn second_written() {
     let message = [2u8; 44];
     let mut word = [0u8; 60];
     let at = Placement {
-        starts: [8, 12, 0, 0, 0, 0],
+        starts: [8, 12, 0, 0, 0, 0, 0, 0],
         count: 2,
     };
     let figures = Params {
@@ -93,7 +113,7 @@ fn third_written() {
     let message = [2u8; 66];
     let mut word = [0u8; 90];
     let at = Placement {
-        starts: [22, 30, 65, 0, 0, 0],
+        starts: [22, 30, 65, 0, 0, 0, 0, 0],
         count: 3,
     };
     let figures = Params {

@@ -10,7 +10,7 @@ use lib.ListN.{length, take, drop, replicate}
 use Rattle.refusals.specs.Refusals.{must, served, invalid, unfit, wrongLength, badPayload}
 use Rattle.combinatorics.proofs.Cases.{eqb-same, eqb-other, eqb-true, leb-holds, leb-fails}
 use Rattle.cells.specs.Bytes.{payloadLen}
-use Rattle.construction_a.specs.Figures.{Params, maxWord, inRange, fits, messageLen}
+use Rattle.construction_a.specs.Figures.{Params, inRange, fits, messageLen}
 use Rattle.construction_a.specs.Outcomes.{Held, Encoded, figuresOut}
 use Rattle.jobs.specs.declared.Entry.{Entry}
 use Rattle.jobs.specs.Replay.{kindOf, callBy, isLetter}
@@ -73,8 +73,8 @@ take-replicate (suc n) zero a h = absurd (omega arith)
 take-replicate (suc n) (suc m) a h = ap {B = List ℕ} (λ r. a ∷ r) (take-replicate n m a (omega arith))
 
 -- the first n places of a buffer that holds 0
-pub zeros : (n : ℕ) → n ≤ maxWord → take {A = ℕ} n (replicate maxWord 0) ≡ replicate n 0
-zeros n h = take-replicate n maxWord 0 h
+pub zeros : (n room : ℕ) → n ≤ room → take {A = ℕ} n (replicate room 0) ≡ replicate n 0
+zeros n room h = take-replicate n room 0 h
 
 module _ (r : StepAnswer) (before line : List ℕ) (s : Session) where
   pub shown-write : (f f′ : Params) (at at′ : Held) (y y′ w w′ : List ℕ) → f ≡ f′ → at ≡ at′ → y ≡ y′ → w ≡ w′

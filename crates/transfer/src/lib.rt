@@ -61,6 +61,8 @@ const BYTE_VALUES: u16 = 256;
 
 const MAX_WORD: usize = Params::MAX_WORD as usize;
 
+const SHORT_WORD: usize = Params::SHORT_WORD as usize;
+
 impl Session {
     // "any record after the 4294967295th" is refused.
     pub const MAX_RECORDS: u32 = 4294967295;
@@ -254,6 +256,17 @@ fn write_laid(session: Session, layout: Layout, received: &[u8], line: &mut [u8]
     let n = layout.n;
     let at = placement_in(received, m);
     let from = HEAD_LEN + 2 * m;
+    if n <= SHORT_WORD {
+        let mut short = [0u8; SHORT_WORD];
+        return write_word(
+            session,
+            figures,
+            at,
+            &received[from..],
+            &mut short[..n],
+            line,
+        );
+    }
     let mut word = [0u8; MAX_WORD];
     write_word(
         session,
@@ -305,6 +318,16 @@ fn read_laid(session: Session, layout: Layout, received: &[u8], line: &mut [u8])
 {
     let figures = figures_of(layout);
     let count = bytes::payload_len(layout.q, layout.message_len);
+    if count <= SHORT_WORD {
+        let mut short = [0u8; SHORT_WORD];
+        return read_payload(
+            session,
+            figures,
+            &received[HEAD_LEN..],
+            &mut short[..count],
+            line,
+        );
+    }
     let mut payload = [0u8; MAX_WORD];
     read_payload(
         session,

@@ -7,7 +7,7 @@ use std::sync::mpsc;
 use std::time::{Duration, Instant};
 
 use agree::rng::Rng;
-use agree::streams::{served, stream};
+use agree::streams::{figures_alone, served, stream};
 use second::transfer::transfer;
 use second::Figures;
 
@@ -97,18 +97,21 @@ fn compare(program: &str, streams: u64, seed: u64) -> ExitCode {
         let piece = rng.pick(&[usize::MAX, usize::MAX, usize::MAX, 7, 100, 4096]);
         tally.compare(program, &input, piece);
     }
-    for (n, q, m, b) in [
-        (15, 256, 1, 2),
-        (200, 4, 2, 9),
-        (1024, 16, 3, 16),
-        (1024, 256, 6, 16),
+    for (n, q, m, b, records) in [
+        (15, 256, 1, 2, 20_000),
+        (200, 4, 2, 9, 20_000),
+        (1024, 16, 3, 16, 20_000),
+        (1024, 256, 6, 16, 20_000),
+        (999, 256, 8, 15, 5_000),
+        (1999, 256, 7, 39, 5_000),
+        (4096, 256, 6, 112, 5_000),
+        (4096, 2, 1, 1000, 5_000),
     ] {
-        let Ok(f) = Figures::new(n, q, m, b) else {
-            continue;
-        };
-        let input = served(&mut rng, &f, 20_000);
+        let f = Figures::new(n, q, m, b).expect("these figures fit");
+        let input = served(&mut rng, &f, records);
         tally.compare(program, &input, usize::MAX);
     }
+    tally.compare(program, &figures_alone(), usize::MAX);
     let prompt = prompt_lines(program);
     if !prompt {
         println!("difference: no line came for a record before the next was sent");

@@ -6,7 +6,7 @@ use std::time::Instant;
 
 use agree::judge::Judge;
 use agree::rng::Rng;
-use agree::{calls, grid, jobs, lengths, strips, words};
+use agree::{calls, former, grid, jobs, lengths, strips, words};
 
 const GATE_SEED: u64 = 1996;
 const GATE_ROUNDS: u64 = 30_000;
@@ -41,6 +41,7 @@ fn run(rounds: u64, seed: u64, long: bool) -> ExitCode {
     let mut rng = Rng::new(seed);
     strips::run(&mut judge);
     grid::run(&mut judge);
+    former::run(&mut judge);
     lengths::run(&mut judge);
     patterns(&mut judge, &mut rng, long);
     for round in 0..rounds {
@@ -62,7 +63,7 @@ fn run(rounds: u64, seed: u64, long: bool) -> ExitCode {
 
 /// Every pattern of first symbols for up to 9 blocks (16 in a long run), and samples above.
 fn patterns(judge: &mut Judge, rng: &mut Rng, long: bool) {
-    for n in [60, 61, 200, 1024] {
+    for n in [60, 61, 200, 1024, 4096] {
         words::patterns(judge, rng, n, 1, 1);
         words::patterns(judge, rng, n, 2, 1);
         words::patterns(judge, rng, n, 3, 1);
@@ -70,6 +71,8 @@ fn patterns(judge: &mut Judge, rng: &mut Rng, long: bool) {
     words::patterns(judge, rng, 500, 4, if long { 1 } else { 16 });
     words::patterns(judge, rng, 1000, 5, 1 << if long { 9 } else { 14 });
     words::patterns(judge, rng, 1024, 6, 1 << if long { 18 } else { 24 });
+    words::patterns(judge, rng, 1999, 7, 1 << if long { 31 } else { 37 });
+    words::patterns(judge, rng, 999, 8, 1 << if long { 46 } else { 52 });
 }
 
 fn finish(judge: &Judge, seed: u64, begun: Instant) -> ExitCode {

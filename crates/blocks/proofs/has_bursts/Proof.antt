@@ -15,11 +15,11 @@ use Rattle.blocks.proofs.has_bursts.Statement.{statement}
 use Rattle.blocks.proofs.has_bursts.Tie as tie
 
 abbrev Inv-loop : tie.InvT-loop
-Inv-loop m part wanted kinds from missing₀ j₀ missing j =
+Inv-loop kinds m part wanted from missing₀ j₀ missing j =
     (j ≤ m) × (from ≡ part * m) × (count j 0 (row m (bursts kinds) part) + missing ≡ wanted)
 
 abbrev μ-loop : tie.MeasureT-loop
-μ-loop m part wanted kinds from missing₀ j₀ missing j = m - j
+μ-loop kinds m part wanted from missing₀ j₀ missing j = m - j
 
 mul-from : tie.Need-mul-from Inv-loop μ-loop
 mul-from c = search needs
@@ -29,18 +29,18 @@ abbrev Start : Type 0
 Start = tie.Start Inv-loop μ-loop
 
 abbrev blocks : Start → ℕ → Bool
-blocks s = row (s .args .m) (bursts (s .args .t1)) (s .args .part)
+blocks s = row (s .args .m) (bursts (s .args .kinds .now)) (s .args .part)
 
 -- one block more is seen
 seen : (c : tie.Joined1 Inv-loop μ-loop)
-    → (let s = c .before .before .before in count (c .before .before .loop .j + 1) 0 (blocks s) + c .if1 .missing ≡ s .args .wanted)
+    → (let s = c .before .before .before .before in count (c .before .before .before .loop .j + 1) 0 (blocks s) + c .if1 .missing ≡ s .args .wanted)
 seen c =
-    let s = c .before .before .before in
-    let l = c .before .before .loop in
+    let s = c .before .before .before .before in
+    let l = c .before .before .before .loop in
     let found = count (l .j) 0 (blocks s) in
     ⊎-elim
-    (λ u. omega (arith, l .inv .2, u .1 .left, u .2, one-more (s .args .t1) (s .args .m) (s .args .part) (l .j) found refl (u .0 .taken)))
-    (λ u. omega (arith, l .inv .2, u .1, none-more (s .args .t1) (s .args .m) (s .args .part) (l .j) found refl (u .0 .left)))
+    (λ u. omega (arith, l .inv .2, u .1 .left, u .2, one-more (s .args .kinds .now) (s .args .m) (s .args .part) (l .j) found refl (u .0 .taken)))
+    (λ u. omega (arith, l .inv .2, u .1, none-more (s .args .kinds .now) (s .args .m) (s .args .part) (l .j) found refl (u .0 .left)))
     (c .if1 .came)
 
 loop-holds : tie.Need-loop-holds Inv-loop μ-loop
@@ -50,15 +50,15 @@ loop-holds c = (omega arith, refl, omega arith)
 add-if1 : tie.Need-add-if1 Inv-loop μ-loop
 add-if1 c = search needs
 
-array-read-if1 : tie.Need-array-read-if1 Inv-loop μ-loop
-array-read-if1 c = search needs
+element-copy-out-if1 : tie.Need-element-copy-out-if1 Inv-loop μ-loop
+element-copy-out-if1 c = search needs
 
 returns : tie.Need-returns Inv-loop μ-loop
 unfolding partCount
 returns c =
-    let l = c .before .before .before .loop in
-    let s = c .before .before .before .before in
-    let more = one-more (s .args .t1) (s .args .m) (s .args .part) (l .j) (count (l .j) 0 (blocks s)) refl (c .before .if1 .taken) in
+    let l = c .before .before .before .before .loop in
+    let s = c .before .before .before .before .before in
+    let more = one-more (s .args .kinds .now) (s .args .m) (s .args .part) (l .j) (count (l .j) 0 (blocks s)) refl (c .before .if1 .taken) in
     let rest = count-rest (l .j + 1) (s .args .m) (blocks s) (omega arith) in
     sym (eqb-other (count (s .args .m) 0 (blocks s)) (s .args .wanted) (λ e. absurd (omega (arith, l .inv .2, c .if2 .taken, more, rest .0))))
 
@@ -74,8 +74,8 @@ sub-if3 c = omega arith
 returns-2 : tie.Need-returns-2 Inv-loop μ-loop
 unfolding partCount
 returns-2 c =
-    let l = c .before .before .before .loop in
-    let s = c .before .before .before .before in
+    let l = c .before .before .before .before .loop in
+    let s = c .before .before .before .before .before in
     let rest = count-rest (l .j + 1) (s .args .m) (blocks s) (omega arith) in
     sym (eqb-other (count (s .args .m) 0 (blocks s)) (s .args .wanted) (λ e. absurd (omega (arith, seen (c .before), c .if3 .taken, rest .1))))
 
@@ -105,7 +105,7 @@ has-bursts-spec =
     mul-from
     loop-holds
     add-if1
-    array-read-if1
+    element-copy-out-if1
     returns
     sub-missing
     add-j

@@ -20,7 +20,7 @@ abbrev μ-loop : tie.MeasureT-loop
 μ-loop kinds parts m wanted i₀ i = parts - i
 
 loop-holds : tie.Need-loop-holds Inv-loop μ-loop
-loop-holds c = (omega arith, first-start (c .args .parts) (λ x. eqb (partCount (c .args .m) (bursts (c .args .kinds)) x) (c .args .wanted)))
+loop-holds c = (omega arith, first-start (c .args .parts) (λ x. eqb (partCount (c .args .m) (bursts (c .args .kinds .now)) x) (c .args .wanted)))
 
 has-bursts-requires : tie.Need-has-bursts-requires Inv-loop μ-loop
 has-bursts-requires c κs =
@@ -34,7 +34,7 @@ unfolding partWith
 returns c =
     let s = c .before .before .before in
     let a = s .before .args in
-    let w : ℕ → Bool = λ x. eqb (partCount (a .m) (bursts (a .kinds)) x) (a .wanted) in
+    let w : ℕ → Bool = λ x. eqb (partCount (a .m) (bursts (a .kinds .now)) x) (a .wanted) in
     sym (first-here (a .parts) (s .loop .i) w (omega arith) (sym (c .before .has-bursts .ensures) ∙ c .if1 .taken)) ∙ s .loop .inv .1
 
 add-i : tie.Need-add-i Inv-loop μ-loop
@@ -47,7 +47,7 @@ loop-again : tie.Need-loop-again Inv-loop μ-loop
 loop-again c =
     let s = c .before .before .before in
     let a = s .before .args in
-    let w : ℕ → Bool = λ x. eqb (partCount (a .m) (bursts (a .kinds)) x) (a .wanted) in
+    let w : ℕ → Bool = λ x. eqb (partCount (a .m) (bursts (a .kinds .now)) x) (a .wanted) in
     (omega arith, sym (first-on (a .parts) (s .loop .i) w (omega arith) (sym (c .before .has-bursts .ensures) ∙ c .if1 .left)) ∙ s .loop .inv .1)
 
 returns-2 : tie.Need-returns-2 Inv-loop μ-loop
@@ -55,7 +55,7 @@ unfolding partWith
 returns-2 c =
     let s = c .before in
     let a = s .before .args in
-    sym (first-over (a .parts) (s .loop .i) (λ x. eqb (partCount (a .m) (bursts (a .kinds)) x) (a .wanted)) (omega arith)) ∙ s .loop .inv .1
+    sym (first-over (a .parts) (s .loop .i) (λ x. eqb (partCount (a .m) (bursts (a .kinds .now)) x) (a .wanted)) (omega arith)) ∙ s .loop .inv .1
 
 pub part-with-spec : {M : Type 1} → statement M
 part-with-spec =

@@ -49,7 +49,7 @@ cast-unrank-3 c = omega (arith, burst-fits (c .before .before .before .before .b
 unrank-requires : tie.Need-unrank-requires
 unrank-requires c κs =
     let s = c .before .before .before .before .before in
-    (room-of (f s) (ok s), s .pre .0 .below)
+    (room-of (f s) (ok s), ok s .counted, s .pre .0 .below)
 
 kinds-of-requires : tie.Need-kinds-of-requires
 kinds-of-requires c κs =

@@ -69,10 +69,10 @@ returns-5 c =
 fill-requires : tie.Need-fill-requires
 fill-requires c κs =
     let s = c .before .before .before .before .before .before .before .before .before .before .before .before .before .before .before .before in
-    let six : length (s .args .at .starts) ≡ maxBursts = search needs in
+    let sized : length (s .args .at .starts) ≡ maxBursts = search needs in
     let len = c .before .before .before .before .before .before .before .before .before .if2 .left ∙ s .pre .laid .len-is in
     let valid : apart (l s .b) (l s .n) 0 (startsIn (s .args .at)) ≡ true = sym (c .before .before .before .before .apart .ensures) ∙ not-false _ (c .before .before .before .if4 .left) in
-    record { placing = placing-of (l s) (s .args .at) six (s .pre) (c .before .before .before .before .before .before .before .before .before .before .before .if1 .left) valid; sent = len; room = c .before .before .before .before .before .before .before .if3 .left }
+    record { placing = placing-of (l s) (s .args .at) sized (s .pre) (c .before .before .before .before .before .before .before .before .before .before .before .if1 .left) valid; sent = len; room = c .before .before .before .before .before .before .before .if3 .left }
 
 same-length : tie.Need-same-length
 same-length c = search needs

@@ -1,12 +1,15 @@
 -- `read_laid` meets its contract: too few bytes, a buffer of another length, or what the message gives. Assumes nothing.
 use mathlib.Core.Path.{sym, _∙_}
+use Prim.Native.Nat.{ℕ, _≤_}
 use native.Mathlib.Omega.{arith}
 use borrow.Author.Needs.{needs}
-use lib.ListN.{replicate}
+use lib.ListN.{take, replicate}
 use lib.Seq.{length-take-le}
 use Rattle.construction_a.specs.Figures.{maxWord}
 use Rattle.params.specs.Bridge.{given}
+use Rattle.params.specs.Given.{shortWord}
 use Rattle.jobs.specs.Slots.{entries}
+use Rattle.jobcodec.specs.Given.{Readable}
 use Rattle.jobcodec.proofs.Calls.{laid-bounds, bytes-are, message-short, room-is, ready, read-few, read-length}
 use Rattle.jobcodec.proofs.read_laid.Statement.{statement}
 use Rattle.jobcodec.proofs.read_laid.Tie as tie
@@ -31,35 +34,58 @@ returns-2 c =
     let e = c .before .before .payload-len .ensures in
     sym (read-length f es (s .args .word .now) (s .args .payload .now) (ready f l es (s .pre) count e (omega (arith, c .before .if1 .left))) (λ d. c .if2 .taken (d ∙ sym (bytes-are f l es (s .pre) count e))))
 
-array-borrow-prefix-message : tie.Need-array-borrow-prefix-message
-array-borrow-prefix-message c =
+-- a message that is lent in an array with room for it
+readable : (c : tie.Else2) (room : ℕ) → (let a = c .before .before .before .before .before .args in a .layout .«message_len» ≤ room
+    → Readable (given (a .figures)) (entries (a .table)) (take {A = ℕ} (a .layout .«message_len») (replicate room 0)) (a .payload .now))
+readable c room le =
     let s = c .before .before .before .before .before in
-    message-short (given (s .args .figures)) (s .args .layout) (entries (s .args .table)) (s .pre)
-
-slice-aggregate-read-message : tie.Need-slice-aggregate-read-message
-slice-aggregate-read-message c =
-    let s = c .before .before .before .before .before .before in
-    sym (length-take-le (s .args .layout .«message_len») (replicate maxWord 0) (message-short (given (s .args .figures)) (s .args .layout) (entries (s .args .table)) (s .pre)))
-
-read-message-requires : tie.Need-read-message-requires
-read-message-requires c κs =
-    let s = c .before .before .before .before .before .before .before in
     let f = given (s .args .figures) in
     let l = s .args .layout in
     let es = entries (s .args .table) in
-    let count = c .before .before .before .before .payload-len .result in
-    let e = c .before .before .before .before .payload-len .ensures in
+    let count = c .before .before .payload-len .result in
+    let e = c .before .before .payload-len .ensures in
     record {
-      ready = ready f l es (s .pre) count e (omega (arith, c .before .before .before .if1 .left));
-      room = room-is f l es (s .pre);
-      lent = c .before .before .if2 .left ∙ bytes-are f l es (s .pre) count e;
+      ready = ready f l es (s .pre) count e (omega (arith, c .before .if1 .left));
+      room = room-is f l es (s .pre) room le;
+      lent = c .if2 .left ∙ bytes-are f l es (s .pre) count e;
     }
+
+longest : (s : tie.Start) → s .args .layout .«message_len» ≤ maxWord
+longest s = message-short (given (s .args .figures)) (s .args .layout) (entries (s .args .table)) (s .pre)
+
+array-borrow-prefix-short : tie.Need-array-borrow-prefix-short
+array-borrow-prefix-short c = search needs
+
+slice-aggregate-read-message : tie.Need-slice-aggregate-read-message
+slice-aggregate-read-message c =
+    let s = c .before .before .before .before .before .before .before in
+    sym (length-take-le (s .args .layout .«message_len») (replicate shortWord 0) (omega (arith, c .before .if3 .taken)))
+
+read-message-requires : tie.Need-read-message-requires
+read-message-requires c κs = readable (c .before .before .before) shortWord (omega (arith, c .before .before .if3 .taken))
 
 same-length : tie.Need-same-length
 same-length c = search needs
 
 returns-3 : tie.Need-returns-3
 returns-3 c = search needs
+
+array-borrow-prefix-message : tie.Need-array-borrow-prefix-message
+array-borrow-prefix-message c = longest (c .before .before .before .before .before .before)
+
+slice-aggregate-read-message-2 : tie.Need-slice-aggregate-read-message-2
+slice-aggregate-read-message-2 c =
+    let s = c .before .before .before .before .before .before .before in
+    sym (length-take-le (s .args .layout .«message_len») (replicate maxWord 0) (longest s))
+
+read-message-requires-2 : tie.Need-read-message-requires-2
+read-message-requires-2 c κs = readable (c .before .before .before) maxWord (longest (c .before .before .before .before .before .before .before .before))
+
+same-length-2 : tie.Need-same-length-2
+same-length-2 c = search needs
+
+returns-4 : tie.Need-returns-4
+returns-4 c = search needs
 
 pub read-laid-spec : {M : Type 1} → statement M
 read-laid-spec =
@@ -68,8 +94,13 @@ read-laid-spec =
     payload-len-requires
     returns
     returns-2
-    array-borrow-prefix-message
+    array-borrow-prefix-short
     slice-aggregate-read-message
     read-message-requires
     same-length
-    returns-3)
+    returns-3
+    array-borrow-prefix-message
+    slice-aggregate-read-message-2
+    read-message-requires-2
+    same-length-2
+    returns-4)

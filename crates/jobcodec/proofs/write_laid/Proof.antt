@@ -1,18 +1,21 @@
 -- `write_laid` meets its contract: what is refused keeps the word, and what is not is written. Assumes nothing.
-use mathlib.Core.Path.{sym, ap, _∙_}
-use Prim.Native.Nat.{ℕ}
+use mathlib.Core.Path.{_≡_, sym, ap, _∙_}
+use Prim.Native.Nat.{ℕ, _≤_}
 use native.Mathlib.Omega.{arith}
 use borrow.Author.Needs.{needs}
-use lib.ListN.{replicate}
+use lib.ListN.{length, take, replicate}
 use lib.Seq.{length-take-le}
 use Rattle.combinatorics.proofs.Lists.{at-below}
 use Rattle.cells.specs.Bytes.{byteValues, payloadLen}
-use Rattle.construction_a.specs.Figures.{maxWord}
+use Rattle.construction_a.specs.Figures.{maxWord, messageLen}
 use Rattle.construction_a.specs.Outcomes.{unwritten, encodeOut}
 use Rattle.params.specs.Bridge.{given}
+use Rattle.params.specs.Given.{shortWord}
 use Rattle.placements.specs.Bridge.{heldAs}
 use Rattle.jobs.specs.Slots.{entries}
 use Rattle.payloads.specs.Payload.{messageOf}
+use Rattle.jobcodec.specs.Given.{PayloadFits}
+use Rattle.jobcodec.specs.JobWrite.{jobWriteOut}
 use Rattle.jobcodec.proofs.Outcomes.{write-encodes}
 use Rattle.jobcodec.proofs.RoundTrip.{Written, written}
 use Rattle.jobcodec.proofs.Calls.{message-short, room-is, refused-keeps}
@@ -38,37 +41,66 @@ returns c =
     let kept = refused-keeps out (given (a .figures)) (entries (a .table)) (heldAs (a .at)) (a .payload .now) in
     ap (unwritten out) (c .before .write-refusal .ensures) ∙ kept (λ d. c .if1 .taken (c .before .write-refusal .ensures ∙ d))
 
-array-borrow-prefix-message : tie.Need-array-borrow-prefix-message
-array-borrow-prefix-message c =
-    let s = c .before .before .before .before .before in
-    message-short (given (s .args .figures)) (s .args .layout) (entries (s .args .table)) (s .pre)
+-- the word of a message that is lent in an array with room for it
+module _ (c : tie.Else1) (room : ℕ) (fits : c .before .before .before .before .before .args .layout .«message_len» ≤ room) where
+  lent-is : length (take {A = ℕ} (c .before .before .before .before .before .args .layout .«message_len») (replicate room 0)) ≡ messageLen (given (c .before .before .before .before .before .args .figures))
+  lent-is =
+      let s = c .before .before .before .before .before in
+      room-is (given (s .args .figures)) (s .args .layout) (entries (s .args .table)) (s .pre) room fits
+
+  holds : PayloadFits (given (c .before .before .before .before .before .args .figures)) (c .before .before .before .before .before .args .payload .now) (take {A = ℕ} (c .before .before .before .before .before .args .layout .«message_len») (replicate room 0))
+  holds =
+      let s = c .before .before .before .before .before in
+      record { range = s .pre .range; count = passed c .long ∙ ap (payloadLen (given (s .args .figures) .q)) (sym lent-is) }
+
+  word-is : (let a = c .before .before .before .before .before .args in let f = given (a .figures) in
+      encodeOut f (heldAs (a .at)) (messageOf (f .q) (length (take {A = ℕ} (a .layout .«message_len») (replicate room 0))) (a .payload .now)) (a .word .now) ≡ jobWriteOut f (entries (a .table)) (heldAs (a .at)) (a .payload .now) (a .word .now))
+  word-is =
+      let a = c .before .before .before .before .before .args in
+      let f = given (a .figures) in
+      let y = a .payload .now in
+      let p = passed c in
+      ap (λ (k : ℕ). encodeOut f (heldAs (a .at)) (messageOf (f .q) k y) (a .word .now)) lent-is
+      ∙ sym (write-encodes f (entries (a .table)) (heldAs (a .at)) y (a .word .now) (p .ready) (p .count) (record { count = p .long; bytes = at-below byteValues y (λ x _. omega (arith, c .before .before .before .before .shared-slice-known .given x)) }) (p .lent) (p .placed) (p .is-open))
+
+longest : (s : tie.Start) → s .args .layout .«message_len» ≤ maxWord
+longest s = message-short (given (s .args .figures)) (s .args .layout) (entries (s .args .table)) (s .pre)
+
+array-borrow-prefix-short : tie.Need-array-borrow-prefix-short
+array-borrow-prefix-short c = search needs
 
 slice-aggregate-write-message : tie.Need-slice-aggregate-write-message
-slice-aggregate-write-message c =
-    let s = c .before .before .before .before .before .before in
-    sym (length-take-le (s .args .layout .«message_len») (replicate maxWord 0) (message-short (given (s .args .figures)) (s .args .layout) (entries (s .args .table)) (s .pre)))
+slice-aggregate-write-message c = sym (length-take-le (c .before .before .before .before .before .before .before .args .layout .«message_len») (replicate shortWord 0) (omega (arith, c .before .if2 .taken)))
 
 write-message-requires : tie.Need-write-message-requires
-write-message-requires c κs =
-    let s = c .before .before .before .before .before .before .before in
-    let f = given (s .args .figures) in
-    record { range = s .pre .range; count = passed (c .before .before) .long ∙ ap (payloadLen (f .q)) (sym (room-is f (s .args .layout) (entries (s .args .table)) (s .pre))) }
+write-message-requires c κs = holds (c .before .before .before) shortWord (omega (arith, c .before .before .if2 .taken))
 
 same-length-2 : tie.Need-same-length-2
 same-length-2 c = search needs
 
 returns-2 : tie.Need-returns-2
 returns-2 c =
-    let s = c .before .before .before .before .before .before .before .before .before .before .before in
-    let f = given (s .args .figures) in
-    let es = entries (s .args .table) in
-    let at = heldAs (s .args .at) in
-    let y = s .args .payload .now in
-    let out = s .args .word .now in
-    let p = passed (c .before .before .before .before .before .before) in
     c .before .before .before .write-message .ensures
-    ∙ ap (λ (k : ℕ). encodeOut f at (messageOf (f .q) k y) out) (room-is f (s .args .layout) es (s .pre))
-    ∙ sym (write-encodes f es at y out (p .ready) (p .count) (record { count = p .long; bytes = at-below byteValues y (λ x _. omega (arith, c .before .before .before .before .before .before .before .before .before .before .shared-slice-known .given x)) }) (p .lent) (p .placed) (p .is-open))
+    ∙ word-is (c .before .before .before .before .before .before .before) shortWord (omega (arith, c .before .before .before .before .before .before .if2 .taken))
+
+array-borrow-prefix-message : tie.Need-array-borrow-prefix-message
+array-borrow-prefix-message c = longest (c .before .before .before .before .before .before)
+
+slice-aggregate-write-message-2 : tie.Need-slice-aggregate-write-message-2
+slice-aggregate-write-message-2 c =
+    let s = c .before .before .before .before .before .before .before in
+    sym (length-take-le (s .args .layout .«message_len») (replicate maxWord 0) (longest s))
+
+write-message-requires-2 : tie.Need-write-message-requires-2
+write-message-requires-2 c κs = holds (c .before .before .before) maxWord (longest (c .before .before .before .before .before .before .before .before))
+
+same-length-3 : tie.Need-same-length-3
+same-length-3 c = search needs
+
+returns-3 : tie.Need-returns-3
+returns-3 c =
+    c .before .before .before .write-message2 .ensures
+    ∙ word-is (c .before .before .before .before .before .before .before) maxWord (longest (c .before .before .before .before .before .before .before .before .before .before .before .before))
 
 pub write-laid-spec : {M : Type 1} → statement M
 write-laid-spec =
@@ -77,8 +109,13 @@ write-laid-spec =
     write-refusal-requires
     same-length
     returns
-    array-borrow-prefix-message
+    array-borrow-prefix-short
     slice-aggregate-write-message
     write-message-requires
     same-length-2
-    returns-2)
+    returns-2
+    array-borrow-prefix-message
+    slice-aggregate-write-message-2
+    write-message-requires-2
+    same-length-3
+    returns-3)

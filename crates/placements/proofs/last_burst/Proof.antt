@@ -1,6 +1,6 @@
 -- `last_burst` meets its contract: the number sought lies from `low` on and below `high`. Assumes nothing.
 use mathlib.Core.Path.{_≡_, sym, ap, _∙_, subst}
-use Prim.Native.Nat.{ℕ, suc, _*_, _-_, _≤_, _<_}
+use Prim.Native.Nat.{ℕ, suc, _+_, _*_, _-_, _/_, _≤_, _<_}
 use native.Mathlib.Omega.{arith}
 use borrow.Author.Needs.{needs}
 use Rattle.combinatorics.specs.Choose.{choose}
@@ -28,8 +28,8 @@ returns c =
     let a = c .before .args in
     let one : (n : ℕ) → choose n (a .number) ≡ n = λ n. ap (choose n) (c .if1 .taken) ∙ choose-one n in (
       top-only (ways (a .number)) (λ x y h. choose-mono (a .number) h)
-          (record { below = omega (arith, one (a .below), c .before .pre .3); reach = omega (arith, one (a .rank)); past = omega (arith, one (suc (a .rank))) })
-          (top-is (ways (a .number)) (a .below) (a .rank) (omega (arith, one 0)) (c .before .pre .3)),
+          (record { below = omega (arith, one (a .below), c .before .pre .4); reach = omega (arith, one (a .rank)); past = omega (arith, one (suc (a .rank))) })
+          (top-is (ways (a .number)) (a .below) (a .rank) (omega (arith, one 0)) (c .before .pre .4)),
       sym (one (a .rank)),
     )
 
@@ -52,7 +52,11 @@ add-middle : tie.Need-add-middle Inv-loop μ-loop
 add-middle c = search needs
 
 choose-requires : tie.Need-choose-requires Inv-loop μ-loop
-choose-requires c κs = search needs
+choose-requires c κs =
+    let s = c .before .before .before in
+    let l = c .before .loop in
+    let middle = l .low + (l .high - l .low) / 2 in
+    (omega arith, omega arith, omega (arith, choose-mono {a = middle} {b = s .args .below} (s .args .number) (omega arith), s .pre .3))
 
 loop-less : tie.Need-loop-less Inv-loop μ-loop
 loop-less c = search needs

@@ -1,17 +1,21 @@
 -- `read_laid` meets its contract: the word of the record, and a payload that holds 0. Assumes nothing.
-use mathlib.Core.Path.{sym, ap, _∙_}
-use Prim.Native.Nat.{ℕ, _-_}
+use mathlib.Core.Path.{_≡_, sym, ap, _∙_}
+use mathlib.Core.List.{List}
+use mathlib.Core.Option.{some}
+use Prim.Native.Nat.{ℕ, _-_, _≤_}
 use native.Mathlib.Omega.{arith}
 use borrow.Author.Needs.{needs}
-use lib.ListN.{length, take, drop, replicate}
+use lib.ListN.{length, take, drop, replicate, length-replicate}
 use lib.Seq.{length-take-le}
 use Rattle.cells.specs.Bytes.{payloadLen}
 use Rattle.construction_a.specs.Figures.{maxWord, messageLen}
 use Rattle.params.specs.Bridge.{given}
-use Rattle.params.specs.Given.{figuresOf}
+use Rattle.params.specs.Given.{shortWord, figuresOf}
 use Rattle.params.proofs.Fitting.{bound}
-use Rattle.transfer.specs.Records.{headLen}
-use Rattle.transfer.specs.Bridge.{sessionOf}
+use Rattle.jobcodec.specs.JobRead.{jobReadOut}
+use Rattle.transfer.specs.Records.{headLen, readStep, readOut}
+use Rattle.transfer.specs.Bridge.{sessionOf, Shown}
+use Rattle.transfer.specs.declared.StepAnswer.{StepAnswer}
 use Rattle.transfer.proofs.Fields.{rest-all}
 use Rattle.transfer.proofs.Lengths.{payload-short}
 use Rattle.transfer.proofs.Serving.{zeros, shown-read}
@@ -24,6 +28,30 @@ figures-of-requires c κs = search needs
 payload-len-requires : tie.Need-payload-len-requires
 payload-len-requires c κs = bound (c .before .before .before .args .layout) (c .before .before .before .pre .fitting) .q-most
 
+longest : (c : tie.After-payload-len) → c .payload-len .result ≤ maxWord
+longest c =
+    let s = c .before .before .before .before in
+    omega (arith, payload-short (s .args .layout) (s .pre .fitting), c .payload-len .ensures)
+
+-- what was shown is the record's line, whatever array the payload is lent in
+module _ (c : tie.After-payload-len) (room : ℕ) (le : c .payload-len .result ≤ room) where
+  lent-is : length (take {A = ℕ} (c .payload-len .result) (replicate room 0)) ≡ c .payload-len .result
+  lent-is = length-take-le {A = ℕ} (c .payload-len .result) (replicate room 0) (omega (arith, length-replicate {A = ℕ} room 0))
+
+  line-is : (r : StepAnswer) (line : List ℕ)
+      → (let a = c .before .before .before .before .args in let bytes = a .received .now in let s = sessionOf (a .session) in
+      Shown r (a .line .now) line (readStep s (jobReadOut (given (c .before .figures-of .result)) (s .table) (take (length bytes - headLen) (drop headLen bytes)) (take {A = ℕ} (c .payload-len .result) (replicate room 0))))
+      → Shown r (a .line .now) line (readOut s bytes (some (figuresOf (a .layout)))))
+  line-is r line =
+      let s = c .before .before .before .before in
+      let a = s .args in
+      let l = a .layout in
+      let bytes = a .received .now in
+      let count = c .payload-len in
+      shown-read r (a .line .now) line (sessionOf (a .session)) (given (c .before .figures-of .result)) (figuresOf l) (take (length bytes - headLen) (drop headLen bytes)) (drop headLen bytes)
+      (take {A = ℕ} (count .result) (replicate room 0)) (replicate {A = ℕ} (payloadLen (l .q) (messageLen (figuresOf l))) 0) (c .before .figures-of .ensures) (rest-all headLen bytes)
+      (zeros (count .result) room le ∙ ap (λ (k : ℕ). replicate {A = ℕ} k 0) (count .ensures ∙ ap (payloadLen (l .q)) (s .pre .fitting .laid .len-is)))
+
 sub-read-payload : tie.Need-sub-read-payload
 sub-read-payload c = search needs
 
@@ -33,41 +61,53 @@ part-read-payload-start c = search needs
 part-read-payload-end : tie.Need-part-read-payload-end
 part-read-payload-end c = search needs
 
-array-borrow-prefix-payload : tie.Need-array-borrow-prefix-payload
-array-borrow-prefix-payload c =
-    let s = c .before .before .before .before .before in
-    omega (arith, payload-short (s .args .layout) (s .pre .fitting), c .before .payload-len .ensures)
+array-borrow-prefix-short : tie.Need-array-borrow-prefix-short
+array-borrow-prefix-short c = search needs
 
 slice-aggregate-read-payload : tie.Need-slice-aggregate-read-payload
-slice-aggregate-read-payload c =
-    let s = c .before .before .before .before .before .before in
-    let count = c .before .before .payload-len in
-    sym (length-take-le {A = ℕ} (count .result) (replicate maxWord 0) (omega (arith, payload-short (s .args .layout) (s .pre .fitting), count .ensures)))
+slice-aggregate-read-payload c = sym (lent-is (c .before .before .before) shortWord (omega (arith, c .before .before .if1 .taken)))
 
 read-payload-requires : tie.Need-read-payload-requires
 read-payload-requires c κs =
-    let s = c .before .before .before .before .before .before .before in
-    let count = c .before .before .before .payload-len in
-    let short = payload-short (s .args .layout) (s .pre .fitting) in
-    (s .pre .ready, omega (arith, short, count .ensures, length-take-le {A = ℕ} (count .result) (replicate maxWord 0) (omega (arith, short, count .ensures))))
+    let p = c .before .before .before .before in
+    (p .before .before .before .before .pre .ready, omega (arith, longest p, lent-is p shortWord (omega (arith, c .before .before .before .if1 .taken))))
 
 same-length : tie.Need-same-length
 same-length c = search needs
 
 returns : tie.Need-returns
 returns c =
-    let s = c .before .before .before .before .before .before .before .before .before .before .before in
-    let a = s .args in
-    let l = a .layout in
-    let bytes = a .received .now in
-    let count = c .before .before .before .before .before .before .before .payload-len in
     let read = c .before .before .before .read-payload in
-    let short = payload-short l (s .pre .fitting) in
-    shown-read (read .result) (a .line .now) (read .last .1 .1 .1 .1 .0) (sessionOf (a .session)) (given (c .before .before .before .before .before .before .before .before .figures-of .result)) (figuresOf l)
-    (take (length bytes - headLen) (drop headLen bytes)) (drop headLen bytes) (take {A = ℕ} (count .result) (replicate maxWord 0)) (replicate {A = ℕ} (payloadLen (l .q) (messageLen (figuresOf l))) 0)
-    (c .before .before .before .before .before .before .before .before .figures-of .ensures) (rest-all headLen bytes)
-    (zeros (count .result) (omega (arith, short, count .ensures)) ∙ ap (λ (k : ℕ). replicate {A = ℕ} k 0) (count .ensures ∙ ap (payloadLen (l .q)) (s .pre .fitting .laid .len-is)))
-    (read .ensures)
+    line-is (c .before .before .before .before .before .before .before .before) shortWord (omega (arith, c .before .before .before .before .before .before .before .if1 .taken)) (read .result) (read .last .1 .1 .1 .1 .0) (read .ensures)
+
+sub-read-payload-2 : tie.Need-sub-read-payload-2
+sub-read-payload-2 c = search needs
+
+part-read-payload-start-2 : tie.Need-part-read-payload-start-2
+part-read-payload-start-2 c = search needs
+
+part-read-payload-end-2 : tie.Need-part-read-payload-end-2
+part-read-payload-end-2 c = search needs
+
+array-borrow-prefix-payload : tie.Need-array-borrow-prefix-payload
+array-borrow-prefix-payload c = longest (c .before .before)
+
+slice-aggregate-read-payload-2 : tie.Need-slice-aggregate-read-payload-2
+slice-aggregate-read-payload-2 c = sym (lent-is (c .before .before .before) maxWord (longest (c .before .before .before)))
+
+read-payload-requires-2 : tie.Need-read-payload-requires-2
+read-payload-requires-2 c κs =
+    let p = c .before .before .before .before in
+    (p .before .before .before .before .pre .ready, omega (arith, longest p, lent-is p maxWord (longest p)))
+
+same-length-2 : tie.Need-same-length-2
+same-length-2 c = search needs
+
+returns-2 : tie.Need-returns-2
+returns-2 c =
+    let read = c .before .before .before .read-payload2 in
+    let p = c .before .before .before .before .before .before .before .before in
+    line-is p maxWord (longest p) (read .result) (read .last .1 .1 .1 .1 .0) (read .ensures)
 
 pub read-laid-spec : {M : Type 1} → statement M
 read-laid-spec =
@@ -78,8 +118,16 @@ read-laid-spec =
     sub-read-payload
     part-read-payload-start
     part-read-payload-end
-    array-borrow-prefix-payload
+    array-borrow-prefix-short
     slice-aggregate-read-payload
     read-payload-requires
     same-length
-    returns)
+    returns
+    sub-read-payload-2
+    part-read-payload-start-2
+    part-read-payload-end-2
+    array-borrow-prefix-payload
+    slice-aggregate-read-payload-2
+    read-payload-requires-2
+    same-length-2
+    returns-2)

@@ -1,17 +1,21 @@
 -- `write_laid` meets its contract: the starts and the payload of the record, and a word that holds 0. Assumes nothing.
-use mathlib.Core.Path.{sym}
-use Prim.Native.Nat.{ℕ, _+_, _-_, _*_}
+use mathlib.Core.Path.{_≡_, sym}
+use mathlib.Core.List.{List}
+use mathlib.Core.Option.{some}
+use Prim.Native.Nat.{ℕ, _+_, _-_, _*_, _≤_}
 use native.Mathlib.Omega.{arith}
 use borrow.Author.Needs.{needs}
-use lib.ListN.{length, take, drop, replicate}
+use lib.ListN.{length, take, drop, replicate, length-replicate}
 use lib.Seq.{length-take-le}
 use Rattle.construction_a.specs.Figures.{maxWord}
 use Rattle.params.specs.Bridge.{given}
-use Rattle.params.specs.Given.{figuresOf}
+use Rattle.params.specs.Given.{shortWord, figuresOf}
 use Rattle.params.proofs.Fitting.{bound}
 use Rattle.placements.specs.Bridge.{heldAs}
-use Rattle.transfer.specs.Records.{headLen, startsIn, payloadOf}
-use Rattle.transfer.specs.Bridge.{sessionOf}
+use Rattle.jobcodec.specs.JobWrite.{jobWriteOut}
+use Rattle.transfer.specs.Records.{headLen, startsIn, payloadOf, writeStep, writeOut}
+use Rattle.transfer.specs.Bridge.{sessionOf, Shown}
+use Rattle.transfer.specs.declared.StepAnswer.{StepAnswer}
 use Rattle.transfer.proofs.Fields.{rest-all}
 use Rattle.transfer.proofs.Serving.{zeros, shown-write}
 use Rattle.transfer.proofs.write_laid.Statement.{statement}
@@ -31,6 +35,28 @@ mul-from c = search needs
 add-from : tie.Need-add-from
 add-from c = search needs
 
+-- the word, in an array that has room for it
+longest : (s : tie.Start) → s .args .layout .n ≤ maxWord
+longest s = bound (s .args .layout) (s .pre .fitting) .n-most
+
+-- what was shown is the record's line, whatever array the word is lent in
+module _ (c : tie.After-placement-in) (room : ℕ) (le : c .before .before .before .before .args .layout .n ≤ room) where
+  lent-is : length (take {A = ℕ} (c .before .before .before .before .args .layout .n) (replicate room 0)) ≡ c .before .before .before .before .args .layout .n
+  lent-is = length-take-le {A = ℕ} (c .before .before .before .before .args .layout .n) (replicate room 0) (omega (arith, length-replicate {A = ℕ} room 0))
+
+  line-is : (r : StepAnswer) (line : List ℕ)
+      → (let a = c .before .before .before .before .args in let from = headLen + 2 * a .layout .m in let bytes = a .received .now in let s = sessionOf (a .session) in
+      Shown r (a .line .now) line (writeStep s (jobWriteOut (given (c .before .figures-of .result)) (s .table) (heldAs (c .placement-in .result)) (take (length bytes - from) (drop from bytes)) (take {A = ℕ} (a .layout .n) (replicate room 0))))
+      → Shown r (a .line .now) line (writeOut s bytes (some (figuresOf (a .layout)))))
+  line-is r line =
+      let a = c .before .before .before .before .args in
+      let l = a .layout in
+      let bytes = a .received .now in
+      let from = headLen + 2 * l .m in
+      shown-write r (a .line .now) line (sessionOf (a .session)) (given (c .before .figures-of .result)) (figuresOf l) (heldAs (c .placement-in .result)) (startsIn (figuresOf l) bytes)
+      (take (length bytes - from) (drop from bytes)) (payloadOf (figuresOf l) bytes) (take {A = ℕ} (l .n) (replicate room 0)) (replicate {A = ℕ} (l .n) 0) (c .before .figures-of .ensures) (c .placement-in .ensures)
+      (rest-all from bytes) (zeros (l .n) room le)
+
 sub-write-word : tie.Need-sub-write-word
 sub-write-word c = search needs
 
@@ -40,35 +66,53 @@ part-write-word-start c = search needs
 part-write-word-end : tie.Need-part-write-word-end
 part-write-word-end c = search needs
 
-array-borrow-prefix-word : tie.Need-array-borrow-prefix-word
-array-borrow-prefix-word c = bound (c .before .before .before .before .before .args .layout) (c .before .before .before .before .before .pre .fitting) .n-most
+array-borrow-prefix-short : tie.Need-array-borrow-prefix-short
+array-borrow-prefix-short c = search needs
 
 slice-aggregate-write-word : tie.Need-slice-aggregate-write-word
-slice-aggregate-write-word c =
-    let s = c .before .before .before .before .before .before in
-    sym (length-take-le {A = ℕ} (s .args .layout .n) (replicate maxWord 0) (bound (s .args .layout) (s .pre .fitting) .n-most))
+slice-aggregate-write-word c = sym (lent-is (c .before .before .before) shortWord (omega (arith, c .before .before .if1 .taken)))
 
 write-word-requires : tie.Need-write-word-requires
 write-word-requires c κs =
-    let s = c .before .before .before .before .before .before .before in
-    let short = bound (s .args .layout) (s .pre .fitting) .n-most in
-    (s .pre .ready, omega (arith, short, length-take-le {A = ℕ} (s .args .layout .n) (replicate maxWord 0) short))
+    let s = c .before .before .before .before .before .before .before .before in
+    (s .pre .ready, omega (arith, longest s, lent-is (c .before .before .before .before) shortWord (omega (arith, c .before .before .before .if1 .taken))))
 
 same-length : tie.Need-same-length
 same-length c = search needs
 
 returns : tie.Need-returns
 returns c =
-    let s = c .before .before .before .before .before .before .before .before .before .before .before in
-    let a = s .args in
-    let l = a .layout in
-    let bytes = a .received .now in
-    let from = headLen + 2 * l .m in
     let put = c .before .before .before .write-word in
-    shown-write (put .result) (a .line .now) (put .last .1 .1 .1 .1 .1 .0) (sessionOf (a .session)) (given (c .before .before .before .before .before .before .before .before .figures-of .result)) (figuresOf l)
-    (heldAs (c .before .before .before .before .before .before .before .placement-in .result)) (startsIn (figuresOf l) bytes) (take (length bytes - from) (drop from bytes)) (payloadOf (figuresOf l) bytes)
-    (take {A = ℕ} (l .n) (replicate maxWord 0)) (replicate {A = ℕ} (l .n) 0) (c .before .before .before .before .before .before .before .before .figures-of .ensures) (c .before .before .before .before .before .before .before .placement-in .ensures) (rest-all from bytes)
-    (zeros (l .n) (bound l (s .pre .fitting) .n-most)) (put .ensures)
+    line-is (c .before .before .before .before .before .before .before .before) shortWord (omega (arith, c .before .before .before .before .before .before .before .if1 .taken)) (put .result) (put .last .1 .1 .1 .1 .1 .0) (put .ensures)
+
+sub-write-word-2 : tie.Need-sub-write-word-2
+sub-write-word-2 c = search needs
+
+part-write-word-start-2 : tie.Need-part-write-word-start-2
+part-write-word-start-2 c = search needs
+
+part-write-word-end-2 : tie.Need-part-write-word-end-2
+part-write-word-end-2 c = search needs
+
+array-borrow-prefix-word : tie.Need-array-borrow-prefix-word
+array-borrow-prefix-word c = longest (c .before .before .before .before .before .before)
+
+slice-aggregate-write-word-2 : tie.Need-slice-aggregate-write-word-2
+slice-aggregate-write-word-2 c = sym (lent-is (c .before .before .before) maxWord (longest (c .before .before .before .before .before .before .before)))
+
+write-word-requires-2 : tie.Need-write-word-requires-2
+write-word-requires-2 c κs =
+    let s = c .before .before .before .before .before .before .before .before in
+    (s .pre .ready, omega (arith, longest s, lent-is (c .before .before .before .before) maxWord (longest s)))
+
+same-length-2 : tie.Need-same-length-2
+same-length-2 c = search needs
+
+returns-2 : tie.Need-returns-2
+returns-2 c =
+    let put = c .before .before .before .write-word2 in
+    let s = c .before .before .before .before .before .before .before .before .before .before .before .before in
+    line-is (c .before .before .before .before .before .before .before .before) maxWord (longest s) (put .result) (put .last .1 .1 .1 .1 .1 .0) (put .ensures)
 
 pub write-laid-spec : {M : Type 1} → statement M
 write-laid-spec =
@@ -81,8 +125,16 @@ write-laid-spec =
     sub-write-word
     part-write-word-start
     part-write-word-end
-    array-borrow-prefix-word
+    array-borrow-prefix-short
     slice-aggregate-write-word
     write-word-requires
     same-length
-    returns)
+    returns
+    sub-write-word-2
+    part-write-word-start-2
+    part-write-word-end-2
+    array-borrow-prefix-word
+    slice-aggregate-write-word-2
+    write-word-requires-2
+    same-length-2
+    returns-2)

@@ -8,7 +8,8 @@ use lib.ListN.{length}
 use Rattle.combinatorics.proofs.Bursts.{of-placed}
 use Rattle.cells.specs.Digits.{spell}
 use Rattle.construction_a.specs.Writing.{word, rank}
-use Rattle.params.specs.Given.{Fitting}
+use Rattle.construction_a.proofs.Ranking.{rank-bijection}
+use Rattle.params.specs.Given.{figuresOf, Fitting}
 use Rattle.params.specs.declared.Layout.{Layout}
 use Rattle.params.proofs.Fitting.{served, bound, long}
 use Rattle.placements.specs.Bridge.{startsIn}
@@ -38,6 +39,7 @@ rank-requires c κs =
     let ok = served (l s) (fit s) in
     rankable {p = s .args .at} (l s .n) (l s .b) (omega (arith, s .pre .placing .count, ok .range .m-most)) (ok .range .n-most) (ok .long)
     (of-placed (l s .b) (l s .n) 0 (startsIn (s .args .at)) (starts-placed (l s) (s .args .at) (s .pre .placing)))
+    (omega (arith, rank-bijection (figuresOf (l s)) ok .below (startsIn (s .args .at)) (s .pre .placing .placed), ok .counted))
 
 spelled-requires : tie.Need-spelled-requires
 spelled-requires c κs = let s = c .before .before .before .before .before in spellable (l s) (fit s) (startsIn (s .args .at)) _ (s .pre .placing .placed) (c .rank .ensures)

@@ -38,7 +38,7 @@ with-next-requires : tie.Need-with-next-requires Inv-loop μ-loop
 with-next-requires c κs =
     let t = c .before .before .before .before .loop in
     let a = c .before .before .before .before .before .before .args in
-    omega (arith, candidates-few (t .bare) (t .i) (λ x. not (has (a .m) 0 (row (a .m) (looksIn (a .looks)) x))) (t .inv .1), c .before .before .before .before .before .before .pre .few-parts)
+    omega (arith, candidates-few (t .bare) (t .i) (λ x. not (has (a .m) 0 (row (a .m) (looksIn (a .looks .now)) x))) (t .inv .1), c .before .before .before .before .before .before .pre .few-parts)
 
 add-i : tie.Need-add-i Inv-loop μ-loop
 add-i c = search needs
@@ -50,7 +50,7 @@ loop-again : tie.Need-loop-again Inv-loop μ-loop
 loop-again c =
     let t = c .before .before .before .before .loop in
     let a = c .before .before .before .before .before .before .args in
-    let looks = looksIn (a .looks) in
+    let looks = looksIn (a .looks .now) in
     let w : ℕ → Bool = λ x. not (has (a .m) 0 (row (a .m) looks x)) in
     let shown = openBlocks (a .m) looks (t .i) in
     let n = count-is (c .before .before .open-blocks .result) shown (c .before .before .open-blocks .ensures) in
@@ -65,7 +65,7 @@ returns c =
     let t = c .before .loop in
     let a = c .before .before .before .args in
     let e : t .i ≡ a .parts = omega arith in
-    t .inv .1 ∙ ap (λ (y : ℕ). candidatesOf (members y 0 (λ x. not (has (a .m) 0 (row (a .m) (looksIn (a .looks)) x))))) e
+    t .inv .1 ∙ ap (λ (y : ℕ). candidatesOf (members y 0 (λ x. not (has (a .m) 0 (row (a .m) (looksIn (a .looks .now)) x))))) e
 
 pub bare-parts-spec : {M : Type 1} → statement M
 bare-parts-spec =

@@ -16,16 +16,16 @@ looks-of-requires : tie.Need-looks-of-requires
 looks-of-requires c κs = search needs
 
 index-found-requires : tie.Need-index-found-requires
-index-found-requires c κs = parted (c .before .before .args .layout) (c .before .before .pre .0 .layout)
+index-found-requires c κs = parted (c .before .before .before .args .layout) (c .before .before .before .pre .0 .layout)
 
 returns : tie.Need-returns
 returns c =
-    let s = c .before .before .before in
+    let s = c .before .before .before .before in
     let l = s .args .layout in
     let looks : ℕ → Bool = looksFixed (figuresOf l) (s .args .word .now) in
-    let seen = c .before .looks-of .result in
+    let seen = c .before .before .looks-of .result in
     c .index-found .ensures ∙ ap (λ (p : ℕ). indexFound p (l .m) (looksIn seen)) (s .pre .0 .layout .laid .parts-is)
-    ∙ found-same (parts (figuresOf l)) (l .m) (looksIn seen) looks (looks-set (blocks (figuresOf l)) looks seen (c .before .looks-of .ensures))
+    ∙ found-same (parts (figuresOf l)) (l .m) (looksIn seen) looks (looks-set (blocks (figuresOf l)) looks seen (c .before .before .looks-of .ensures))
 
 pub index-read-spec : {M : Type 1} → statement M
 index-read-spec = tie.close (tie.spec looks-of-requires index-found-requires returns)

@@ -35,7 +35,7 @@ later-requires : tie.Need-later-requires Inv-loop μ-loop
 unfolding openBlocks
 later-requires c κs =
     let s = c .before .before .before in
-    candidates-below (c .open-blocks .result) (s .args .m) (λ j. not (row (s .args .m) (looksIn (s .args .looks)) (c .before .before .loop .i) j)) (c .open-blocks .ensures) (s .pre .some-blocks)
+    candidates-below (c .open-blocks .result) (s .args .m) (λ j. not (row (s .args .m) (looksIn (s .args .looks .now)) (c .before .before .loop .i) j)) (c .open-blocks .ensures) (s .pre .some-blocks)
 
 none-requires : tie.Need-none-requires Inv-loop μ-loop
 none-requires c κs = search needs
@@ -44,7 +44,7 @@ returns : tie.Need-returns Inv-loop μ-loop
 returns c =
     let a = c .before .before .before .before .before .before .args in
     let t = c .before .before .before .before .before .loop in
-    let looks = looksIn (a .looks) in
+    let looks = looksIn (a .looks .now) in
     index-none (a .parts) (c .none .result) (c .none .ensures)
     ∙ sym (collect-none (a .parts) 0 (t .i) (indexInPart (a .m) looks) (omega arith) (omega arith)
     (in-part-none (a .m) (t .i) (c .before .before .later .result) looks (c .before .before .later .ensures (openBlocks (a .m) looks (t .i)) (c .before .before .before .open-blocks .ensures)) (c .before .if1 .taken)))
@@ -71,7 +71,7 @@ loop-again : tie.Need-loop-again Inv-loop μ-loop
 loop-again c =
     let a = c .before .before .before .before .before .args in
     let t = c .before .before .before .before .loop in
-    let looks = looksIn (a .looks) in
+    let looks = looksIn (a .looks .now) in
     let j = c .before .later .result in (
       omega arith,
       simp length-set (t .inv .1),
@@ -85,7 +85,7 @@ returns-2 c =
     let t = c .before .loop in
     let f : ℕ → ℕ = λ x. getD (t .blocks) x 0 in
     index-some (a .parts) (t .blocks) (tabulate (a .parts) 0 f) (take-is (a .parts) 0 (t .blocks) f (omega (arith, c .before .before .pre .few-parts)) (λ x _. ap f (let z : x ≡ 0 + x = omega arith in z)))
-    ∙ sym (collect-tabulate (a .parts) 0 (indexInPart (a .m) (looksIn (a .looks))) f (λ x _ l. t .inv .2 x (omega arith)))
+    ∙ sym (collect-tabulate (a .parts) 0 (indexInPart (a .m) (looksIn (a .looks .now))) f (λ x _ l. t .inv .2 x (omega arith)))
 
 pub one-each-spec : {M : Type 1} → statement M
 one-each-spec =

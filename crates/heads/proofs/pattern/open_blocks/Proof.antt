@@ -15,10 +15,10 @@ use Rattle.heads.proofs.pattern.open_blocks.Statement.{statement}
 use Rattle.heads.proofs.pattern.open_blocks.Tie as tie
 
 abbrev Inv-loop : tie.InvT-loop
-Inv-loop m part looks from shown₀ j₀ shown j = (j ≤ m) × (from ≡ part * m) × (shown ≡ candidatesOf (members j 0 (λ x. not (row m (looksIn looks) part x))))
+Inv-loop looks m part from shown₀ j₀ shown j = (j ≤ m) × (from ≡ part * m) × (shown ≡ candidatesOf (members j 0 (λ x. not (row m (looksIn looks) part x))))
 
 abbrev μ-loop : tie.MeasureT-loop
-μ-loop m part looks from shown₀ j₀ shown j = m - j
+μ-loop looks m part from shown₀ j₀ shown j = m - j
 
 mul-from : tie.Need-mul-from Inv-loop μ-loop
 mul-from c = search needs
@@ -33,14 +33,14 @@ loop-holds c = (omega arith, refl, c .none .ensures)
 add-if1 : tie.Need-add-if1 Inv-loop μ-loop
 add-if1 c = search needs
 
-array-read-if1 : tie.Need-array-read-if1 Inv-loop μ-loop
-array-read-if1 c = search needs
+element-copy-out-if1 : tie.Need-element-copy-out-if1 Inv-loop μ-loop
+element-copy-out-if1 c = search needs
 
 with-next-requires : tie.Need-with-next-requires Inv-loop μ-loop
 with-next-requires c κs =
-    let t = c .before .before .loop in
-    let a = c .before .before .before .before .args in
-    omega (arith, candidates-few (t .shown) (t .j) (λ x. not (row (a .m) (looksIn (a .t1)) (a .part) x)) (t .inv .2))
+    let t = c .before .before .before .loop in
+    let a = c .before .before .before .before .before .args in
+    omega (arith, candidates-few (t .shown) (t .j) (λ x. not (row (a .m) (looksIn (a .looks .now)) (a .part) x)) (t .inv .2))
 
 add-j : tie.Need-add-j Inv-loop μ-loop
 add-j c = search needs
@@ -50,12 +50,12 @@ loop-less c = search needs
 
 loop-again : tie.Need-loop-again Inv-loop μ-loop
 loop-again c =
-    let t = c .before .before .loop in
-    let a = c .before .before .before .before .args in
-    let w : ℕ → Bool = λ x. not (row (a .m) (looksIn (a .t1)) (a .part) x) in
+    let t = c .before .before .before .loop in
+    let a = c .before .before .before .before .before .args in
+    let w : ℕ → Bool = λ x. not (row (a .m) (looksIn (a .looks .now)) (a .part) x) in
     ⊎-elim
-    (λ u. (omega arith, refl, u .2 ∙ u .1 .ensures (members (t .j) 0 w) (t .inv .2) ∙ candidates-in (t .j) w (look-open (a .t1) (a .part * a .m + t .j) (u .0 .taken))))
-    (λ u. (omega arith, refl, u .1 ∙ candidates-out (t .shown) (t .j) w (t .inv .2) (look-fixed (a .t1) (a .part * a .m + t .j) (u .0 .left))))
+    (λ u. (omega arith, refl, u .2 ∙ u .1 .ensures (members (t .j) 0 w) (t .inv .2) ∙ candidates-in (t .j) w (look-open (a .looks .now) (a .part * a .m + t .j) (u .0 .taken))))
+    (λ u. (omega arith, refl, u .1 ∙ candidates-out (t .shown) (t .j) w (t .inv .2) (look-fixed (a .looks .now) (a .part * a .m + t .j) (u .0 .left))))
     (c .if1 .came)
 
 returns : tie.Need-returns Inv-loop μ-loop
@@ -64,7 +64,7 @@ returns c =
     let t = c .before .loop in
     let a = c .before .before .before .args in
     let e : t .j ≡ a .m = omega arith in
-    t .inv .2 ∙ ap (λ (y : ℕ). candidatesOf (members y 0 (λ x. not (row (a .m) (looksIn (a .t1)) (a .part) x)))) e
+    t .inv .2 ∙ ap (λ (y : ℕ). candidatesOf (members y 0 (λ x. not (row (a .m) (looksIn (a .looks .now)) (a .part) x)))) e
 
 pub open-blocks-spec : {M : Type 1} → statement M
 open-blocks-spec =
@@ -76,7 +76,7 @@ open-blocks-spec =
     none-requires
     loop-holds
     add-if1
-    array-read-if1
+    element-copy-out-if1
     with-next-requires
     add-j
     loop-less

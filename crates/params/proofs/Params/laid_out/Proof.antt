@@ -1,143 +1,78 @@
--- `Params::laid_out` meets its contract: the calls give p, T and r, and the laws of laying out the rest. Assumes nothing.
-use mathlib.Core.Path.{_≡_, refl, sym, ap, _∙_}
-use Prim.Native.Nat.{ℕ, _+_, _-_, _*_, _/_}
+-- `Params::laid_out` meets its contract: the count, or the refusal where it is too large. Assumes nothing.
+use mathlib.Core.Path.{_≡_, sym}
+use Prim.Native.Nat.{ℕ, _≤_, _<_}
 use native.Mathlib.Omega.{arith}
 use borrow.Author.Needs.{needs}
 use Rattle.combinatorics.specs.Bursts.{placements}
-use Rattle.construction_a.specs.Figures.{leastTail, Params, placementCount}
-use Rattle.construction_a.specs.Outcomes.{figured}
+use Rattle.construction_a.specs.Figures.{Params, maxCount, placementCount}
+use Rattle.construction_a.proofs.Figures.{Ranged, ranged}
+use Rattle.binomials.proofs.Counting.{ways-learnt, many-learnt}
 use Rattle.params.specs.Bridge.{given}
-use Rattle.params.proofs.Laying.{Parted, in-range, blocks-some, blocks-few, contracted-fits, min-is, Searched, tail-is, tail-unfit, burst-unfit, Fitted, taken-fits, sum-fits, len-is, figured-as}
+use Rattle.params.proofs.Laying.{contracted-fits, count-unfit}
 use Rattle.params.proofs.Params.laid_out.Statement.{statement}
 use Rattle.params.proofs.Params.laid_out.Tie as tie
 
-cast-n : tie.Need-cast-n
-cast-n c = search needs
+range-of : (s : tie.Start) → Ranged (given (s .args .self))
+range-of s = ranged (given (s .args .self)) (s .pre .0)
 
-cast-q : tie.Need-cast-q
-cast-q c = search needs
+mul-things : tie.Need-mul-things
+mul-things c = search needs
 
-cast-m : tie.Need-cast-m
-cast-m c = search needs
+sub-things : tie.Need-sub-things
+sub-things c = search needs
 
-cast-b : tie.Need-cast-b
-cast-b c = search needs
+add-things : tie.Need-add-things
+add-things c = omega (arith, range-of (c .before .before .before))
 
-parts-requires : tie.Need-parts-requires
-parts-requires c κs = search needs
+cast-things : tie.Need-cast-things
+cast-things c = search needs
 
-abbrev start : tie.After-parts → tie.Start
-start s = s .before .before .before .before .before
+cast-count : tie.Need-cast-count
+cast-count c = search needs
 
-abbrev figures : tie.After-parts → Params
-figures s = given (start s .args .self)
+count-requires : tie.Need-count-requires
+count-requires c κs =
+    let s = c .before .before .before .before in
+    (contracted-fits (given (s .args .self)) (s .pre .0) (s .pre .1), range-of s .m-most)
 
-parted : (s : tie.After-parts) → Parted (figures s) (s .parts .result)
-parted s = record { range = start s .pre .0; total = start s .pre .1; p-is = s .parts .ensures }
+enum-known-count : tie.Need-enum-known-count
+enum-known-count c = search needs
 
-mul-block-min : tie.Need-mul-block-min
-mul-block-min c = omega (arith, blocks-few (parted c))
-
-div-block-min : tie.Need-div-block-min
-div-block-min c = blocks-some (parted c)
-
-mul-choose : tie.Need-mul-choose
-mul-choose c = search needs
-
-sub-choose : tie.Need-sub-choose
-sub-choose c = search needs
-
-add-choose : tie.Need-add-choose
-add-choose c = search needs
-
-choose-requires : tie.Need-choose-requires
-choose-requires c κs = (contracted-fits (parted c), in-range (parted c) .m-most)
-
-least-tail-requires : tie.Need-least-tail-requires
-least-tail-requires c κs = omega (arith, in-range (parted (c .before)) .q-least)
-
-count-is : (s : tie.After-choose) → s .choose .result ≡ placementCount (figures (s .before))
+counted-requires : tie.Need-counted-requires
 unfolding placements
-count-is s = s .choose .ensures
+counted-requires c κs =
+    let n = c .before .before .before in
+    let s = n .before .before .before .before .before in
+    let v = c .before .count2 .given in
+    let t = ways-learnt (placementCount (given (s .args .self))) (v .0 .0) (n .count .result) (v .1) (n .count .ensures .0) in
+    (s .pre .0, s .pre .1, t .0, omega (arith, t .0, t .1))
 
-searched : (s : tie.After-least-tail) → Searched (figures (s .before .before)) (s .before .before .parts .result) (s .least-tail .result)
-searched s =
-    let p = s .before .before in
-    let f = figures p in
-    record {
-      parted = parted p;
-      found = s .least-tail .ensures ∙ ap (λ (t : ℕ). leastTail (f .q) (f .m) t (f .n / (p .parts .result * f .m))) (count-is (s .before));
-    }
+enum-told : tie.Need-enum-told
+enum-told c = search needs
 
 returns : tie.Need-returns
-returns c = (sym (tail-unfit (searched (c .before)) (omega (arith, c .if1 .taken))), tt)
-
-sub-if2 : tie.Need-sub-if2
-sub-if2 c = search needs
+returns c = search needs
 
 returns-2 : tie.Need-returns-2
-returns-2 c = (sym (burst-unfit (searched (c .before .before)) (omega (arith, c .if2 .taken))), tt)
-
-fitted : (c : tie.Else2) → Fitted (figures (c .before .before .before .before)) (c .before .before .before .before .parts .result) (c .before .before .least-tail .result)
-fitted c = record { searched = searched (c .before .before); room = omega (arith, c .before .if1 .left); short = omega (arith, c .if2 .left) }
-
-add-message-len : tie.Need-add-message-len
-add-message-len c = omega (arith, sum-fits (fitted c))
-
-add-message-len-2 : tie.Need-add-message-len-2
-add-message-len-2 c = omega (arith, sum-fits (fitted c))
-
-sub-message-len : tie.Need-sub-message-len
-sub-message-len c = omega (arith, in-range (parted (c .before .before .before .before)) .b-least)
-
-mul-message-len : tie.Need-mul-message-len
-mul-message-len c = omega (arith, taken-fits (fitted c), in-range (parted (c .before .before .before .before)) .n-most)
-
-sub-message-len-2 : tie.Need-sub-message-len-2
-sub-message-len-2 c = taken-fits (fitted c)
-
-returns-3 : tie.Need-returns-3
-returns-3 c =
-    let t = count-is (c .before .before .before) in
-    let s = c .before .before .before .before in
-    let l = c .before .before .least-tail .result in
-    let f = figures s in (
-      ap (λ (x : ℕ). figured x l (f .n - f .m * (f .b + s .parts .result + l - 1))) t ∙ figured-as (fitted c),
-      record {
-        n-is = refl;
-        q-is = refl;
-        m-is = refl;
-        b-is = refl;
-        parts-is = s .parts .ensures;
-        min-is = min-is (parted s);
-        count-is = t;
-        tail-is = tail-is (searched (c .before .before));
-        len-is = len-is (fitted c);
-      },
-    )
+unfolding placements
+returns-2 c =
+    let n = c .before .before in
+    let s = n .before .before .before .before .before in
+    let f = given (s .args .self) in
+    (sym (count-unfit f (s .pre .0) (s .pre .1) (many-learnt (placementCount f) (n .count .result) (c .enum-told .given .1) (n .count .ensures .0))), tt)
 
 pub laid-out-spec : {M : Type 1} → statement M
 laid-out-spec =
     tie.close
     (tie.spec
-    cast-n
-    cast-q
-    cast-m
-    cast-b
-    parts-requires
-    mul-block-min
-    div-block-min
-    mul-choose
-    sub-choose
-    add-choose
-    choose-requires
-    least-tail-requires
+    mul-things
+    sub-things
+    add-things
+    cast-things
+    cast-count
+    count-requires
+    enum-known-count
+    counted-requires
+    enum-told
     returns
-    sub-if2
-    returns-2
-    add-message-len
-    add-message-len-2
-    sub-message-len
-    mul-message-len
-    sub-message-len-2
-    returns-3)
+    returns-2)

@@ -47,15 +47,15 @@ piece-start-requires c κs = (omega (arith, limits (c .before .before)), omega a
 piece-len-requires : tie.Need-piece-len-requires Inv-loop μ-loop
 piece-len-requires c κs = omega arith
 
-mul-with-part : tie.Need-mul-with-part Inv-loop μ-loop
-mul-with-part c = omega (arith, below c)
+mul-put-part : tie.Need-mul-put-part Inv-loop μ-loop
+mul-put-part c = omega (arith, below (c .before))
 
-with-part-requires : tie.Need-with-part-requires Inv-loop μ-loop
-with-part-requires c κs =
-    let s = c .before .before .before in
+put-part-requires : tie.Need-put-part-requires Inv-loop μ-loop
+put-part-requires c κs =
+    let s = c .before .before .before .before in
     let l = s .before .args .layout in
     let b = limits (s .before) in
-    (omega (arith, b), omega (arith, below c), omega (arith, b, c .before .piece-start .ensures, c .piece-len .ensures, piece-next (l .n) (l .parts) (s .loop .i), piece-most (l .n) (l .parts) (suc (s .loop .i)) (omega (arith, b)) (omega arith)))
+    (omega (arith, b), omega (arith, below (c .before)), omega (arith, b, c .before .before .piece-start .ensures, c .before .piece-len .ensures, piece-next (l .n) (l .parts) (s .loop .i), piece-most (l .n) (l .parts) (suc (s .loop .i)) (omega (arith, b)) (omega arith)), s .loop .inv .1)
 
 add-i : tie.Need-add-i Inv-loop μ-loop
 add-i c = omega arith
@@ -65,14 +65,14 @@ loop-less c = omega arith
 
 loop-again : tie.Need-loop-again Inv-loop μ-loop
 loop-again c =
-    let s = c .before .before .before .before in
+    let s = c .before .before .before .before .before in
     let l = s .before .args .layout in
     let b = limits (s .before) in
-    let e = c .with-part .ensures in (
+    let e = c .put-part .ensures in (
       omega arith,
-      search needs,
-      part-more (l .n) (l .parts) (l .m) (s .loop .i) (omega (arith, b)) (s .loop .heads) (c .with-part .result) (s .loop .inv .2) (e .0)
-          (λ j h. e .1 j h ∙ ap₂ (λ (x y : ℕ). x + pieceStart y (l .m) j) (c .before .before .piece-start .ensures) (c .before .piece-len .ensures)),
+      e .0,
+      part-more (l .n) (l .parts) (l .m) (s .loop .i) (omega (arith, b)) (s .loop .heads) (c .put-part .last .0) (s .loop .inv .2) (e .1 .0)
+          (λ j h. e .1 .1 j h ∙ ap₂ (λ (x y : ℕ). x + pieceStart y (l .m) j) (c .before .before .before .piece-start .ensures) (c .before .before .piece-len .ensures)),
     )
 
 cast-heads : tie.Need-cast-heads Inv-loop μ-loop
@@ -107,8 +107,8 @@ heads-of-spec =
     loop-holds
     piece-start-requires
     piece-len-requires
-    mul-with-part
-    with-part-requires
+    mul-put-part
+    put-part-requires
     add-i
     loop-less
     loop-again

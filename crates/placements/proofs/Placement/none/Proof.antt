@@ -1,4 +1,4 @@
--- `Placement::none` meets its contract: six starts of 0, and none in use. Assumes nothing.
+-- `Placement::none` meets its contract: every start 0, and none in use. Assumes nothing.
 use mathlib.Core.Path.{refl}
 use Rattle.placements.proofs.Placement.none.Statement.{statement}
 use Rattle.placements.proofs.Placement.none.Tie as tie

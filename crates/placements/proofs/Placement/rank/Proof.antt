@@ -1,5 +1,5 @@
 -- `Placement::rank` meets its contract: what is summed and what the bursts from j on add make the rank. Assumes nothing.
-use mathlib.Core.Path.{_≡_, ap}
+use mathlib.Core.Path.{_≡_, ap, _∙_}
 use Prim.Native.Nat.{ℕ, _+_, _-_, _*_, _≤_, _<_}
 use native.Mathlib.Omega.{arith}
 use borrow.Author.Needs.{needs}
@@ -9,7 +9,6 @@ use Rattle.combinatorics.specs.Choose.{choose}
 use Rattle.combinatorics.specs.Bursts.{rankOf}
 use Rattle.combinatorics.proofs.Bursts.{placed-of}
 use Rattle.combinatorics.proofs.Loops.{left-next, left-none, placed-at, reduces, rankLeft, rank-first, rank-next, rank-none}
-use Rattle.binomials.proofs.Bounds.{mostWays, choose-fits}
 use Rattle.construction_a.specs.Figures.{maxWord, maxBursts}
 use Rattle.placements.specs.Bridge.{startsIn}
 use Rattle.placements.proofs.Placement.rank.Statement.{statement}
@@ -17,7 +16,7 @@ use Rattle.placements.proofs.Placement.rank.Tie as tie
 
 abbrev Inv-loop : tie.InvT-loop
 Inv-loop b self count gap rank₀ j₀ rank j =
-    (j ≤ self .count) × (rank ≤ j * mostWays) × (rank + rankLeft (b - 1) j (drop j (startsIn self)) ≡ rankOf b (startsIn self))
+    (j ≤ self .count) × (rank + rankLeft (b - 1) j (drop j (startsIn self)) ≡ rankOf b (startsIn self))
 
 abbrev μ-loop : tie.MeasureT-loop
 μ-loop b self count gap rank₀ j₀ rank j = self .count - j
@@ -51,7 +50,7 @@ cast-gap : tie.Need-cast-gap Inv-loop μ-loop
 cast-gap c = search needs
 
 loop-holds : tie.Need-loop-holds Inv-loop μ-loop
-loop-holds c = (omega arith, omega arith, omega (arith, rank-first (c .args .b) (startsIn (c .args .t1))))
+loop-holds c = (omega arith, omega (arith, rank-first (c .args .b) (startsIn (c .args .t1))))
 
 mul-s : tie.Need-mul-s Inv-loop μ-loop
 mul-s c = search needs
@@ -71,16 +70,27 @@ sub-reduced c = omega (arith, here (c .before))
 add-choose : tie.Need-add-choose Inv-loop μ-loop
 add-choose c = search needs
 
-choose-requires : tie.Need-choose-requires Inv-loop μ-loop
-choose-requires c κs = omega (arith, here (c .before))
+-- what burst j + 1 adds, and those behind it
+share : (c : tie.In-loop Inv-loop μ-loop)
+    → (let a = c .before .before .args in let j = c .before .loop .j in let d = a .b - 1 in
+    rankLeft d j (drop j (startsIn (a .t1))) ≡ choose (getD (a .t1 .starts) j 0 - j * d) (j + 1) + rankLeft d (j + 1) (drop (j + 1) (startsIn (a .t1))))
+share c =
+    let a = c .before .before .args in
+    let j = c .before .loop .j in
+    let d = a .b - 1 in
+    let l : length (a .t1 .starts) ≡ maxBursts = search needs in
+    ap (rankLeft d j) (left-next (a .t1 .count) j (a .t1 .starts) (omega arith) (omega arith)) ∙ rank-next d j (getD (a .t1 .starts) j 0) (drop (j + 1) (startsIn (a .t1)))
 
-small : (c : tie.After-choose Inv-loop μ-loop) → c .choose .result ≤ mostWays
-small c =
-    let s = c .before .before .before in
-    rw (c .choose .ensures) (choose-fits _ _ (omega (arith, here (c .before .before))) (omega arith))
+choose-requires : tie.Need-choose-requires Inv-loop μ-loop
+choose-requires c κs =
+    let i = c .before in
+    let s = i .before .before in
+    (omega (arith, here i), omega arith, omega (arith, share i, i .before .loop .inv .1, s .pre .small))
 
 add-rank : tie.Need-add-rank Inv-loop μ-loop
-add-rank c = omega (arith, small c)
+add-rank c =
+    let i = c .before .before in
+    omega (arith, share i, c .choose .ensures, i .before .loop .inv .1, i .before .before .pre .small)
 
 add-j : tie.Need-add-j Inv-loop μ-loop
 add-j c = search needs
@@ -90,14 +100,8 @@ loop-less c = search needs
 
 loop-again : tie.Need-loop-again Inv-loop μ-loop
 loop-again c =
-    let s = c .before .before .before in
-    let a = s .before .args in
-    let j = s .loop .j in
-    let d = a .b - 1 in
-    let l : length (a .t1 .starts) ≡ maxBursts = search needs in
-    let e = ap (rankLeft d j) (left-next (a .t1 .count) j (a .t1 .starts) (omega arith) (omega arith)) in
-    let f = rank-next d j (getD (a .t1 .starts) j 0) (drop (j + 1) (startsIn (a .t1))) in
-    (omega arith, omega (arith, small c), omega (arith, c .choose .ensures))
+    let i = c .before .before in
+    (omega arith, omega (arith, share i, c .choose .ensures, i .before .loop .inv .1))
 
 returns : tie.Need-returns Inv-loop μ-loop
 returns c =

@@ -7,15 +7,16 @@ use borrow.Author.Needs.{needs}
 use Rattle.combinatorics.specs.Choose.{choose}
 use Rattle.combinatorics.specs.Bursts.{contracted, placements, startsOf}
 use Rattle.combinatorics.proofs.Bursts.{rank-of-starts}
+use Rattle.combinatorics.proofs.Choose.{choose-before}
 use Rattle.combinatorics.proofs.Loops.{startsDown, starts-turned, starts-none, LastStart, starts-next}
-use Rattle.construction_a.specs.Figures.{maxWord}
+use Rattle.construction_a.specs.Figures.{maxWord, maxCount}
 use Rattle.placements.proofs.Filling.{Filling, fill-first, fill-turn, fill-last}
 use Rattle.placements.proofs.Placement.unrank.Statement.{statement}
 use Rattle.placements.proofs.Placement.unrank.Tie as tie
 
 abbrev Inv-loop : tie.InvT-loop
 Inv-loop n m b rank gap found₀ below₀ left₀ i₀ found below left i =
-    (i ≤ m) × (below ≤ maxWord) × (left < choose below i) × Filling (startsOf n m b rank) (startsDown (b - 1) below i left) m i found
+    (i ≤ m) × (below ≤ maxWord) × (choose below i ≤ maxCount) × (left < choose below i) × Filling (startsOf n m b rank) (startsDown (b - 1) below i left) m i found
 
 abbrev μ-loop : tie.MeasureT-loop
 μ-loop n m b rank gap found₀ below₀ left₀ i₀ found below left i = i
@@ -45,7 +46,8 @@ loop-holds c =
     let each : a .m * 1 ≤ a .m * a .b = mul-le-mul-left (a .m) (omega arith) in (
       omega arith,
       omega arith,
-      omega arith,
+      c .pre .1,
+      c .pre .2,
       fill-first (startsOf (a .n) (a .m) (a .b) (a .rank))
           (startsDown (a .b - 1) (contracted (a .n) (a .m) (a .b)) (a .m) (a .rank)) (a .m) (starts-turned (a .n) (a .m) (a .b) (a .rank)),
     )
@@ -61,7 +63,7 @@ last c =
     let l = c .before .before .loop in
     let d = c .before .before .before .args .b - 1 in
     subst (LastStart d (l .below) (l .i) (l .left)) (sym (c .last-burst .ensures .0))
-    (starts-next d (l .below) (l .i) (l .left) (c .before .loop-test .taken) (l .inv .2))
+    (starts-next d (l .below) (l .i) (l .left) (c .before .loop-test .taken) (l .inv .3))
 
 sub-left : tie.Need-sub-left Inv-loop μ-loop
 sub-left c = omega (arith, last (c .before) .reach, c .before .last-burst .ensures .1)
@@ -107,8 +109,9 @@ loop-again c =
     let e : d .last-burst .result .share ≡ choose r (l .i) = d .last-burst .ensures .1 in (
       omega arith,
       omega (arith, t .below),
+      omega (arith, l .inv .2, choose-before r (l .below) (l .i) (t .below) (d .before .loop-test .taken)),
       rw e (t .rest),
-      rw e (fill-turn (r + (l .i - 1) * (a .b - 1)) (startsDown (a .b - 1) r (l .i - 1) (l .left - choose r (l .i))) (l .inv .3) (t .starts) (omega arith) (omega arith)),
+      rw e (fill-turn (r + (l .i - 1) * (a .b - 1)) (startsDown (a .b - 1) r (l .i - 1) (l .left - choose r (l .i))) (l .inv .4) (t .starts) (omega arith) (omega arith)),
     )
 
 returns : tie.Need-returns Inv-loop μ-loop
@@ -116,8 +119,8 @@ returns c =
     let a = c .before .before .args in
     let l = c .before .loop in
     let e : l .i ≡ 0 = omega arith in
-    let f = rw (e, starts-none (a .b - 1) (l .below) (l .left)) at (l .inv .3) in
-    fill-last f (rank-of-starts (a .n) (a .m) (a .b) (omega arith) (omega arith) (a .rank) (c .before .before .pre .1) .count)
+    let f = rw (e, starts-none (a .b - 1) (l .below) (l .left)) at (l .inv .4) in
+    fill-last f (rank-of-starts (a .n) (a .m) (a .b) (omega arith) (omega arith) (a .rank) (c .before .before .pre .2) .count)
 
 pub unrank-spec : {M : Type 1} → statement M
 unrank-spec =
