@@ -4,10 +4,10 @@ use mathlib.Core.Bool.{Bool, true, false, _&&_, true≢false}
 use Prim.Native.Nat.{ℕ, suc, _≤_, _<_}
 use native.Mathlib.Omega.{arith}
 use lib.Dec.{leb, ltb}
-use Rattle.combinatorics.specs.Choose.{choose}
+use Rattle.combinatorics.specs.Choose.{choose, quick}
 use Rattle.combinatorics.specs.Stretch.{has}
 use Rattle.combinatorics.proofs.Cases.{by-le, by-bool, leb-holds}
-use Rattle.combinatorics.proofs.Choose.{quick, quick-is, choose-mono}
+use Rattle.combinatorics.proofs.Choose.{quick-is, choose-mono}
 use Rattle.combinatorics.proofs.Stretch.{has-some}
 use Rattle.construction_a.specs.Figures.{maxCount}
 use Rattle.binomials.specs.Limits.{maxThings, maxChosen, maxTaken, mostThings}

@@ -1,4 +1,4 @@
-// The ways to choose things: every count and rank asks for them here, so that a table can stand behind this one function. Assumes nothing.
+// The ways to choose things: every count and rank asks for them here. The table of choices has those that are asked for most. Assumes nothing.
 ghost use mathlib.Core.Path.{_≡_};
 ghost use Prim.Native.Nat.{_*_, _/_, _≤_};
 ghost use Rattle.combinatorics.specs.Choose.{choose as ways};
@@ -38,8 +38,19 @@ pub fn count(n: u64, k: u64) -> CountAnswer
     CountAnswer::Ways(choose(n, k))
 }
 
-// The ways to choose k things out of n, where a count can give them: the first few by one product, each further one by a step.
+// The ways to choose k things out of n, where a count can give them: from the table of choices, or worked out where it doesn't have them.
 pub fn choose(n: u64, k: u64) -> u64
+    requires { ⌜ (n ≤ maxThings) × (k ≤ maxChosen) × (ways n k ≤ maxCount) ⌝ }
+    ensures { λ r. ⌜ r ≡ ways n k ⌝ }
+{
+    if k == 0 || choices::LAST_CHOSEN < k || choices::LAST_THINGS < n {
+        return worked_out(n, k);
+    }
+    choices::entry(n, k)
+}
+
+// The same worked out: the first few by one product, each further one by a step.
+pub fn worked_out(n: u64, k: u64) -> u64
     requires { ⌜ (n ≤ maxThings) × (k ≤ maxChosen) × (ways n k ≤ maxCount) ⌝ }
     ensures { λ r. ⌜ r ≡ ways n k ⌝ }
 {

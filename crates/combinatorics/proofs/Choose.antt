@@ -5,12 +5,7 @@ use native.Mathlib.Numerals.{add-one}
 use native.Mathlib.Nat.{mul-zero, zero-div, mul-div-cancel-left, zero-lt-suc, mul-sub, mul-comm}
 use native.Mathlib.Decide.{le-ind}
 use native.Mathlib.Omega.{arith}
-use Rattle.combinatorics.specs.Choose.{choose}
-
--- the same by a product, which computes at once
-unfoldable pub quick : ℕ → ℕ → ℕ
-quick n zero = 1
-quick n (suc k) = quick n k * (n - k) / suc k
+use Rattle.combinatorics.specs.Choose.{choose, quick}
 
 pub pascal : (n k : ℕ) → choose (suc n) (suc k) ≡ choose n k + choose n (suc k)
 unfolding choose

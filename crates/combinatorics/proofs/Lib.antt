@@ -8,3 +8,4 @@ pub mod Cover
 pub mod Loops
 pub mod Scan
 mod Examples
+pub mod Table

@@ -1,7 +1,7 @@
 -- Tests over a list. Assumes nothing.
 use mathlib.Core.Bool.{Bool, true, false, _||_, _&&_}
 use mathlib.Core.List.{List, [], _∷_}
-use Prim.Native.Nat.{ℕ}
+use Prim.Native.Nat.{ℕ, suc}
 use lib.Dec.{ltb, eqb}
 
 unfoldable pub all : {A : Type 0} → (A → Bool) → List A → Bool
@@ -22,3 +22,8 @@ sameList [] [] = true
 sameList [] (y ∷ ys) = false
 sameList (x ∷ xs) [] = false
 sameList (x ∷ xs) (y ∷ ys) = eqb x y && sameList xs ys
+
+-- every number of the list passes the test with its place, counted from k on
+unfoldable pub every : (ℕ → ℕ → Bool) → ℕ → List ℕ → Bool
+every t k [] = true
+every t k (x ∷ xs) = t k x && every t (suc k) xs

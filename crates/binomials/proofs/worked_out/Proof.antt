@@ -1,4 +1,4 @@
--- `choose` meets its contract: after each turn the ways to choose i things, none of which passes the largest count. Assumes nothing.
+-- `worked_out` meets its contract: after each turn the ways to choose i things, none of which passes the largest count. Assumes nothing.
 use mathlib.Core.Path.{_≡_, sym, ap, _∙_}
 use Prim.Native.Nat.{ℕ, _+_, _*_, _-_, _/_, _≤_}
 use native.Mathlib.Omega.{arith}
@@ -8,8 +8,8 @@ use Rattle.combinatorics.proofs.Choose.{choose-next}
 use Rattle.construction_a.specs.Figures.{maxCount}
 use Rattle.binomials.proofs.Bounds.{ways-fit, most-is}
 use Rattle.binomials.proofs.Orders.{choose-more}
-use Rattle.binomials.proofs.choose.Statement.{statement}
-use Rattle.binomials.proofs.choose.Tie as tie
+use Rattle.binomials.proofs.worked_out.Statement.{statement}
+use Rattle.binomials.proofs.worked_out.Tie as tie
 
 abbrev Inv-loop : tie.InvT-loop
 Inv-loop n k chosen₀ i₀ chosen i = (i ≤ k) × (chosen ≡ waysOf n i)
@@ -70,8 +70,8 @@ returns-3 c =
     let e : l .i ≡ a .k = omega arith in
     l .inv .1 ∙ ap (waysOf (a .n)) e
 
-pub choose-spec : {M : Type 1} → statement M
-choose-spec =
+pub worked-out-spec : {M : Type 1} → statement M
+worked-out-spec =
     tie.close
     (tie.spec
     Inv-loop
