@@ -14,7 +14,7 @@ fn main() -> ExitCode {
         return ExitCode::SUCCESS;
     }
     eprintln!("usage: bench --times | --rows | --count ours|second encode|decode ROW CALLS");
-    eprintln!("       bench --transfer OURS SECOND");
+    eprintln!("       bench --time ours|second encode|decode ROW | --transfer OURS SECOND");
     ExitCode::from(2)
 }
 
@@ -24,6 +24,7 @@ fn run(args: &[&str]) -> Option<()> {
         ["--times"] => timing::table(),
         ["--rows"] => rows::list(),
         ["--count", side, call, row, calls] => rows::count(side, call, row, calls)?,
+        ["--time", side, call, row] => timing::once(side, call, row)?,
         ["--transfer", ours, second] => transfer::table(ours, second),
         _ => return None,
     }

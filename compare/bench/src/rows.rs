@@ -114,8 +114,8 @@ fn strip(rng: &mut Rng, f: &Figures) -> Strip {
     }
 }
 
-/// Makes calls for an instruction counter; None where the words are no such call.
-pub fn count(side: &str, call: &str, row: &str, calls: &str) -> Option<()> {
+/// What the words ask to measure, and the strips of that row; None where they are no such call.
+pub fn asked(side: &str, call: &str, row: &str) -> Option<(Measured, Work)> {
     let side = match side {
         "ours" => &PROVED,
         "second" => &SECOND,
@@ -128,6 +128,12 @@ pub fn count(side: &str, call: &str, row: &str, calls: &str) -> Option<()> {
     };
     let rows = rows();
     let f = rows.get(row.parse::<usize>().ok()?)?;
-    Work::new(f).run(measured, calls.parse().ok()?);
+    Some((measured, Work::new(f)))
+}
+
+/// Makes calls for an instruction counter.
+pub fn count(side: &str, call: &str, row: &str, calls: &str) -> Option<()> {
+    let (measured, mut work) = asked(side, call, row)?;
+    work.run(measured, calls.parse().ok()?);
     Some(())
 }

@@ -4,7 +4,7 @@ use std::time::Instant;
 
 use agree::sides::{PROVED, SECOND};
 
-use crate::rows::{name, rows, Measured, Work};
+use crate::rows::{asked, name, rows, Measured, Work};
 
 const ROUNDS: usize = 101;
 /// How long one measurement of a round is to take, about: short enough to be rarely interrupted.
@@ -24,6 +24,14 @@ fn time(work: &mut Work, measured: Measured, calls: usize) -> f64 {
     let begun = Instant::now();
     work.run(measured, calls);
     begun.elapsed().as_nanos() as f64 / calls as f64
+}
+
+/// Prints the nanoseconds a call of one measurement, for builds that are run in turn.
+pub fn once(side: &str, call: &str, row: &str) -> Option<()> {
+    let (measured, mut work) = asked(side, call, row)?;
+    let calls = (NANOSECONDS / time(&mut work, measured, 100).max(1.0)) as usize + 16;
+    println!("{:.1}", time(&mut work, measured, 4 * calls));
+    Some(())
 }
 
 /// Nanoseconds a symbol of each call, one list of all calls for each round.

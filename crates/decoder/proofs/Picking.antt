@@ -1,24 +1,18 @@
--- Laws of taking a message out of a word stretch by stretch. Assumes nothing.
+-- Laws of taking a message out of a word, cells of one kind at a time. Assumes nothing.
 use mathlib.Core.Path.{_≡_, refl, sym, ap, _∙_}
 use mathlib.Core.Logic.{_≢_}
 use mathlib.Core.Bool.{true, false}
-use mathlib.Core.List.{List, _++_, append-nil, append-assoc}
+use mathlib.Core.List.{List, _++_, append-nil}
 use Prim.Native.Nat.{ℕ, zero, suc, _+_, _-_, _≤_, _<_}
 use native.Mathlib.Omega.{arith}
-use lib.ListN.{length, take, drop, replicate, length-append, length-drop}
-use lib.Seq.{take-all, take-at, length-take-le}
-use borrow.Rule.Slice.PartMut.{putMid, post-is}
+use lib.ListN.{length, take, drop, replicate, length-drop}
+use lib.Seq.{take-all}
 use Rattle.combinatorics.specs.Stretch.{tabulate}
 use Rattle.combinatorics.proofs.Stretch.{length-tabulate}
 use Rattle.cells.specs.Cells.{Cell, message, is, pick}
 use Rattle.cells.proofs.Walk.{tally, tally-append, tally-same, tally-other, tally-most, plan-stretch, pick-append, pick-same, pick-other}
 use Rattle.stretches.specs.Walk.{cellNamed}
-
--- the message cells before x are taken out of w
-pub record Taken (k : ℕ) (kd : ℕ → Cell) (w : List ℕ) (x : ℕ) (out : List ℕ) (taken : ℕ) : Type 0 where
-  pub made : take taken out ≡ pick message (tabulate x 0 kd) w
-  pub count : taken ≡ tally message (tabulate x 0 kd)
-  pub size : length out ≡ k
+use Rattle.decoder.specs.Take.{Taken}
 
 other-named : (kind : ℕ) → kind ≤ 3 → kind ≢ 3 → is message (cellNamed kind) ≡ false
 other-named zero h e = refl
@@ -58,23 +52,17 @@ module _ (n k : ℕ) (kd : ℕ → Cell) (w : List ℕ) (whole : length w ≡ n)
           size = s .size;
         }
 
-    -- one of message cells is copied
-    pub taken-turn : kind ≡ 3 → (end : ℕ) → end ≡ taken + (to - x) → Taken k kd w to (putMid taken (end - taken) out (take (to - x) (drop x w))) end
-    taken-turn e end d =
+    -- one of message cells is copied; what lies behind it may be anything
+    pub taken-turn : kind ≡ 3 → (out′ : List ℕ) → length out′ ≡ k → take (taken + (to - x)) out′ ≡ take taken out ++ take (to - x) (drop x w) → Taken k kd w to out′ (taken + (to - x))
+    taken-turn e out′ d put =
         let c : is message (cellNamed kind) ≡ true = ap (λ (z : ℕ). is message (cellNamed z)) e in
-        let part = take (to - x) (drop x w) in
-        let long : length part ≡ to - x = length-take-le (to - x) (drop x w) (omega (arith, whole, length-drop x w)) in
-        let front : length (take taken out) ≡ taken = length-take-le taken out (omega (arith, s .size, taken-room e)) in
-        let put : putMid taken (end - taken) out part ≡ (take taken out ++ part) ++ drop end out =
-        ap (λ (r : List ℕ). take taken out ++ (part ++ r)) (post-is taken end out (omega arith)) ∙ sym (append-assoc (take taken out) part (drop end out)) in
-        let size : length (take taken out ++ part) ≡ end = length-append (take taken out) part ∙ omega arith in
-        rw put (record {
+        record {
           made =
-              take-at (take taken out ++ part) (drop end out) end size ∙ ap (λ (r : List ℕ). r ++ part) (s .made)
+              put ∙ ap (λ (r : List ℕ). r ++ take (to - x) (drop x w)) (s .made)
               ∙ sym (picked ∙ ap (λ (r : List ℕ). pick message (tabulate x 0 kd) w ++ r) (pick-same message (cellNamed kind) (to - x) (drop x w) c (omega (arith, whole, length-drop x w))));
           count = omega (arith, s .count, ap (tally message) longer, tally-append message (tabulate x 0 kd) (replicate (to - x) (cellNamed kind)), tally-same message (cellNamed kind) (to - x) c);
-          size = length-append (take taken out ++ part) (drop end out) ∙ omega (arith, size, length-drop end out, s .size, taken-room e);
-        })
+          size = d;
+        }
 
   pub taken-done : (taken : ℕ) (out : List ℕ) → Taken k kd w n out taken → out ≡ pick message (tabulate n 0 kd) w
   taken-done taken out s = sym (take-all taken out (omega (arith, s .size, s .count, all))) ∙ s .made

@@ -2,3 +2,4 @@ pub mod Answer
 pub mod DemandTwo
 pub mod Reader
 pub mod Exported
+pub mod Take

@@ -2,3 +2,4 @@ pub mod Spelling
 pub mod Filling
 pub mod Room
 pub mod Outcomes
+mod Resuming

@@ -1,17 +1,13 @@
-// Filling a word: every symbol is stored once, straight from the digits and the message, stretch by stretch. Assumes nothing.
+// Filling a word block by block, straight from the digits and the message. A copy may run past its end: what lies there is stored later.
+// Assumes nothing.
 ghost use mathlib.Core.Path.{_≡_};
-ghost use mathlib.Core.Bool.{cond};
-ghost use Prim.Native.Nat.{_+_, _≤_};
-ghost use lib.Dec.{eqb};
-ghost use lib.ListN.{length};
-ghost use Rattle.cells.specs.Cells.{weave, content, Enough};
-ghost use Rattle.construction_a.specs.Figures.{maxWord};
+ghost use Prim.Native.Nat.{suc};
+ghost use Rattle.cells.specs.Cells.{weave};
 ghost use Rattle.construction_a.specs.Writing.{plan, word as wordOf};
-ghost use Rattle.blocks.specs.Blocks.{KindsOf};
 ghost use Rattle.placements.specs.Bridge.{startsIn};
-ghost use Rattle.params.specs.Given.{figuresOf, HeadsOf};
-ghost use Rattle.encoder.specs.Fill.{Fillable, DigitsFor};
-ghost use Rattle.stretches.specs.Walk.{cellNamed};
+ghost use Rattle.params.specs.Given.{figuresOf};
+ghost use Rattle.stretches.specs.ByBlock.{Tables, KindIs};
+ghost use Rattle.encoder.specs.Fill.{Fillable, DigitsFor, FilledTo, ComesTo, Enters, HeadPassed, MessageUpTo, BurstHere, BurstPassed};
 use crate::digits;
 use params::Layout;
 use params::heads::heads_of;
@@ -47,50 +43,141 @@ fn fill_cells(
     message: &[u8],
     word: &mut [u8],
 )
-    requires { ⌜ Fillable layout at (now message) (now word) × HeadsOf (figuresOf layout) (now heads) × KindsOf (figuresOf layout) (startsIn at) (now kinds) × DigitsFor (figuresOf layout) (now digits) ⌝ }
+    requires { ⌜ Fillable layout at (now message) (now word) × DigitsFor (figuresOf layout) (now digits) × Tables layout at (now heads) (now kinds) ⌝ }
     ensures { λ _. ⌜ now (word .exit) ≡ weave (plan (figuresOf layout) (startsIn at)) (now (digits .entry)) (now (message .entry)) ⌝ }
 {
-    let mut here = stretches::walk_from_start(layout, at, heads);
-    let mut spelled: usize = 0;
-    let mut sent: usize = 0;
-    while here.at < layout.n {
-        let stretch = stretches::next_stretch(layout, at, heads, kinds, here);
-        let from = here.at;
-        let next = stretch.next;
-        let to = next.at;
-        fill_stretch(
-            &mut word[from..to],
-            stretch.kind,
-            &digits[spelled..],
-            &message[sent..],
-        );
-        spelled = taken(spelled, stretch.kind, stretches::DIGIT_CELL, to - from);
-        sent = taken(sent, stretch.kind, stretches::MESSAGE_CELL, to - from);
-        here = next;
+    let blocks = layout.parts * layout.m;
+    let mut here = Filling {
+        at: 0,
+        spelled: 0,
+        sent: 0,
+        passed: 0,
+    };
+    let mut block: usize = 0;
+    while block < blocks {
+        here = fill_block(layout, at, heads, kinds, digits, message, word, block, here);
+        block += 1;
     }
 }
 
-// One stretch of cells of a kind: the next digits, the next of the message, or 0.
-fn fill_stretch(stretch: &mut [u8], kind: u8, digits: &[u8], message: &[u8])
-    requires { ⌜ Enough (cellNamed kind) (length (now stretch)) (now digits) (now message) ⌝ }
-    ensures { λ _. ⌜ now (stretch .exit) ≡ content (cellNamed kind) (length (now (stretch .entry))) (now (digits .entry)) (now (message .entry)) ⌝ }
+// How far a word is filled: up to a position, from so many digits and so much of the message, past so many bursts.
+struct Filling {
+    at: usize,
+    spelled: usize,
+    sent: usize,
+    passed: usize,
+}
+
+// The cells of a block that are left, and those of the bursts that start in it.
+fn fill_block(
+    layout: Layout,
+    at: Placement,
+    heads: &[u16; Layout::MAX_HEADS],
+    kinds: &[u8; Layout::MAX_BLOCKS],
+    digits: &[u8],
+    message: &[u8],
+    word: &mut [u8],
+    block: usize,
+    from: Filling,
+) -> Filling
+    requires { ⌜ FilledTo layout at (now digits) (now message) (now word) from × Enters layout at block from × Tables layout at (now heads) (now kinds) ⌝ }
+    ensures { λ r. ⌜ FilledTo layout at (now (digits .entry)) (now (message .entry)) (now (word .exit)) r × ComesTo layout at (suc block) r ⌝ }
 {
-    if kind <= stretches::FIXED_CELL {
-        symbols::clear(stretch);
-    } else if kind == stretches::DIGIT_CELL {
-        symbols::copy_prefix(stretch, digits);
-    } else {
-        symbols::copy_prefix(stretch, message);
+    let edge = heads[block + 1] as usize;
+    let mut here = fill_head(layout, at, kinds[block], digits, message, word, block, from);
+    let mut stop = stretches::next_start(layout, at, here.passed);
+    while stop < edge {
+        here = fill_message(layout, at, digits, message, word, stop, here);
+        here = fill_burst(layout, at, digits, message, word, here);
+        stop = stretches::next_start(layout, at, here.passed);
+    }
+    if edge <= here.at {
+        return here;
+    }
+    fill_message(layout, at, digits, message, word, edge, here)
+}
+
+// The cells at a block's head that are not the message's.
+fn fill_head(
+    layout: Layout,
+    at: Placement,
+    kind: u8,
+    digits: &[u8],
+    message: &[u8],
+    word: &mut [u8],
+    block: usize,
+    from: Filling,
+) -> Filling
+    requires { ⌜ FilledTo layout at (now digits) (now message) (now word) from × Enters layout at block from × KindIs layout at block kind ⌝ }
+    ensures { λ r. ⌜ FilledTo layout at (now (digits .entry)) (now (message .entry)) (now (word .exit)) r × HeadPassed layout at block r ⌝ }
+{
+    let start = from.at;
+    if kind == blocks::FIXED {
+        word[start] = 0;
+        return Filling {
+            at: start + 1,
+            spelled: from.spelled,
+            sent: from.sent,
+            passed: from.passed,
+        };
+    }
+    if kind == blocks::INDEX {
+        let len = layout.index_tail + 1;
+        let spelled = from.spelled;
+        symbols::copy_over(&mut word[start..], &digits[spelled..], len);
+        return Filling {
+            at: start + len,
+            spelled: spelled + len,
+            sent: from.sent,
+            passed: from.passed,
+        };
+    }
+    from
+}
+
+// Cells of the message, up to a position.
+fn fill_message(
+    layout: Layout,
+    at: Placement,
+    digits: &[u8],
+    message: &[u8],
+    word: &mut [u8],
+    to: usize,
+    from: Filling,
+) -> Filling
+    requires { ⌜ FilledTo layout at (now digits) (now message) (now word) from × MessageUpTo layout at to from ⌝ }
+    ensures { λ r. ⌜ (r .at ≡ to) × (r .passed ≡ from .passed) × FilledTo layout at (now (digits .entry)) (now (message .entry)) (now (word .exit)) r ⌝ }
+{
+    let start = from.at;
+    let sent = from.sent;
+    let len = to - start;
+    symbols::copy_over(&mut word[start..], &message[sent..], len);
+    Filling {
+        at: to,
+        spelled: from.spelled,
+        sent: sent + len,
+        passed: from.passed,
     }
 }
 
-// How many digits, or symbols of the message, are stored after a stretch of a kind.
-fn taken(so_far: usize, kind: u8, wanted: u8, len: usize) -> usize
-    requires { ⌜ «so_far» + len ≤ maxWord ⌝ }
-    ensures { λ r. ⌜ r ≡ «so_far» + cond (eqb kind wanted) len 0 ⌝ }
+// A burst's cells.
+fn fill_burst(
+    layout: Layout,
+    at: Placement,
+    digits: &[u8],
+    message: &[u8],
+    word: &mut [u8],
+    from: Filling,
+) -> Filling
+    requires { ⌜ FilledTo layout at (now digits) (now message) (now word) from × BurstHere layout at from ⌝ }
+    ensures { λ r. ⌜ FilledTo layout at (now (digits .entry)) (now (message .entry)) (now (word .exit)) r × BurstPassed layout from r ⌝ }
 {
-    if kind == wanted {
-        return so_far + len;
+    let start = from.at;
+    symbols::clear_over(&mut word[start..], layout.b);
+    Filling {
+        at: start + layout.b,
+        spelled: from.spelled,
+        sent: from.sent,
+        passed: from.passed + 1,
     }
-    so_far
 }

@@ -5,3 +5,4 @@ pub mod Turns
 pub mod Simulates
 pub mod HeldNumbers
 pub mod ReplayLaws
+pub mod Marks

@@ -54,7 +54,7 @@ module _ (t : JobTable) (long : length (t .slots) ≡ slotCount) (i : ℕ) where
   slots-long : length (entries t) ≡ slotCount
   slots-long = length-map (t .slots) (λ s. s .entry) ∙ long
 
-  past-end : slotCount ≤ i → drop i (entries t) ≡ []
+  pub past-end : slotCount ≤ i → drop i (entries t) ≡ []
   past-end h = drop-of-length-le (entries t) {i = i} (omega (arith, slots-long))
 
   pub first-end : (w : Entry → Bool) → slotCount ≤ i → i + firstThat w (drop i (entries t)) ≡ i
@@ -66,7 +66,7 @@ module _ (t : JobTable) (long : length (t .slots) ≡ slotCount) (i : ℕ) where
   twice-end h = rw (past-end h)
 
   module _ (d : Slot) (h : i < slotCount) where
-    this-slot : drop i (entries t) ≡ getD (t .slots) i d .entry ∷ drop (i + 1) (entries t)
+    pub this-slot : drop i (entries t) ≡ getD (t .slots) i d .entry ∷ drop (i + 1) (entries t)
     this-slot =
         drop-cons (entries t) i (d .entry) (omega (arith, slots-long))
         ∙ ap₂ {C = List Entry} _∷_ (List·getD-map (λ s. s .entry) (t .slots) i d) (ap (λ (k : ℕ). drop k (entries t)) (sym (add-one i)))

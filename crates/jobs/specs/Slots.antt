@@ -1,8 +1,9 @@
 -- The declared table as the list of its entries, and a search through it. Assumes nothing.
 use mathlib.Core.Bool.{Bool, cond}
 use mathlib.Core.List.{List, [], _∷_, map}
-use Prim.Native.Nat.{ℕ, suc}
+use Prim.Native.Nat.{ℕ, suc, _%_}
 use Rattle.jobs.specs.declared.Entry.{Entry}
+use Rattle.jobs.specs.declared.Entry.the-variants.{Free, Open, Cancelled}
 use Rattle.jobs.specs.declared.JobTable.{JobTable}
 use Rattle.jobs.specs.declared.TableAnswer.{TableAnswer}
 use Rattle.jobs.specs.declared.Sought.{Sought}
@@ -25,3 +26,12 @@ seeks (Number n) = holds n
 unfoldable pub firstThat : (Entry → Bool) → List Entry → ℕ
 firstThat t [] = 0
 firstThat t (e ∷ es) = cond (t e) 0 (suc (firstThat t es))
+
+-- the place of an entry's mark, by its number's remainder
+abbrev pub markCount : ℕ
+markCount = 1024
+
+abbrev pub markOf : Entry → ℕ
+markOf Free = 0
+markOf (Open x) = x % markCount
+markOf (Cancelled x) = x % markCount

@@ -1,13 +1,14 @@
 // The job table (document 01's book), by value, and the replay of a list of calls on it. Assumes nothing.
 ghost use mathlib.Core.Path.{_≡_};
+ghost use mathlib.Core.Bool.{false};
 ghost use mathlib.Core.List.{[]};
 ghost use Prim.Native.Nat.{_+_};
-ghost use lib.ListN.{drop};
+ghost use lib.ListN.{length, drop};
 ghost use Rattle.refusals.specs.Refusals.{served};
 ghost use Rattle.combinatorics.specs.Lists.{all};
 ghost use Rattle.jobs.specs.Jobs.{slotCount};
 ghost use Rattle.jobs.specs.Table.{isFree, emptyTable, openOut, cancelOut, finishOut};
-ghost use Rattle.jobs.specs.Slots.{entries, outcome, seeks, firstThat};
+ghost use Rattle.jobs.specs.Slots.{entries, outcome, seeks, firstThat, markCount, markOf};
 ghost use Rattle.jobs.specs.Replay.{kindOf, callBy, isLetter, callsOf, AreCalls, replayed, made, replayOut};
 ghost use Rattle.jobs.specs.Simulation.{Follows};
 use refusals::Refusal;
@@ -40,6 +41,9 @@ enum Sought {
     FreeSlot,
     Number(u32),
 }
+
+// How many places there are for marks.
+const MARKS: usize = 1024;
 
 impl JobTable {
     pub const SLOTS: usize = 64;
@@ -127,16 +131,39 @@ impl JobTable {
     pub fn twice(self) -> bool
         ensures { λ r. ⌜ r ≡ Rattle.jobs.specs.Table.twice (entries self) ⌝ }
     {
-        let mut i: usize = 0;
-        while i < JobTable::SLOTS {
+        let mut marks = [0u8; MARKS];
+        self.twice_by(&mut marks[..MARKS])
+    }
+
+    // The same, slot by slot from the last one back. Each leaves a mark at its number's remainder; where there is none yet, no later slot has the number.
+    // A mark too many, as one that was there before, costs a search and changes no answer.
+    fn twice_by(self, marks: &mut [u8]) -> bool
+        requires { ⌜ length (now marks) ≡ markCount ⌝ }
+        ensures { λ r. ⌜ r ≡ Rattle.jobs.specs.Table.twice (entries self) ⌝ }
+    {
+        let mut i = JobTable::SLOTS;
+        while 0 < i {
+            i -= 1;
             let slot = self.slots[i];
             let entry = slot.entry;
-            if self.again(i + 1, entry) {
+            let mark = mark_of(entry);
+            if self.again_marked(i + 1, entry, marks[mark]) {
                 return true;
             }
-            i += 1;
+            marks[mark] = 1;
         }
         false
+    }
+
+    // Whether a slot from `start` on holds the entry's number too; without a mark none does.
+    fn again_marked(self, start: usize, entry: Entry, mark: u8) -> bool
+        requires { ⌜ (mark ≡ 0 → Rattle.jobs.specs.Table.again (drop start (entries self)) entry ≡ false) ⌝ }
+        ensures { λ r. ⌜ r ≡ Rattle.jobs.specs.Table.again (drop start (entries self)) entry ⌝ }
+    {
+        if mark == 0 {
+            return false;
+        }
+        self.again(start, entry)
     }
 
     // Whether a slot from `start` on holds the entry's number too.
@@ -191,6 +218,16 @@ impl JobTable {
             i += 1;
         }
         i
+    }
+}
+
+// The place of an entry's mark.
+fn mark_of(entry: Entry) -> usize
+    ensures { λ r. ⌜ r ≡ markOf entry ⌝ }
+{
+    match entry {
+        Entry::Free => 0,
+        Entry::Open(x) | Entry::Cancelled(x) => x as usize % MARKS,
     }
 }
 

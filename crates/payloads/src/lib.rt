@@ -15,8 +15,23 @@ const MAX_BYTE: u64 = 255;
 // How many bytes a job number takes.
 const NUMBER_BYTES: usize = 4;
 
+// The width at which a byte is its own symbol, so that a payload is copied and nothing is left over.
+const COPIED_WIDTH: usize = 1;
+
 // The message that spells a payload: `width` symbols for each byte, then leftovers 0.
 pub fn spell_payload(q: u64, width: usize, payload: &[u8], message: &mut [u8])
+    requires { ⌜ Measured q width (length (now payload)) (now message) ⌝ }
+    ensures { λ _. ⌜ now (message .exit) ≡ messageOf q (length (now (message .entry))) (now (payload .entry)) ⌝ }
+{
+    if width == COPIED_WIDTH {
+        symbols::copy_prefix(message, payload);
+        return;
+    }
+    spell_bytes(q, width, payload, message);
+}
+
+// The same for any width, byte by byte.
+fn spell_bytes(q: u64, width: usize, payload: &[u8], message: &mut [u8])
     requires { ⌜ Measured q width (length (now payload)) (now message) ⌝ }
     ensures { λ _. ⌜ now (message .exit) ≡ messageOf q (length (now (message .entry))) (now (payload .entry)) ⌝ }
 {
@@ -57,6 +72,17 @@ pub fn spells(q: u64, width: usize, count: usize, message: &[u8]) -> bool
     requires { ⌜ Measured q width count (now message) ⌝ }
     ensures { λ r. ⌜ r ≡ spellsPayload q (length (now (message .entry))) (now (message .entry)) ⌝ }
 {
+    if width == COPIED_WIDTH {
+        return true;
+    }
+    spells_bytes(q, width, count, message)
+}
+
+// The same for any width, byte by byte.
+fn spells_bytes(q: u64, width: usize, count: usize, message: &[u8]) -> bool
+    requires { ⌜ Measured q width count (now message) ⌝ }
+    ensures { λ r. ⌜ r ≡ spellsPayload q (length (now (message .entry))) (now (message .entry)) ⌝ }
+{
     let mut i: usize = 0;
     while i < count {
         let at = i * width;
@@ -71,6 +97,18 @@ pub fn spells(q: u64, width: usize, count: usize, message: &[u8]) -> bool
 
 // The payload that a message spells.
 pub fn unspell(q: u64, width: usize, message: &[u8], payload: &mut [u8])
+    requires { ⌜ Measured q width (length (now payload)) (now message) × (spellsPayload q (length (now message)) (now message) ≡ true) ⌝ }
+    ensures { λ _. ⌜ now (payload .exit) ≡ payloadIn q (length (now (message .entry))) (now (message .entry)) ⌝ }
+{
+    if width == COPIED_WIDTH {
+        symbols::copy_prefix(payload, message);
+        return;
+    }
+    unspell_bytes(q, width, message, payload);
+}
+
+// The same for any width, byte by byte.
+fn unspell_bytes(q: u64, width: usize, message: &[u8], payload: &mut [u8])
     requires { ⌜ Measured q width (length (now payload)) (now message) × (spellsPayload q (length (now message)) (now message) ≡ true) ⌝ }
     ensures { λ _. ⌜ now (payload .exit) ≡ payloadIn q (length (now (message .entry))) (now (message .entry)) ⌝ }
 {

@@ -1,2 +1,3 @@
 -- The modules of laws. Assumes nothing.
 mod Bound
+pub mod Copied

@@ -1,7 +1,7 @@
 // Lent symbols: tested, cleared and copied. Assumes nothing.
 ghost use mathlib.Core.Path.{_≡_};
 ghost use mathlib.Core.Bool.{_&&_};
-ghost use Prim.Native.Nat.{ℕ, _≤_, _<_};
+ghost use Prim.Native.Nat.{ℕ, _-_, _*_, _≤_, _<_};
 ghost use lib.Dec.{ltb};
 ghost use lib.ListN.{length, take, replicate};
 ghost use Rattle.combinatorics.specs.Lists.{allBelow};
@@ -61,9 +61,134 @@ pub fn copy_prefix(to: &mut [u8], from: &[u8])
     requires { ⌜ length (now to) ≤ length (now from) ⌝ }
     ensures { λ _. ⌜ now (to .exit) ≡ take (length (now (to .entry))) (now (from .entry)) ⌝ }
 {
+    let len = to.len();
+    copy_first(to, from, len);
+}
+
+// The first `len` symbols, in moves of sizes that the compiler knows. Of what lies behind them nothing is said.
+fn copy_first(to: &mut [u8], from: &[u8], len: usize)
+    requires { ⌜ (len ≤ length (now to)) × (len ≤ length (now from)) ⌝ }
+    ensures { λ _. ⌜ take len (now (to .exit)) ≡ take len (now (from .entry)) ⌝ }
+{
+    let done = copy_most(to, from, len);
+    copy_rest(&mut to[done..], &from[done..], len - done);
+}
+
+// The first `len` symbols, the last of them in chunks as long as both have a chunk left, so that what lies behind them may change too.
+pub fn copy_over(to: &mut [u8], from: &[u8], len: usize)
+    requires { ⌜ (len ≤ length (now to)) × (len ≤ length (now from)) ⌝ }
+    ensures { λ _. ⌜ take len (now (to .exit)) ≡ take len (now (from .entry)) ⌝ }
+{
+    let done = copy_most(to, from, len);
+    copy_chunks(&mut to[done..], &from[done..], len - done);
+}
+
+// MOST at a time, until fewer are left; the number of symbols copied.
+fn copy_most(to: &mut [u8], from: &[u8], len: usize) -> usize
+    requires { ⌜ (len ≤ length (now to)) × (len ≤ length (now from)) ⌝ }
+    ensures { λ r. ⌜ (r ≤ len) × (take r (now (to .exit)) ≡ take r (now (from .entry))) × (len - r < 64) ⌝ }
+{
+    let mut done: usize = 0;
+    while MOST <= len - done {
+        copy_by(&mut to[done..], &from[done..], MOST);
+        done += MOST;
+    }
+    done
+}
+
+// Fewer than MOST, a chunk at a time.
+fn copy_chunks(to: &mut [u8], from: &[u8], len: usize)
+    requires { ⌜ (len ≤ length (now to)) × (len ≤ length (now from)) × (len < 64) ⌝ }
+    ensures { λ _. ⌜ take len (now (to .exit)) ≡ take len (now (from .entry)) ⌝ }
+{
+    let mut done: usize = 0;
+    while done < len {
+        if from.len() - done < CHUNK {
+            copy_rest(&mut to[done..], &from[done..], len - done);
+            return;
+        }
+        if to.len() - done < CHUNK {
+            copy_rest(&mut to[done..], &from[done..], len - done);
+            return;
+        }
+        copy_by(&mut to[done..], &from[done..], CHUNK);
+        done += CHUNK;
+    }
+}
+
+// How many symbols go at a time where what lies behind them may change.
+const CHUNK: usize = 32;
+
+// The first `len` symbols 0. What lies behind them may change.
+pub fn clear_over(to: &mut [u8], len: usize)
+    requires { ⌜ len ≤ length (now to) ⌝ }
+    ensures { λ _. ⌜ take len (now (to .exit)) ≡ replicate len 0 ⌝ }
+{
+    let zeros = [0u8; CHUNK];
+    if CHUNK < len {
+        clear(&mut to[..len]);
+        return;
+    }
+    copy_over(to, &zeros, len);
+}
+
+// Fewer than MOST.
+fn copy_rest(to: &mut [u8], from: &[u8], len: usize)
+    requires { ⌜ (len ≤ length (now to)) × (len ≤ length (now from)) × (len < 64) ⌝ }
+    ensures { λ _. ⌜ take len (now (to .exit)) ≡ take len (now (from .entry)) ⌝ }
+{
+    let done = copy_two(to, from, len, 16);
+    copy_few(&mut to[done..], &from[done..], len - done);
+}
+
+// Fewer than 16.
+fn copy_few(to: &mut [u8], from: &[u8], len: usize)
+    requires { ⌜ (len ≤ length (now to)) × (len ≤ length (now from)) × (len < 16) ⌝ }
+    ensures { λ _. ⌜ take len (now (to .exit)) ≡ take len (now (from .entry)) ⌝ }
+{
+    let done = copy_two(to, from, len, 4);
+    copy_two(&mut to[done..], &from[done..], len - done, 1);
+}
+
+// Twice so many where that many are left, then so many; the number of symbols copied.
+fn copy_two(to: &mut [u8], from: &[u8], len: usize, size: usize) -> usize
+    requires { ⌜ (len ≤ length (now to)) × (len ≤ length (now from)) × (size ≤ 32) ⌝ }
+    ensures { λ r. ⌜ (r ≤ len) × (take r (now (to .exit)) ≡ take r (now (from .entry))) × (len < 4 * size → len - r < size) ⌝ }
+{
+    let done = copy_step(to, from, len, 2 * size);
+    done + copy_step(&mut to[done..], &from[done..], len - done, size)
+}
+
+// So many symbols where that many are left, or none; the number of symbols copied.
+fn copy_step(to: &mut [u8], from: &[u8], len: usize, size: usize) -> usize
+    requires { ⌜ (len ≤ length (now to)) × (len ≤ length (now from)) × (size ≤ 64) ⌝ }
+    ensures { λ r. ⌜ (r ≤ len) × (take r (now (to .exit)) ≡ take r (now (from .entry))) × (len < 2 * size → len - r < size) ⌝ }
+{
+    if len < size {
+        return 0;
+    }
+    copy_by(to, from, size);
+    size
+}
+
+// The most symbols that go at a time.
+const MOST: usize = 64;
+
+// The first `size` symbols, at most MOST. They go by way of a local array, so that the compiler need not fear that the two overlap: where it
+// knows the size it makes one move of this.
+fn copy_by(to: &mut [u8], from: &[u8], size: usize)
+    requires { ⌜ (size ≤ length (now to)) × (size ≤ length (now from)) × (size ≤ 64) ⌝ }
+    ensures { λ _. ⌜ take size (now (to .exit)) ≡ take size (now (from .entry)) ⌝ }
+{
+    let mut room = [0u8; MOST];
     let mut i: usize = 0;
-    while i < to.len() {
-        to[i] = from[i];
+    while i < size {
+        room[i] = from[i];
+        i += 1;
+    }
+    i = 0;
+    while i < size {
+        to[i] = room[i];
         i += 1;
     }
 }

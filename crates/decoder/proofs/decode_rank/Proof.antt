@@ -74,7 +74,7 @@ take-message-requires : tie.Need-take-message-requires
 take-message-requires c κs =
     let s = c .before .before .before .before .before .before .before .before .before .before .before .before in
     let un = c .before .before .before .before .before .before .unrank in
-    (record { lent = s .pre .0 .lent; placing = placing (s .args .layout) (s .args .rank) (un .result) (s .pre .0 .lent .finding .layout) (s .pre .0 .below) (un .ensures) }, s .pre .1, c .before .before .before .before .before .kinds-of .ensures)
+    (record { lent = s .pre .0 .lent; placing = placing (s .args .layout) (s .args .rank) (un .result) (s .pre .0 .lent .finding .layout) (s .pre .0 .below) (un .ensures) }, (s .pre .1, c .before .before .before .before .before .kinds-of .ensures))
 
 same-length : tie.Need-same-length
 same-length c = search needs

@@ -2,7 +2,7 @@
 use mathlib.Core.Path.{sym}
 use native.Mathlib.Omega.{arith}
 use borrow.Author.Needs.{needs}
-use Rattle.stretches.proofs.Walking.{start-none, start-some, few}
+use Rattle.stretches.proofs.ByBlock.{start-none, start-some, few}
 use Rattle.stretches.proofs.next_start.Statement.{statement}
 use Rattle.stretches.proofs.next_start.Tie as tie
 

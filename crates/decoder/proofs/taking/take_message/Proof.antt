@@ -1,169 +1,100 @@
--- `take_message` meets its contract: the message cells before the walk are taken. Assumes nothing.
-use mathlib.Core.Path.{_≡_, sym, _∙_, subst}
-use Prim.Native.Nat.{ℕ, _+_, _-_, _≤_}
+-- `take_message` meets its contract: the message of the blocks so far is taken. Assumes nothing.
+use mathlib.Core.Path.{_≡_, sym, ap, _∙_, subst}
+use Prim.Native.Nat.{ℕ, _-_, _≤_}
+use native.Mathlib.Numerals.{add-one}
 use native.Mathlib.Omega.{arith}
-use lib.ListN.{length, take, drop, length-drop}
-use lib.Seq.{length-take-le}
-use Rattle.combinatorics.specs.Stretch.{tabulate}
-use Rattle.cells.specs.Cells.{Cell, message as messageCell}
-use Rattle.cells.proofs.Walk.{tally, tally-count, rest-is}
-use Rattle.construction_a.specs.Figures.{Params, messageLen}
+use Rattle.cells.proofs.Cut.{block-end}
+use Rattle.construction_a.specs.Figures.{parts, blocks, headOf, messageLen}
 use Rattle.construction_a.specs.Writing.{kindAt, plan}
-use Rattle.construction_a.proofs.Figures.{Served}
-use Rattle.construction_a.proofs.Plan.{message-cells}
 use Rattle.params.specs.Given.{figuresOf}
-use Rattle.params.proofs.Fitting.{served}
+use Rattle.params.proofs.Fitting.{blocks-is, blocks-fit}
 use Rattle.placements.specs.Bridge.{startsIn}
-use Rattle.placements.proofs.Placing.{starts-placed, starts-count}
-use Rattle.stretches.specs.Walk.{Come}
-use Rattle.decoder.proofs.Picking.{Taken, taken-start, taken-room, taken-other, taken-turn, taken-done}
+use Rattle.stretches.specs.ByBlock.{Entering}
+use Rattle.stretches.proofs.ByBlock.{Walkable, walkable, entering-first}
+use Rattle.decoder.specs.Take.{Taken, Takes}
+use Rattle.decoder.proofs.Picking.{taken-start, taken-done}
+use Rattle.decoder.proofs.GoingOn.{all}
 use Rattle.decoder.proofs.taking.take_message.Statement.{statement}
 use Rattle.decoder.proofs.taking.take_message.Tie as tie
 
 abbrev Inv-loop : tie.InvT-loop
-Inv-loop layout at heads kinds word message₀ here₀ taken₀ message here taken =
-    (here .at ≤ layout .n) × Come (figuresOf layout) (startsIn at) (here .at) here
-    × Taken (messageLen (figuresOf layout)) (kindAt (figuresOf layout) (startsIn at)) word (here .at) message taken
+Inv-loop layout at heads kinds word message₀ count here₀ block₀ message here block =
+    (count ≡ blocks (figuresOf layout)) × (block ≤ count) × Entering (figuresOf layout) (startsIn at) block (here .at) (here .passed)
+    × Takes layout at word message (here .at) (here .taken)
 
 abbrev μ-loop : tie.MeasureT-loop
-μ-loop layout at heads kinds word message₀ here₀ taken₀ message here taken = layout .n - here .at
+μ-loop layout at heads kinds word message₀ count here₀ block₀ message here block = count - block
 
 -- ---- What the contract lends
 
 abbrev Start : Type 0
 Start = tie.Start Inv-loop μ-loop
 
-abbrev f : Start → Params
-f s = figuresOf (s .args .layout)
+w : (s : Start) → Walkable (figuresOf (s .args .layout)) (startsIn (s .args .at))
+w s = walkable (s .args .layout) (s .args .at) (s .pre .0 .placing)
 
-abbrev kd : Start → ℕ → Cell
-kd s = kindAt (f s) (startsIn (s .args .at))
+-- ---- What is left of the code
 
-ok : (s : Start) → Served (f s)
-ok s = served (s .args .layout) (s .pre .0 .placing .layout)
-
-whole : (s : Start) → length (s .args .word .now) ≡ s .args .layout .n
-whole s = s .pre .0 .lent .finding .complete
-
-all : (s : Start) → tally messageCell (tabulate (s .args .layout .n) 0 (kd s)) ≡ messageLen (f s)
-all s =
-    tally-count messageCell (s .args .layout .n) 0 (kd s)
-    ∙ message-cells (f s) (ok s) (startsIn (s .args .at)) (starts-placed (s .args .layout) (s .args .at) (s .pre .0 .placing)) (starts-count (s .args .layout) (s .args .at) (s .pre .0 .placing))
-
--- there is room for a stretch of message cells
-room : (c : tie.Then2 Inv-loop μ-loop) → c .before .before .before .before .before .before .before .loop .taken + (c .before .before .before .next-stretch .result .next .at - c .before .before .before .before .before .before .before .loop .here .at)
-    ≤ length (c .before .before .before .before .before .before .before .loop .message)
-room c =
-    let s = c .before .before .before .before .before .before .before .before .before .before .before in
-    let t = c .before .before .before .before .before .before .before .loop in
-    let st = c .before .before .before .next-stretch .ensures in
-    let to = c .before .before .before .next-stretch .result .next .at in
-    let kind = c .before .before .before .next-stretch .result .kind in
-    omega (arith, t .inv .2 .size, taken-room (s .args .layout .n) (messageLen (f s)) (kd s) (s .args .word .now) (whole s) (all s) (t .here .at) to kind (t .taken) (t .message) (t .inv .2) (omega (arith, st .onward)) (st .within) (st .same) (c .if2 .taken))
-
--- and that stretch of the buffer is as long
-part-size : (c : tie.Then2 Inv-loop μ-loop)
-    → let t = c .before .before .before .before .before .before .before .loop in
-    let to = c .before .before .before .next-stretch .result .next .at in
-    length (take (t .taken + (to - t .here .at) - t .taken) (drop (t .taken) (t .message))) ≡ to - t .here .at
-part-size c =
-    let t = c .before .before .before .before .before .before .before .loop in
-    let to = c .before .before .before .next-stretch .result .next .at in
-    length-take-le (t .taken + (to - t .here .at) - t .taken) (drop (t .taken) (t .message)) (omega (arith, length-drop (t .taken) (t .message), room c)) ∙ omega arith
-
-walk-from-start-requires : tie.Need-walk-from-start-requires Inv-loop μ-loop
-walk-from-start-requires c κs = let s = c .before .before in (s .pre .0 .placing, s .pre .1)
+mul-blocks : tie.Need-mul-blocks Inv-loop μ-loop
+mul-blocks c =
+    let s = c .before .before .before in
+    omega (arith, blocks-is (s .args .layout) (s .pre .0 .placing .layout), blocks-fit (s .args .layout) (s .pre .0 .placing .layout))
 
 loop-holds : tie.Need-loop-holds Inv-loop μ-loop
 loop-holds c =
     let s = c .before .before .before in
-    let come = c .walk-from-start .ensures in
-    let at = come .at-is in (
-      omega (arith, at),
-      subst (λ (x : ℕ). Come (f s) (startsIn (s .args .at)) x (c .walk-from-start .result)) (sym at) come,
-      subst (λ (x : ℕ). Taken (messageLen (f s)) (kd s) (s .args .word .now) x (s .args .message .now) 0) (sym at)
-          (taken-start (s .args .layout .n) (messageLen (f s)) (kd s) (s .args .word .now) (whole s) (all s) (s .args .message .now) (s .pre .0 .lent .room)),
+    let l = s .args .layout in
+    let p = s .pre .0 .placing in
+    let complete = s .pre .0 .lent .finding .complete in (
+      blocks-is l (p .layout),
+      omega arith,
+      entering-first (w s),
+      record {
+        placing = p;
+        whole = complete;
+        so-far =
+            taken-start (l .n) (messageLen (figuresOf l)) (kindAt (figuresOf l) (startsIn (s .args .at))) (s .args .word .now) complete (all l (s .args .at) p) (s .args .message .now)
+            (s .pre .0 .lent .room);
+      },
     )
 
-next-stretch-requires : tie.Need-next-stretch-requires Inv-loop μ-loop
-next-stretch-requires c κs =
-    let s = c .before .before .before .before .before .before .before in
-    let t = c .before .before .before .loop in
-    (s .pre .0 .placing, s .pre .1, s .pre .2, t .inv .1 .goes-on (omega arith))
+take-block-requires : tie.Need-take-block-requires Inv-loop μ-loop
+take-block-requires c κs =
+    let s = c .before .before .before .before .before .before in
+    let t = c .before .before .loop in
+    (t .inv .3, (omega (arith, t .inv .0), t .inv .2), s .pre .1)
 
-sub-end : tie.Need-sub-end Inv-loop μ-loop
-sub-end c = omega (arith, c .before .before .before .next-stretch .ensures .onward)
-
-add-end : tie.Need-add-end Inv-loop μ-loop
-unfolding messageLen
-add-end c = omega (arith, room c, c .before .before .before .before .before .before .before .loop .inv .2 .size, ok (c .before .before .before .before .before .before .before .before .before .before .before) .range .n-most)
-
-sub-copy-prefix : tie.Need-sub-copy-prefix Inv-loop μ-loop
-sub-copy-prefix c = omega (arith, room c)
-
-part-copy-prefix-start : tie.Need-part-copy-prefix-start Inv-loop μ-loop
-part-copy-prefix-start c = omega (arith, room c)
-
-part-copy-prefix-end : tie.Need-part-copy-prefix-end Inv-loop μ-loop
-part-copy-prefix-end c = omega (arith, room c)
-
-sub-copy-prefix-2 : tie.Need-sub-copy-prefix-2 Inv-loop μ-loop
-sub-copy-prefix-2 c = omega (arith, whole (c .before .before .before .before .before .before .before .before .before .before .before .before))
-
-part-copy-prefix-start-2 : tie.Need-part-copy-prefix-start-2 Inv-loop μ-loop
-part-copy-prefix-start-2 c = omega (arith, whole (c .before .before .before .before .before .before .before .before .before .before .before .before))
-
-part-copy-prefix-end-2 : tie.Need-part-copy-prefix-end-2 Inv-loop μ-loop
-part-copy-prefix-end-2 c = omega arith
-
-copy-prefix-requires : tie.Need-copy-prefix-requires Inv-loop μ-loop
-copy-prefix-requires c κs =
-    let s = c .before .before .before .before .before .before .before .before .before .before .before .before .before in
-    let t = c .before .before .before .before .before .before .before .before .before .loop in
-    let w = s .args .word .now in
-    rw (part-size (c .before .before), rest-is (t .here .at) w) (omega (arith, length-drop (t .here .at) w, c .before .before .before .before .before .next-stretch .ensures .within, whole s))
+add-block : tie.Need-add-block Inv-loop μ-loop
+add-block c =
+    let s = c .before .before .before .before .before .before .before .before .before in
+    omega (arith, blocks-fit (s .args .layout) (s .pre .0 .placing .layout), c .before .before .before .before .loop-test .taken)
 
 loop-less : tie.Need-loop-less Inv-loop μ-loop
-loop-less c = omega (arith, c .before .before .before .before .before .before .before .before .next-stretch .ensures .onward, c .before .before .before .before .before .before .before .before .next-stretch .ensures .within)
+loop-less c = omega arith
 
 loop-again : tie.Need-loop-again Inv-loop μ-loop
 loop-again c =
-    let s = c .before .before .before .before .before .before .before .before .before .before .before .before .before .before .before .before in
-    let t = c .before .before .before .before .before .before .before .before .before .before .before .before .loop in
-    let st = c .before .before .before .before .before .before .before .before .next-stretch .ensures in
-    let to = c .before .before .before .before .before .before .before .before .next-stretch .result .next .at in
-    let kind = c .before .before .before .before .before .before .before .before .next-stretch .result .kind in
-    let x = t .here .at in
-    let end = t .taken + (to - x) in (
-      st .within,
-      st .come,
-      rw (c .before .before .copy-prefix .ensures, part-size (c .before .before .before .before .before), rest-is x (s .args .word .now))
-          (taken-turn (s .args .layout .n) (messageLen (f s)) (kd s) (s .args .word .now) (whole s) (all s) x to kind (t .taken) (t .message) (t .inv .2) (omega (arith, st .onward)) (st .within) (st .same) (c .before .before .before .before .before .if2 .taken) end (omega arith)),
-    )
-
-loop-less-2 : tie.Need-loop-less-2 Inv-loop μ-loop
-loop-less-2 c = omega (arith, c .before .before .before .next-stretch .ensures .onward, c .before .before .before .next-stretch .ensures .within)
-
-loop-again-2 : tie.Need-loop-again-2 Inv-loop μ-loop
-loop-again-2 c =
-    let s = c .before .before .before .before .before .before .before .before .before .before .before in
-    let t = c .before .before .before .before .before .before .before .loop in
-    let st = c .before .before .before .next-stretch .ensures in
-    let to = c .before .before .before .next-stretch .result .next .at in
-    let kind = c .before .before .before .next-stretch .result .kind in
-    (st .within, st .come, taken-other (s .args .layout .n) (messageLen (f s)) (kd s) (s .args .word .now) (whole s) (all s) (t .here .at) to kind (t .taken) (t .message) (t .inv .2) (omega (arith, st .onward)) (st .within) (st .same) (st .named) (c .if2 .left))
+    let t = c .before .before .before .before .before .loop in
+    let r = c .before .before .take-block .ensures in
+    (t .inv .0, omega arith, rw (add-one (t .block)) (r .1), r .0)
 
 same-length : tie.Need-same-length Inv-loop μ-loop
-same-length c = c .before .before .before .loop .inv .2 .size ∙ sym (c .before .before .before .before .before .before .before .pre .0 .lent .room)
+same-length c = c .before .loop .inv .3 .so-far .size ∙ sym (c .before .before .before .before .before .pre .0 .lent .room)
 
 returns : tie.Need-returns Inv-loop μ-loop
 unfolding plan
 returns c =
-    let s = c .before .before .before .before .before .before .before in
-    let t = c .before .before .before .loop in
-    let e : t .here .at ≡ s .args .layout .n = omega (arith, t .inv .0) in
-    taken-done (s .args .layout .n) (messageLen (f s)) (kd s) (s .args .word .now) (whole s) (all s) (t .taken) (t .message)
-    (subst (λ (x : ℕ). Taken (messageLen (f s)) (kd s) (s .args .word .now) x (t .message) (t .taken)) e (t .inv .2))
+    let s = c .before .before .before .before .before in
+    let t = c .before .loop in
+    let l = s .args .layout in
+    let f = figuresOf l in
+    let kd = kindAt f (startsIn (s .args .at)) in
+    let word = s .args .word .now in
+    let k : t .block ≡ blocks f = omega (arith, t .inv .0, t .inv .1) in
+    let n : headOf f (blocks f) ≡ l .n = block-end (f .n) (parts f) (f .m) (omega (arith, w s .fits .three)) (w s .fits .some) in
+    let e : t .here .at ≡ l .n = omega (arith, t .inv .2 .from, t .inv .2 .between .within, ap (headOf f) k, n) in
+    taken-done (l .n) (messageLen f) kd word (t .inv .3 .whole) (all l (s .args .at) (s .pre .0 .placing)) (t .here .taken) (t .message)
+    (subst (λ (x : ℕ). Taken (messageLen f) kd word x (t .message) (t .here .taken)) e (t .inv .3 .so-far))
 
 pub take-message-spec : {M : Type 1} → statement M
 take-message-spec =
@@ -171,21 +102,11 @@ take-message-spec =
     (tie.spec
     Inv-loop
     μ-loop
-    walk-from-start-requires
+    mul-blocks
     loop-holds
-    next-stretch-requires
-    sub-end
-    add-end
-    sub-copy-prefix
-    part-copy-prefix-start
-    part-copy-prefix-end
-    sub-copy-prefix-2
-    part-copy-prefix-start-2
-    part-copy-prefix-end-2
-    copy-prefix-requires
+    take-block-requires
+    add-block
     loop-less
     loop-again
-    loop-less-2
-    loop-again-2
     same-length
     returns)

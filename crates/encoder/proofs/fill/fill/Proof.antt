@@ -68,7 +68,7 @@ fill-cells-requires c κs =
     let s = c .before .before .before .before .before .before .before .before .before .before .before .before .before in
     let spelled = c .before .before .before .before .before .before .before .spelled in
     let count = spelled-count (l s .q) (l s .m) (l s .«index_tail») _ (spelled .result) (spelled .ensures) in
-    (s .pre, c .before .before .before .before .heads-of .ensures, c .before .before .before .before .before .before .before .before .before .before .kinds-of .ensures, omega (arith, count, ap (λ (y : ℕ). l s .m * suc y) (fit s .laid .tail-is)))
+    (s .pre, omega (arith, count, ap (λ (y : ℕ). l s .m * suc y) (fit s .laid .tail-is)), (c .before .before .before .before .heads-of .ensures, c .before .before .before .before .before .before .before .before .before .before .kinds-of .ensures))
 
 same-length : tie.Need-same-length
 same-length c = search needs
