@@ -171,6 +171,8 @@ static void calls(void)
     }
     CALL("65 opened", 'O', 65, BURGZEMI_FULL);
     CALL("65 cancelled", 'C', 65, BURGZEMI_FULL);
+    CALL("0 opened in a full table", 'O', 0, BURGZEMI_NUMBER_ZERO);
+    CALL("0 cancelled in a full table", 'C', 0, BURGZEMI_NUMBER_ZERO);
     CALL("64 opened again", 'O', 64, BURGZEMI_ALREADY_OPEN);
     set_slot(expected, 0, 0, 0);
     CALL("1 finished", 'F', 1, BURGZEMI_SERVED);
@@ -201,6 +203,47 @@ static void calls(void)
 #undef CALL
     see("a byte short", burgzemi_call(table, sizeof table - 1, 'X', 10), BURGZEMI_LENGTH, table, expected, sizeof table);
     see("no table", burgzemi_call(table, 0, 'O', 10), BURGZEMI_LENGTH, table, expected, sizeof table);
+}
+
+/* Number 0 alone, in the first slot, one between and the last: open, cancelled, finished; and what is read and written of it. */
+static void number_zero(void)
+{
+    static const uint8_t payload0[11] = {0, 0, 0, 0, 0x41}, starts[2] = {0, 6};
+    uint8_t word[15], none[BURGZEMI_TABLE_LEN] = {0};
+    if (burgzemi_encode(15, 256, 1, 2, starts, 2, payload0, 11, word, 15) != BURGZEMI_SERVED)
+        wrong = 1;
+    for (int at = 0; at <= 63; at += 21) {
+        uint8_t table[BURGZEMI_TABLE_LEN] = {0}, expected[BURGZEMI_TABLE_LEN] = {0}, got[15], payload[11];
+#define CALL(what, letter, wanted) see(what, burgzemi_call(table, sizeof table, letter, 0), wanted, table, expected, sizeof table)
+#define WRITE(what, wanted) see(what, burgzemi_job_write(15, 256, 1, 2, table, sizeof table, starts, 2, payload0, 11, got, 15), wanted, got, untouched, 15)
+#define READ(what, wanted, held) see(what, burgzemi_job_read(15, 256, 1, 2, table, sizeof table, word, 15, payload, 11), wanted, payload, held, 11)
+        memcpy(got, untouched, sizeof got);
+        memcpy(payload, untouched, sizeof payload);
+        WRITE("an unknown 0 written", BURGZEMI_NUMBER_ZERO);
+        READ("an unknown 0 read", BURGZEMI_NOT_OPEN, untouched);
+        CALL("an unknown 0 opened", 'O', BURGZEMI_NUMBER_ZERO);
+        CALL("an unknown 0 cancelled", 'C', BURGZEMI_NUMBER_ZERO);
+        CALL("an unknown 0 finished", 'F', BURGZEMI_NOT_OPEN);
+        set_slot(table, at, 2, 0);
+        set_slot(expected, at, 2, 0);
+        WRITE("a cancelled 0 written", BURGZEMI_NUMBER_ZERO);
+        READ("a cancelled 0 read", BURGZEMI_CANCELLED, untouched);
+        CALL("a cancelled 0 opened", 'O', BURGZEMI_NUMBER_ZERO);
+        CALL("a cancelled 0 cancelled", 'C', BURGZEMI_CANCELLED);
+        CALL("a cancelled 0 finished", 'F', BURGZEMI_CANCELLED);
+        set_slot(table, at, 1, 0);
+        CALL("an open 0 cancelled", 'C', BURGZEMI_SERVED);
+        set_slot(table, at, 1, 0);
+        set_slot(expected, at, 1, 0);
+        WRITE("an open 0 written", BURGZEMI_NUMBER_ZERO);
+        READ("an open 0 read", BURGZEMI_SERVED, payload0);
+        CALL("an open 0 opened", 'O', BURGZEMI_NUMBER_ZERO);
+        memcpy(expected, none, sizeof none);
+        CALL("an open 0 finished", 'F', BURGZEMI_SERVED);
+#undef CALL
+#undef WRITE
+#undef READ
+    }
 }
 
 /* The transfer example: n 15, q 256, m 1, b 2; start 6, job 7. */
@@ -283,6 +326,7 @@ int main(void)
     large_strip("999 symbols, 8 bursts", 999, BURGZEMI_MAX_BURSTS, 15, 823);
     maps();
     calls();
+    number_zero();
     transfer_example();
     return wrong;
 }

@@ -31,7 +31,8 @@ enum burgzemi_answer {
     BURGZEMI_CANCELLED = 12,   /* the job number is cancelled */
     BURGZEMI_ALREADY_OPEN = 13,
     BURGZEMI_NOT_OPEN = 14,
-    BURGZEMI_FULL = 15         /* 64 numbers are held and a new one is needed */
+    BURGZEMI_FULL = 15,        /* 64 numbers are held and a new one is needed */
+    BURGZEMI_NUMBER_ZERO = 17  /* job number 0 is no job: opened, written, or cancelled where the table doesn't hold it */
 };
 
 /*
@@ -105,19 +106,22 @@ uint8_t burgzemi_cover(uint32_t n, uint32_t q, uint32_t m, uint32_t b,
 
 /*
  * Makes a call on the job table, which then holds what it has afterwards: letter 'O' opens the number, 'C' cancels it, 'F' finishes it. An accepted
- * call leaves 0 in the number bytes of every free slot.
+ * call leaves 0 in the number bytes of every free slot. Number 0 is no job. A table from before that rule may hold it, open or cancelled: it can then be
+ * finished or cancelled as any other.
  *
  * Refusals: 3 where table_len is not BURGZEMI_TABLE_LEN; 11 for another letter; 1 for a state above 2 or one number in two slots that aren't free; then
- * 12 13 15 for opening, 12 15 for cancelling, 12 14 for finishing.
+ * 17 12 13 15 for opening, where 17 is for every opening of 0; 17 12 15 for cancelling, where 17 is for a 0 that the table doesn't hold; 12 14 for
+ * finishing.
  */
 uint8_t burgzemi_call(uint8_t *table, size_t table_len, uint8_t letter, uint32_t number);
 
 /*
  * Writes a job's payload of K bytes, which begin with its number, high byte first, with the bursts at `starts` into `word`, of n bytes. The job must
- * be open.
+ * be open, and its number not 0.
  *
  * Refusals: 1 for the figures and for the slots of a table of BURGZEMI_TABLE_LEN bytes, as above; 2 for the figures; 10 where K is below 5; 3 where
- * table_len is not BURGZEMI_TABLE_LEN, starts_len not 2 * m, payload_len not K or word_len not n; 5 for the starts; 12 and 14 for the job.
+ * table_len is not BURGZEMI_TABLE_LEN, starts_len not 2 * m, payload_len not K or word_len not n; 5 for the starts; 17 for
+ * number 0, open or not; 12 and 14 for the job.
  */
 uint8_t burgzemi_job_write(uint32_t n, uint32_t q, uint32_t m, uint32_t b,
                            const uint8_t *table, size_t table_len,
@@ -126,7 +130,8 @@ uint8_t burgzemi_job_write(uint32_t n, uint32_t q, uint32_t m, uint32_t b,
                            uint8_t *word, size_t word_len);
 
 /*
- * Reads a found word of n symbols and puts the payload that it carries into `payload`, of K bytes. Its job must be open.
+ * Reads a found word of n symbols and puts the payload that it carries into `payload`, of K bytes. Its job must be open; a 0 that the table holds open is
+ * read too.
  *
  * Refusals: 1, 2 and 10 as for writing; 3 where table_len is not BURGZEMI_TABLE_LEN, word_len not n or payload_len not K; 4 7 8 9 for the word; 10 for
  * a message that spells no payload; 12 and 14 for the job.

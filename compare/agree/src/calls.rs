@@ -1,4 +1,4 @@
-//! Calls on tables: long lists of calls on one table, and tables made at will.
+//! Calls on tables: long lists of calls on one table, and tables made at will. Number 0 is in some, in any slot.
 
 use crate::judge::Judge;
 use crate::rng::Rng;
@@ -19,10 +19,11 @@ pub fn table(rng: &mut Rng) -> Vec<u8> {
     let mut table = vec![0; TABLE];
     let taken = rng.pick(&[0, 1, 5, 32, 60, 63, 64, 64]);
     let step = rng.pick(&[1, 1, 256, 65536, 0x0101_0101]);
+    let shift = rng.index(64);
     for (i, slot) in table.chunks_exact_mut(SLOT).enumerate() {
         if rng.below(64) < taken {
             slot[0] = rng.between(1, 2) as u8;
-            slot[1..].copy_from_slice(&(i as u32).wrapping_mul(step).to_be_bytes());
+            slot[1..].copy_from_slice(&((i + shift) as u32 % 64 * step).to_be_bytes());
         } else if rng.once_in(4) {
             slot[1..].copy_from_slice(&number(rng, 64).to_be_bytes());
         }
@@ -54,9 +55,16 @@ fn letter(rng: &mut Rng) -> u8 {
     rng.pick(b"OOOOCCFFF")
 }
 
-/// A list of calls on one table that starts empty.
-pub fn list(judge: &mut Judge, rng: &mut Rng) {
+/// The tables that demand 3's list starts from: the empty one, or 0 alone in any slot, open or cancelled.
+pub fn start(rng: &mut Rng) -> Vec<u8> {
     let mut table = vec![0; TABLE];
+    table[rng.index(64) * SLOT] = rng.below(3) as u8;
+    table
+}
+
+/// A list of calls on one table, from each kind of start.
+pub fn list(judge: &mut Judge, rng: &mut Rng) {
+    let mut table = start(rng);
     let pool = rng.pick(&[3, 40, 80, 1000]);
     for _ in 0..rng.pick(&[10, 100, 300]) {
         let number = number(rng, pool);

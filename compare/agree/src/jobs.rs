@@ -3,10 +3,11 @@
 use second::job::payload_len;
 use second::Figures;
 
-use crate::calls::{bad_table, number, table};
+use crate::calls::{bad_table, number, start, table};
 use crate::judge::{Judge, Op};
 use crate::make::{
-    damage, figures, numbers, odd_message, placement, start_bytes, symbols, wrong_len,
+    damage, figures, numbers, odd_message, placement, sound_message, start_bytes, symbols,
+    wrong_len,
 };
 use crate::rng::Rng;
 use crate::words::bad_starts_of;
@@ -25,6 +26,7 @@ pub fn round(judge: &mut Judge, rng: &mut Rng) {
     oddly_spelled(judge, rng, &f, &table);
     refused_writing(judge, rng, &f, &table, &starts);
     refused_reading(judge, rng, &f, &table);
+    zero(judge, rng, &f, &starts);
 }
 
 /// K bytes whose number is mostly one of the table's.
@@ -64,6 +66,31 @@ fn read_back(
     let at = rng.index(f.n);
     word[at] = rng.byte();
     judge.job_read(numbers(f), table, &word, payload.len());
+}
+
+/// A word of number 0 under a table that lacks it or holds it alone: it is never written, and read where it is open.
+fn zero(judge: &mut Judge, rng: &mut Rng, f: &Figures, starts: &[u16]) {
+    let table = start(rng);
+    let mut payload = rng.bytes(payload_len(f));
+    if payload.len() < 5 {
+        return;
+    }
+    payload[..4].fill(0);
+    let inputs = || format!("{f:?} {starts:?}, number 0");
+    let written = judge.job_write(numbers(f), &table, &start_bytes(starts), &payload, f.n);
+    judge.expect(Op::JobWrite, written.number == 17, &inputs, "0 is no job");
+    let message = sound_message(f, &payload);
+    let mut word = judge
+        .encode(numbers(f), &start_bytes(starts), &message, f.n)
+        .out;
+    damage(rng, f, starts, &mut word);
+    let read = judge.job_read(numbers(f), &table, &word, payload.len());
+    let right = match table.chunks_exact(5).map(|slot| slot[0]).max() {
+        Some(1) => read.number == 0 && read.out == payload,
+        Some(2) => read.number == 12,
+        _ => read.number == 14,
+    };
+    judge.expect(Op::JobRead, right, &inputs, "not what the table says of 0");
 }
 
 /// A message that needn't spell bytes: mostly sound spellings with a symbol changed, or any.

@@ -10,6 +10,8 @@ use crate::sides::{Numbers, Side, PROVED, SECOND};
 const PRINTED: u64 = 10;
 /// Bytes before and behind each lent buffer, which no call may touch; odd, so that no buffer is aligned.
 const GUARD: usize = 13;
+/// The largest refusal.
+const LARGEST: u8 = 17;
 
 #[derive(Clone, Copy, PartialEq, Eq, Debug)]
 pub enum Op {
@@ -31,11 +33,11 @@ const OPS: [(Op, &str, &[u8]); 10] = [
     (Op::Encode, "word write", &[0, 1, 2, 3, 4, 5]),
     (Op::Decode, "word read", &[0, 1, 2, 3, 4, 7, 8, 9]),
     (Op::Cover, "covering", &[0, 1, 2, 3, 4, 6]),
-    (Op::Open, "open", &[0, 1, 3, 12, 13, 15]),
-    (Op::Cancel, "cancel", &[0, 1, 3, 12, 15]),
+    (Op::Open, "open", &[0, 1, 3, 12, 13, 15, 17]),
+    (Op::Cancel, "cancel", &[0, 1, 3, 12, 15, 17]),
     (Op::Finish, "finish", &[0, 1, 3, 12, 14]),
     (Op::OtherLetter, "other letter", &[11]),
-    (Op::JobWrite, "job write", &[0, 1, 2, 3, 5, 10, 12, 14]),
+    (Op::JobWrite, "job write", &[0, 1, 2, 3, 5, 10, 12, 14, 17]),
     (
         Op::JobRead,
         "job read",
@@ -89,7 +91,8 @@ pub struct Answer {
 
 #[derive(Default)]
 pub struct Judge {
-    seen: [[u64; 17]; OPS.len()],
+    /// Answers by kind of call; the last place is for numbers that are no refusal.
+    seen: [[u64; LARGEST as usize + 2]; OPS.len()],
     /// Accepted words, by m and by how many parts have no block that looks F.
     accepted: [[u64; 3]; MAX_RUNS + 1],
     pub differences: u64,
@@ -133,7 +136,7 @@ impl Judge {
     }
 
     fn count(&mut self, op: Op, number: u8, inputs: &dyn Fn() -> String) {
-        self.seen[op as usize][number.min(16) as usize] += 1;
+        self.seen[op as usize][number.min(LARGEST + 1) as usize] += 1;
         if !OPS[op as usize].2.contains(&number) {
             self.report(
                 op,

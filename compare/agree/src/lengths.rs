@@ -39,9 +39,9 @@ fn job_calls(side: &Side, with: &mut dyn FnMut(usize, Call) -> u8) -> [u8; 8] {
     let f = FIGURES;
     let (mut word, mut payload, starts) = ([0; WORD], [0; PAYLOAD], [0; 2]);
     let mut table = [0; TABLE];
-    table[0] = 1;
+    (table[0], table[4], payload[3]) = (1, 1, 1);
     [
-        with(TABLE, &mut |long| (side.call)(long, b'O', 1)),
+        with(TABLE, &mut |long| (side.call)(long, b'O', 2)),
         with(TABLE, &mut |long| {
             (side.job_write)(f, long, &starts, &payload, &mut word)
         }),

@@ -168,6 +168,25 @@ pub fn spell(f: &Figures, layout: &Layout, index: u64, value: u128, word: &mut [
     }
 }
 
+/// The message that spells these values, of bytes or above, leftovers 0.
+fn message(f: &Figures, values: &[u32]) -> Vec<u8> {
+    let mut message = vec![0; f.k];
+    for (symbols, &value) in message.chunks_exact_mut(width(f.q)).zip(values) {
+        let mut left = value;
+        for symbol in symbols.iter_mut().rev() {
+            *symbol = (left % f.q) as u8;
+            left /= f.q;
+        }
+    }
+    message
+}
+
+/// The message that spells a payload, of any job number.
+pub fn sound_message(f: &Figures, payload: &[u8]) -> Vec<u8> {
+    let values: Vec<u32> = payload.iter().map(|&byte| byte as u32).collect();
+    message(f, &values)
+}
+
 /// A message that spells a payload, but for one byte's symbols that spell a value around 256 or the largest, or for a
 /// leftover symbol other than 0.
 pub fn odd_message(rng: &mut Rng, f: &Figures, payload: &[u8]) -> Vec<u8> {
@@ -179,14 +198,7 @@ pub fn odd_message(rng: &mut Rng, f: &Figures, payload: &[u8]) -> Vec<u8> {
         let at = rng.index(values.len());
         values[at] = odd;
     }
-    let mut message = vec![0; f.k];
-    for (symbols, &value) in message.chunks_exact_mut(w).zip(&values) {
-        let mut left = value;
-        for symbol in symbols.iter_mut().rev() {
-            *symbol = (left % f.q) as u8;
-            left /= f.q;
-        }
-    }
+    let mut message = message(f, &values);
     let leftover = f.k - w * values.len();
     if leftover > 0 && rng.once_in(4) {
         message[f.k - 1 - rng.index(leftover)] = rng.between(1, f.q as u64 - 1) as u8;

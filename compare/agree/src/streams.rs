@@ -3,9 +3,11 @@
 use second::job::payload_len;
 use second::{raw, Figures};
 
-use crate::calls::{number, TABLE};
+use crate::calls::number;
 use crate::grid;
-use crate::make::{damage, figures, numbers, odd_message, placement, start_bytes, symbols};
+use crate::make::{
+    damage, figures, numbers, odd_message, placement, sound_message, start_bytes, symbols,
+};
 use crate::rng::Rng;
 use crate::words::bad_starts_of;
 
@@ -76,9 +78,9 @@ pub fn served(rng: &mut Rng, f: &Figures, records: u64) -> Vec<u8> {
         sound: true,
     };
     stream.set(numbers(f));
-    (0..64).for_each(|number| stream.call(b'O', number));
+    (1..=64).for_each(|number| stream.call(b'O', number));
     for record in 0..records {
-        let number = stream.rng.below(64) as u32;
+        let number = stream.rng.between(1, 64) as u32;
         match record % 2 {
             0 => stream.write(f, number, true),
             _ => stream.read(f, number),
@@ -175,19 +177,10 @@ impl Stream<'_> {
     fn read(&mut self, f: &Figures, number: u32) {
         let starts = placement(self.rng, f);
         let payload = self.payload(f, number);
-        let mut table = [0; TABLE];
-        raw::call(&mut table, b'O', number);
         let mut word = vec![0; f.n];
-        if raw::job_write(
-            numbers(f),
-            &table,
-            &start_bytes(&starts),
-            &payload,
-            &mut word,
-        ) == 0
-        {
-            damage(self.rng, f, &starts, &mut word);
-        }
+        let message = sound_message(f, &payload);
+        raw::encode(numbers(f), &start_bytes(&starts), &message, &mut word);
+        damage(self.rng, f, &starts, &mut word);
         match self.rng.below(if self.sound { 1 } else { 12 }) {
             9 => {
                 let at = self.rng.index(f.n);

@@ -1,5 +1,5 @@
-//! Document 01's bench strips that aren't starred, with the answers that the paper gives, and figures at the limits of
-//! document 02's change request 11.
+//! Document 01's bench strips that aren't starred, with the answers that the paper gives, figures at the limits of
+//! document 02's change request 11, and calls on number 0, its change request 3.
 
 use crate::judge::{Judge, Op};
 use crate::sides::Numbers;
@@ -21,6 +21,7 @@ pub fn run(judge: &mut Judge) {
     reading(judge);
     book(judge);
     limits(judge);
+    zero(judge);
 }
 
 fn seventeen(judge: &mut Judge) {
@@ -121,5 +122,29 @@ fn limits(judge: &mut Judge) {
         let answer = judge.decode((n, 256, m, b), &[], 0, 1).number;
         let strip = format!("n {n}, q 256, m {m}, b {b} is {number}");
         is(judge, Op::Figures, &strip, answer == number);
+    }
+}
+
+/// Each call on number 0: under the empty table and a full one without it, and with 0 alone in any slot.
+fn zero(judge: &mut Judge) {
+    let mut full = vec![0; 320];
+    for (i, slot) in full.chunks_exact_mut(5).enumerate() {
+        slot.copy_from_slice(&[1, 0, 0, 0, i as u8 + 1]);
+    }
+    let mut answers = |table: &[u8], wanted: [u8; 3]| {
+        for (letter, number) in b"OCF".iter().zip(wanted) {
+            let answer = judge.call(table, *letter, 0).number;
+            let what = format!("letter {letter} on number 0 is {number}");
+            is(judge, Op::Open, &what, answer == number);
+        }
+    };
+    answers(&[0; 320], [17, 17, 14]);
+    answers(&full, [17, 17, 14]);
+    for slot in 0..64 {
+        let mut alone = [0; 320];
+        alone[5 * slot] = 1;
+        answers(&alone, [17, 0, 0]);
+        alone[5 * slot] = 2;
+        answers(&alone, [17, 12, 12]);
     }
 }

@@ -1,6 +1,10 @@
-//! The book of 64 places, each free or holding a job number that is open or cancelled.
+//! The book of 64 places, each free or holding a job number that is open or cancelled. Number 0 is no job: it can't be opened or written, and it is
+//! in a book only where it was opened or cancelled before that rule.
 
 pub const PLACES: usize = 64;
+
+/// The number of test trays.
+const NO_JOB: u32 = 0;
 
 #[derive(Clone, Copy, Debug, PartialEq, Eq)]
 pub enum Place {
@@ -69,7 +73,11 @@ impl Book {
         }
     }
 
+    /// Refusals 17 12 13 15.
     pub fn open(&mut self, number: u32) -> u8 {
+        if number == NO_JOB {
+            return 17;
+        }
         match self.find(number).map(|at| self.places[at]) {
             Some(Place::Cancelled(_)) => 12,
             Some(_) => 13,
@@ -77,8 +85,10 @@ impl Book {
         }
     }
 
+    /// Refusals 17, for a 0 that isn't here, 12 15.
     pub fn cancel(&mut self, number: u32) -> u8 {
         match self.find(number) {
+            None if number == NO_JOB => 17,
             Some(at) if self.places[at] == Place::Cancelled(number) => 12,
             Some(at) => {
                 self.places[at] = Place::Cancelled(number);
@@ -88,6 +98,7 @@ impl Book {
         }
     }
 
+    /// Refusals 12 14, for 0 too.
     pub fn finish(&mut self, number: u32) -> u8 {
         match self.find(number) {
             Some(at) if self.places[at] == Place::Cancelled(number) => 12,
@@ -99,7 +110,15 @@ impl Book {
         }
     }
 
-    /// What writing or reading a job asks: 12 where it is cancelled, 14 where it isn't open.
+    /// What writing a job asks: 17 for 0, then what reading asks.
+    pub fn require_writable(&self, number: u32) -> Result<(), u8> {
+        if number == NO_JOB {
+            return Err(17);
+        }
+        self.require_open(number)
+    }
+
+    /// What reading a job asks: 12 where it is cancelled, 14 where it isn't open.
     pub fn require_open(&self, number: u32) -> Result<(), u8> {
         match self.find(number).map(|at| self.places[at]) {
             Some(Place::Open(_)) => Ok(()),

@@ -58,7 +58,7 @@ fn unspell(q: u32, message: &[u8], payload: &mut [u8]) -> bool {
     true
 }
 
-/// Writes an open job's word. Refusals 10 3 5 12 14.
+/// Writes an open job's word. Refusals 10 3 5 17 12 14.
 pub fn write_job(f: &Figures, book: &Book, starts: &[u16], payload: &[u8], word: &mut [u8]) -> u8 {
     let len = payload_len(f);
     if len < LEAST_PAYLOAD {
@@ -70,7 +70,7 @@ pub fn write_job(f: &Figures, book: &Book, starts: &[u16], payload: &[u8], word:
     if !placed(f, starts) {
         return 5;
     }
-    if let Err(refusal) = book.require_open(number(payload)) {
+    if let Err(refusal) = book.require_writable(number(payload)) {
         return refusal;
     }
     let mut message = vec![0; f.k];

@@ -100,6 +100,19 @@ fn the_largest_figures() {
     );
 }
 
+/// Document 02's change request 3.
+#[test]
+fn number_zero() {
+    assert_eq!(
+        printed(
+            "4C54 4F 00000000; 4C54 43 00000000; 4C54 46 00000000; 4C54 53 000F FF 01 0002;
+            4C54 57 0006 0000000041424344454647; 4C54 57 000E 0000000041424344454647;
+            4C54 52 000000000041000042430744454647"
+        ),
+        "O 17\nC 17\nF 14\nS 0 14 0 11\nW 17\nW 5\nR 14\nend\n"
+    );
+}
+
 #[test]
 fn one_record_too_many() {
     let mut machine = Machine::default();

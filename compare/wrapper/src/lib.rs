@@ -154,7 +154,7 @@ pub fn cover(f: &Figures, map: &[u8]) -> Result<Placement, Refusal> {
     Ok(Placement::of(starts))
 }
 
-/// Writes the word of an open job; the payload is its number, high byte first, and its text.
+/// Writes the word of an open job; the payload is its number, high byte first and never 0, and its text.
 pub fn job_write(
     f: &Figures,
     table: &Table,

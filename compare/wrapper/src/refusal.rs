@@ -2,26 +2,33 @@
 
 use std::fmt;
 
-/// The number of a refusal, 1 to 15.
+/// The number of a refusal: 1 to 15, or 17.
 #[derive(Clone, Copy, PartialEq, Eq, Hash, Debug)]
 pub struct Refusal(u8);
 
-const TEXTS: [&str; 15] = [
-    "a figure is out of range, or a job table has an unknown state or one number twice",
-    "the figures don't fit",
-    "a list or a buffer has another length than the figures give",
-    "a symbol of q or more, or a map byte above 1",
-    "starts too close, descending, or past the end",
-    "no placement covers the map",
-    "the blocks' first symbols are in no listed pattern",
-    "the value at the heads of the index blocks is no rank",
-    "the placement disagrees with the index or fixed blocks",
-    "no room for a job, or the message spells no payload",
-    "a record is unreadable, or one too many",
-    "the job number is cancelled",
-    "the job number is already open",
-    "the job number is not open",
-    "64 job numbers are held and a new one is needed",
+const TEXTS: [(u8, &str); 16] = [
+    (
+        1,
+        "a figure is out of range, or a job table has an unknown state or one number twice",
+    ),
+    (2, "the figures don't fit"),
+    (
+        3,
+        "a list or a buffer has another length than the figures give",
+    ),
+    (4, "a symbol of q or more, or a map byte above 1"),
+    (5, "starts too close, descending, or past the end"),
+    (6, "no placement covers the map"),
+    (7, "the blocks' first symbols are in no listed pattern"),
+    (8, "the value at the heads of the index blocks is no rank"),
+    (9, "the placement disagrees with the index or fixed blocks"),
+    (10, "no room for a job, or the message spells no payload"),
+    (11, "a record is unreadable, or one too many"),
+    (12, "the job number is cancelled"),
+    (13, "the job number is already open"),
+    (14, "the job number is not open"),
+    (15, "64 job numbers are held and a new one is needed"),
+    (17, "job number 0 is no job"),
 ];
 
 impl Refusal {
@@ -40,6 +47,7 @@ impl Refusal {
     pub const ALREADY_OPEN: Refusal = Refusal(13);
     pub const NOT_OPEN: Refusal = Refusal(14);
     pub const FULL: Refusal = Refusal(15);
+    pub const NUMBER_ZERO: Refusal = Refusal(17);
 
     /// The outcome that a C call's answer stands for.
     pub(crate) fn of(answer: u8) -> Result<(), Refusal> {
@@ -56,10 +64,8 @@ impl Refusal {
 
     /// What was wrong.
     pub fn text(self) -> &'static str {
-        TEXTS
-            .get(self.0 as usize - 1)
-            .copied()
-            .unwrap_or("an unknown refusal")
+        let known = TEXTS.iter().find(|(number, _)| *number == self.0);
+        known.map_or("an unknown refusal", |(_, text)| text)
     }
 }
 

@@ -28,10 +28,12 @@ impl Table {
         &self.bytes
     }
 
+    /// Number 0 is no job, and always refused.
     pub fn open(&mut self, number: u32) -> Result<(), Refusal> {
         Refusal::of(raw::call(&mut self.bytes, b'O', number))
     }
 
+    /// A 0 is refused unless the table holds it.
     pub fn cancel(&mut self, number: u32) -> Result<(), Refusal> {
         Refusal::of(raw::call(&mut self.bytes, b'C', number))
     }

@@ -1,6 +1,8 @@
 //! Bench strips of document 01, through the wrapper.
 
-use burgzemi::{cover, decode, encode, Figures, Refusal, Table, MAX_RUNS, MAX_WORD};
+use burgzemi::{
+    cover, decode, encode, job_read, job_write, Figures, Refusal, Table, MAX_RUNS, MAX_WORD,
+};
 
 fn symbols(text: &str) -> Vec<u8> {
     text.bytes()
@@ -145,9 +147,35 @@ fn the_table() {
     assert_eq!(Table::from_bytes(twice).open(9), Err(Refusal::INVALID));
 }
 
+/// Document 02's change request 3.
+#[test]
+fn number_zero() {
+    let mut table = Table::new();
+    assert_eq!(table.open(0), Err(Refusal::NUMBER_ZERO));
+    assert_eq!(table.cancel(0), Err(Refusal::NUMBER_ZERO));
+    assert_eq!(table.finish(0), Err(Refusal::NOT_OPEN));
+    let mut kept = [0; Table::LEN];
+    kept[5] = 1;
+    let mut table = Table::from_bytes(kept);
+    assert_eq!(table.open(0), Err(Refusal::NUMBER_ZERO));
+    let strip = Figures::new(15, 256, 1, 2).expect("these figures fit");
+    let (mut word, mut payload) = ([0xEE; 15], [0; 11]);
+    let written = job_write(&strip, &table, &[6], &payload, &mut word);
+    assert_eq!(written, Err(Refusal::NUMBER_ZERO));
+    assert_eq!(encode(&strip, &[6], b"\0\0\0\0ABCDEFG", &mut word), Ok(()));
+    assert_eq!(job_read(&strip, &table, &word, &mut payload), Ok(()));
+    assert_eq!(payload, *b"\0\0\0\0ABCDEFG");
+    assert_eq!(table.cancel(0), Ok(()));
+    assert_eq!(table.cancel(0), Err(Refusal::CANCELLED));
+}
+
 #[test]
 fn refusals_say_what_was_wrong() {
     assert_eq!(Refusal::FULL.number(), 15);
+    assert_eq!(
+        Refusal::NUMBER_ZERO.to_string(),
+        "refused with 17: job number 0 is no job"
+    );
     assert_eq!(
         Refusal::UNFIT.to_string(),
         "refused with 2: the figures don't fit"

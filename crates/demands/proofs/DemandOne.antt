@@ -24,9 +24,9 @@ use Rattle.construction_a.proofs.Ranking.{covers-least}
 use Rattle.jobs.proofs.Simulates.{simulation}
 use Rattle.jobs.specs.declared.Entry.{Entry}
 use Rattle.jobs.specs.declared.Entry.the-variants.{Free, Open, Cancelled}
-use Rattle.jobs.specs.Jobs.{Kind, opening, cancelling, finishing, Status, unknown, opened, cancelled}
+use Rattle.jobs.specs.Jobs.{Kind, opening, cancelling, finishing, isJob, Status, unknown, opened, cancelled}
 use Rattle.jobs.specs.Replay.{kindOf, known, callBy, isLetter, lengthsFit, ReplayOut, replayOut}
-use Rattle.jobs.specs.Table.{isFree, lookup, emptyTable, TableOut, put, twice, decide, openAt, cancelAt, finishAt, openOut, cancelOut, finishOut, callAs}
+use Rattle.jobs.specs.Table.{isFree, lookup, TableOut, put, twice, decide, openJob, openAt, cancelAt, finishAt, openOut, cancelOut, finishOut, callAs}
 use Rattle.payloads.specs.Payload.{carriesJob, payloadIn, spellsPayload, jobNumber}
 use Rattle.decoder.specs.Exported.{Exported, answered, exportedOut}
 use Rattle.jobcodec.specs.DemandThree.{isRefusal}
@@ -134,17 +134,22 @@ module _ (es : List Entry) where
   abbrev Calls : List ℕ → TableOut → Type 0
   Calls order o = AnswersBy order (o .answer) es (o .table)
 
-  open-at : (e : Entry) (n : ℕ) → Calls (call opening) (openAt e n es)
+  open-entry : (e : Entry) (n : ℕ) → Calls (call opening) (openJob e n es)
   unfolding put isRefusal all any
-  open-at (Cancelled x) n = keep refl refl
-  open-at (Open x) n = keep refl refl
-  open-at Free n = tested (Calls (call opening)) (any isFree es) (keep refl refl) (done refl)
+  open-entry (Cancelled x) n = keep refl refl
+  open-entry (Open x) n = keep refl refl
+  open-entry Free n = tested (Calls (call opening)) (any isFree es) (keep refl refl) (done refl)
+
+  open-at : (e : Entry) (n : ℕ) → Calls (call opening) (openAt e n es)
+  unfolding isRefusal all any
+  open-at e n = tested (Calls (call opening)) (isJob n) (keep refl refl) (open-entry e n)
 
   cancel-at : (e : Entry) (n : ℕ) → Calls (call cancelling) (cancelAt e n es)
   unfolding put isRefusal all any
   cancel-at (Cancelled x) n = keep refl refl
   cancel-at (Open x) n = done refl
-  cancel-at Free n = tested (Calls (call cancelling)) (any isFree es) (keep refl refl) (done refl)
+  cancel-at Free n =
+      tested (Calls (call cancelling)) (isJob n) (keep refl refl) (tested (Calls (call cancelling)) (any isFree es) (keep refl refl) (done refl))
 
   finish-at : (e : Entry) (n : ℕ) → Calls (call finishing) (finishAt e n es)
   unfolding isRefusal all any
@@ -174,14 +179,15 @@ module _ (es : List Entry) where
   call-by none n = keep refl refl
   call-by (some k) n = call-as k n
 
-abbrev Replays : List ℕ → ReplayOut → Type 0
-Replays answers o = AnswersBy {A = List Entry × List ℕ} listOfCalls (o .answer) (emptyTable, answers) (o .table, o .answers)
+abbrev Replays : List Entry → List ℕ → ReplayOut → Type 0
+Replays es answers o = AnswersBy {A = List Entry × List ℕ} listOfCalls (o .answer) (es, answers) (o .table, o .answers)
 
-replay : (letters numbers answers : List ℕ) → Replays answers (replayOut letters numbers answers)
+replay : (es : List Entry) (letters numbers answers : List ℕ) → Replays es answers (replayOut es letters numbers answers)
 unfolding replayOut isRefusal all any
-replay letters numbers answers =
-    tested (Replays answers) (lengthsFit letters numbers answers) (keep refl refl)
-    (tested (Replays answers) (all isLetter letters) (keep refl refl)
+replay es letters numbers answers =
+    let P = Replays es answers in
+    tested P (lengthsFit letters numbers answers) (keep refl refl)
+    (tested P (all isLetter letters) (keep refl refl)
     (done refl))
 
 -- ---- Jobs
@@ -196,7 +202,8 @@ job-write f es at payload out =
     (tested P (carriesJob (f .q) k) (keep refl refl)
     (tested P (eqb (at .count) (f .m) && eqb (length payload) (payloadLen (f .q) k) && eqb (length out) (f .n)) (keep refl refl)
     (tested P (apart (f .b) (f .n) 0 (inUse at)) (keep refl refl)
-    (where-open P (unwritten out) (jobStatus es payload) (keep refl refl) (keep refl refl) (done refl))))))
+    (tested P (isJob (jobNumber payload)) (keep refl refl)
+    (where-open P (unwritten out) (jobStatus es payload) (keep refl refl) (keep refl refl) (done refl)))))))
 
 abbrev ReadsJob : List ℕ → JobRead → Type 0
 ReadsJob out o = AnswersBy jobRead (o .answer) out (o .payload)
@@ -216,12 +223,12 @@ job-read f es w out =
     (λ ss ms. tested P (spellsPayload q k ms) (keep refl refl)
     (where-open P (withhold out) (jobStatus es (payloadIn q k ms)) (keep refl refl) (keep refl refl) (done refl))))))))
 
-list-and-read : (f : Params) (letters numbers answers w out : List ℕ)
-    → ListAnswers (listOut f letters numbers answers w out .answer) answers out (listOut f letters numbers answers w out)
+list-and-read : (f : Params) (es : List Entry) (letters numbers answers w out : List ℕ)
+    → ListAnswers (listOut f es letters numbers answers w out .answer) answers out (listOut f es letters numbers answers w out)
 unfolding listOut
-list-and-read f letters numbers answers w out =
-    let r = replayOut letters numbers answers in
-    let h = replay letters numbers answers in
+list-and-read f es letters numbers answers w out =
+    let r = replayOut es letters numbers answers in
+    let h = replay es letters numbers answers in
     tested (λ (o : ListOut). ListAnswers (o .answer) answers out o) (eqb (r .answer) served)
     (record { numbers = h .numbers; answer = h .answer; keeps = λ d. ap (λ (x : List Entry × List ℕ). (x .1, out)) (h .keeps d) })
     (job-read f (r .table) w out)

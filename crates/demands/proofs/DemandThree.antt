@@ -2,34 +2,33 @@
 use mathlib.Core.Path.{_≡_, refl, sym, ap, subst, _∙_}
 use mathlib.Core.Logic.{_≢_}
 use mathlib.Core.Bool.{Bool, true, false, _&&_, false≢true}
-use mathlib.Core.List.{List, [], _∷_, _++_}
+use mathlib.Core.List.{List, [], _∷_}
 use mathlib.Core.Option.{Option, none, some}
 use Prim.Native.Nat.{ℕ, _+_, _≤_, _<_}
 use native.Mathlib.Omega.{arith}
 use lib.Dec.{eqb}
-use lib.ListN.{length, getD, drop, replicate}
-use Rattle.refusals.specs.Refusals.{served, invalid, unfit, wrongLength}
+use lib.ListN.{length, drop, replicate}
+use Rattle.refusals.specs.Refusals.{served, invalid, unfit}
 use Rattle.combinatorics.specs.Lists.{all}
-use Rattle.combinatorics.proofs.Cases.{by-bool, by-eq, eqb-true, eqb-other}
-use Rattle.combinatorics.proofs.Lists.{both, all-append}
+use Rattle.combinatorics.proofs.Cases.{by-bool, eqb-true, eqb-other}
+use Rattle.combinatorics.proofs.Lists.{both}
 use Rattle.cells.specs.Bytes.{payloadLen}
 use Rattle.construction_a.specs.Figures.{Params, inRange, fits, placementCount, indexTail, messageLen}
 use Rattle.construction_a.specs.Outcomes.{figured, figuresNumber, figuresOut}
 use Rattle.construction_a.proofs.Outcomes.{figures-invalid, figures-unfit, figures-served}
 use Rattle.jobs.specs.declared.Entry.{Entry}
-use Rattle.jobs.specs.Jobs.{Kind, finishing, Call, on, Status, unknown, opened, cancelled, needsOpen}
+use Rattle.jobs.specs.Jobs.{Kind, Call}
 use Rattle.jobs.specs.Replay.{kindOf, known, callBy, isLetter, callBefore}
-use Rattle.jobs.specs.Ledger.{status, verdict, enter, verdictsFrom, ledgerFrom}
+use Rattle.jobs.specs.Simulation.{empty}
 use Rattle.jobs.specs.Table.{emptyTable, answersFrom, tableFrom}
 use Rattle.payloads.specs.Payload.{jobNumber}
 use Rattle.jobcodec.specs.DemandThree.{ClaimA}
 use Rattle.jobcodec.specs.JobRead.{JobRead, jobReadOut}
 use Rattle.jobcodec.proofs.DemandThree.{follows-claim, demand-three}
-use Rattle.exports.specs.Follows.{callOn, answersOn, bytesAfter, emptyBytes, numbered}
-use Rattle.exports.specs.Jobs.{CallLent, called}
-use Rattle.exports.specs.Table.{tableLen, statesKnown, tableIn}
-use Rattle.exports.proofs.Follows.{bytes-follow}
-use Rattle.exports.proofs.JobLaws.{call-length, call-state, read-whole}
+use Rattle.exports.specs.Follows.{answersOn, bytesAfter}
+use Rattle.exports.specs.Table.{tableIn}
+use Rattle.exports.proofs.Follows.{bytes-left, bytes-follow}
+use Rattle.exports.proofs.JobLaws.{read-whole}
 use Rattle.transfer.specs.Session.{Session, atStart, maxRecords, after}
 use Rattle.transfer.specs.Lines.{refusalLine}
 use Rattle.transfer.specs.Records.{letterS, letterR, headLen, isMarked, letterOf, current, recordLen, readable, Step, figuresIn, figuresStep, callStep, readStep, readOut, stepOut}
@@ -38,50 +37,12 @@ use Rattle.demands.specs.DemandThree.{BytesClaimed, sessionAfter, linesO
 
 -- ---- A program in C
 
--- the bytes after the calls fit: one call more would be refused with 3 or 1 otherwise, and the ledger answers neither
-last-answer : (calls : List Call) (bytes : List ℕ) (h : List Call) (c : Call) → answersOn bytes (calls ++ (c ∷ [])) ≡ verdictsFrom h (calls ++ (c ∷ []))
-    → callOn (bytesAfter bytes calls) c .answer ≡ verdict (ledgerFrom h calls) c
-unfolding answersOn bytesAfter verdictsFrom ledgerFrom
-last-answer [] bytes h c e = ap (λ (l : List ℕ). getD l 0 0) e
-last-answer (d ∷ cs) bytes h c e = last-answer cs (callOn bytes d .table) (enter h d) c (ap (λ (l : List ℕ). drop 1 l) e)
-
-abbrev next : Call
-next = on finishing 0
-
--- what the ledger answers a finishing with
-never-3 : (s : Status) → needsOpen s ≢ wrongLength
-never-3 unknown e = omega (arith, e)
-never-3 opened e = omega (arith, e)
-never-3 cancelled e = omega (arith, e)
-
-never-1 : (s : Status) → needsOpen s ≢ invalid
-never-1 unknown e = omega (arith, e)
-never-1 opened e = omega (arith, e)
-never-1 cancelled e = omega (arith, e)
-
-module _ (calls : List Call) (h : all numbered calls ≡ true) where
-  abbrev final : List ℕ
-  final = bytesAfter emptyBytes calls
-
-  next-answer : callOn final next .answer ≡ needsOpen (status (ledgerFrom [] calls) 0)
-  unfolding verdict all
-  next-answer = last-answer calls emptyBytes [] next (bytes-follow (calls ++ (next ∷ [])) (all-append numbered calls (next ∷ []) h refl) .judged)
-
-  refused-not : (a : ℕ) → callOn final next ≡ called a final → ((s : Status) → needsOpen s ≢ a) → ⊥
-  refused-not a e never = never (status (ledgerFrom [] calls) 0) (sym next-answer ∙ ap (λ (o : CallLent). o .answer) e)
-
-  size : length final ≡ tableLen
-  size = by-eq (length final) tableLen (λ _. length final ≡ tableLen) (λ e. e) (λ d. absurd (refused-not wrongLength (call-length final 70 0 d) never-3))
-
-  states : statesKnown final ≡ true
-  unfolding kindOf
-  states = by-bool (statesKnown final) (λ e. e) (λ e. absurd (refused-not invalid (call-state final 70 0 size refl e) never-1))
-
 pub bytes-claimed : BytesClaimed
-bytes-claimed f calls w out h =
-    let b = bytesAfter emptyBytes calls in
-    subst (λ (r : JobRead). ClaimA f calls w out (answersOn emptyBytes calls) r) (read-whole f b w out (size calls h) (states calls h))
-    (follows-claim f [] calls (answersOn emptyBytes calls) (tableIn b) w out (bytes-follow calls h))
+bytes-claimed f bytes es before b s calls w out h =
+    let last = bytesAfter bytes calls in
+    let left = bytes-left bytes es before b s calls h in
+    subst (λ (r : JobRead). ClaimA f before calls w out (answersOn bytes calls) r) (read-whole f last w out (left .size) (left .known))
+    (follows-claim f before calls (answersOn bytes calls) (tableIn last) w out (bytes-follow bytes es before b s calls h))
 
 -- ---- A session of the transfer program
 
@@ -215,7 +176,7 @@ session-claimed figures calls reading h =
       answersFrom emptyTable cs,
       jobReadOut g (tableFrom emptyTable cs) (drop headLen reading) out,
       record {
-        claim = demand-three g cs (drop headLen reading) out;
+        claim = demand-three g emptyTable [] empty cs (drop headLen reading) out;
         answered = lines-are figures reading calls h;
         printed = read-last figures reading calls h;
       },

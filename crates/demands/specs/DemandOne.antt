@@ -18,7 +18,7 @@ use Rattle.jobs.specs.declared.Entry.{Entry}
 use Rattle.jobs.specs.Jobs.{Kind, opening, cancelling, finishing}
 use Rattle.jobs.specs.Replay.{kindOf, callBy, replayOut}
 use Rattle.jobs.specs.Simulation.{Simulation}
-use Rattle.jobs.specs.Table.{emptyTable, openOut, cancelOut, finishOut}
+use Rattle.jobs.specs.Table.{openOut, cancelOut, finishOut}
 use Rattle.decoder.specs.Exported.{exportedOut}
 use Rattle.jobcodec.specs.DemandThree.{isRefusal}
 use Rattle.jobcodec.specs.JobWrite.{jobWriteOut}
@@ -33,7 +33,7 @@ use Rattle.demands.specs.Orders.{figuresAlone, wordWrite, covering, word
 
 -- A call whose order is given answers a; what was lent is then `left`.
 pub record AnswersBy {A : Type 0} (order : List ℕ) (a : ℕ) (lent left : A) : Type 0 where
-  -- the order has numbers of document 01's two lists
+  -- the order has numbers of document 01's two lists, which document 02's join
   pub numbers : all isRefusal order ≡ true
   -- 0, or a number of the order
   pub answer : any (eqb a) (served ∷ order) ≡ true
@@ -69,16 +69,15 @@ pub record DemandOne : Type 0 where
   pub cancel-job : (es : List Entry) (n : ℕ) → AnswersBy (call cancelling) (cancelOut es n .answer) es (cancelOut es n .table)
   pub finish-job : (es : List Entry) (n : ℕ) → AnswersBy (call finishing) (finishOut es n .answer) es (finishOut es n .table)
   pub call-by : (k : Option Kind) (es : List Entry) (n : ℕ) → AnswersBy (callByLetter k) (callBy k es n .answer) es (callBy k es n .table)
-  -- from the empty table
-  pub replay : (letters numbers answers : List ℕ)
-      → AnswersBy {A = List Entry × List ℕ} listOfCalls (replayOut letters numbers answers .answer) (emptyTable, answers)
-      (replayOut letters numbers answers .table, replayOut letters numbers answers .answers)
+  pub replay : (es : List Entry) (letters numbers answers : List ℕ)
+      → AnswersBy {A = List Entry × List ℕ} listOfCalls (replayOut es letters numbers answers .answer) (es, answers)
+      (replayOut es letters numbers answers .table, replayOut es letters numbers answers .answers)
   -- ---- Jobs
   pub job-write : (f : Params) (es : List Entry) (at : Held) (payload out : List ℕ)
       → AnswersBy jobWrite (jobWriteOut f es at payload out .answer) out (jobWriteOut f es at payload out .word)
   pub job-read : (f : Params) (es : List Entry) (w out : List ℕ) → AnswersBy jobRead (jobReadOut f es w out .answer) out (jobReadOut f es w out .payload)
-  pub list-and-read : (f : Params) (letters numbers answers w out : List ℕ)
-      → ListAnswers (listOut f letters numbers answers w out .answer) answers out (listOut f letters numbers answers w out)
+  pub list-and-read : (f : Params) (es : List Entry) (letters numbers answers w out : List ℕ)
+      → ListAnswers (listOut f es letters numbers answers w out .answer) answers out (listOut f es letters numbers answers w out)
   -- ---- For other languages
   pub word-read-bytes : (f : Params) (w out starts : List ℕ)
       → AnswersBy {A = List ℕ × List ℕ} wordRead (exportedOut f w out starts .answer) (out, starts)

@@ -11,27 +11,32 @@ use Rattle.combinatorics.specs.Lists.{all}
 use Rattle.cells.specs.Bytes.{payloadLen}
 use Rattle.construction_a.specs.Figures.{Params, messageLen}
 use Rattle.construction_a.specs.Outcomes.{figuresNumber, figuresOut}
+use Rattle.jobs.specs.declared.Entry.{Entry}
 use Rattle.jobs.specs.Jobs.{Call}
 use Rattle.jobs.specs.Replay.{kindOf, isLetter, callBefore}
+use Rattle.jobs.specs.Simulation.{Start}
 use Rattle.payloads.specs.Payload.{jobNumber}
 use Rattle.jobcodec.specs.DemandThree.{ClaimA}
 use Rattle.jobcodec.specs.JobRead.{JobRead}
-use Rattle.exports.specs.Follows.{answersOn, bytesAfter, emptyBytes, numbered}
+use Rattle.exports.specs.Follows.{answersOn, bytesAfter, numbered}
 use Rattle.exports.specs.Jobs.{jobReadBytesOut}
+use Rattle.exports.specs.Table.{TableOf}
 use Rattle.transfer.specs.Lines.{refusalLine}
 use Rattle.transfer.specs.Records.{letterS, letterR, headLen, isMarked, letterOf, figuresIn, readStep, stepOut}
 use Rattle.transfer.specs.Session.{Session, atStart, maxRecords}
 
 -- ---- A program in C
 
--- Any list of `burgzemi_call` on 320 bytes of 0, each on the bytes that the one before left, then `burgzemi_job_read` on the last ones: the claim of the
--- answers, and of what the reading answers and leaves in the lent payload.
+-- Any list of `burgzemi_call` on the bytes of a table that a list may start from, each on the bytes that the one before left, then `burgzemi_job_read` on
+-- the last ones: the claim of the answers, and of what the reading answers and leaves in the lent payload. 320 bytes of 0 are the empty table
+-- (`EmptyBytes`).
 abbrev pub BytesClaimed : Type 0
 BytesClaimed =
-    (f : Params) (calls : List Call) (w out : List ℕ) → all numbered calls ≡ true
-    → ClaimA f calls w out (answersOn emptyBytes calls) (jobReadBytesOut f (bytesAfter emptyBytes calls) w out)
+    (f : Params) (bytes : List ℕ) (es : List Entry) (before : List Call) → TableOf bytes es → Start es before
+    → (calls : List Call) (w out : List ℕ) → all numbered calls ≡ true
+    → ClaimA f before calls w out (answersOn bytes calls) (jobReadBytesOut f (bytesAfter bytes calls) w out)
 
--- ---- A session of the transfer program: an S, any O, C and F, then an R
+-- ---- A session of the transfer program: an S, any O, C and F, then an R. "The book starts empty"
 
 -- the steps of records, one after the other: the session after them, and the lines
 unfoldable pub sessionAfter : Session → List (List ℕ) → Session
@@ -72,7 +77,7 @@ answerLines (r ∷ rs) (a ∷ answers) = refusalLine (letterOf r) a ∷ answerLi
 
 -- what is printed are the lines of answers and of a job reading that the claim is true of; the payload's buffer is the program's own and holds 0
 pub record SessionClaim (figures : List ℕ) (calls : List (List ℕ)) (reading answers : List ℕ) (r : JobRead) : Type 0 where
-  pub claim : let f = figuresIn figures in ClaimA f (callsIn calls) (drop headLen reading) (replicate (payloadLen (f .q) (messageLen f)) 0) answers r
+  pub claim : let f = figuresIn figures in ClaimA f [] (callsIn calls) (drop headLen reading) (replicate (payloadLen (f .q) (messageLen f)) 0) answers r
   pub answered : linesOf (stepOut atStart figures .next) calls ≡ answerLines calls answers
   pub printed : let s = sessionAfter (stepOut atStart figures .next) calls in stepOut s reading ≡ readStep s r
 

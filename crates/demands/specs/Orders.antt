@@ -1,8 +1,9 @@
--- "Orders: ..": the numbers that each call can refuse with, in document 01's order. Where lent bytes add a refusal, it stands at its place. Assumes nothing.
+-- "Orders: ..": the numbers that each call can refuse with, in document 01's order; document 02, ticket 3: 17, "itself a state refusal and ahead of the
+-- others". Where lent bytes add a refusal, it stands at its place. Assumes nothing.
 use mathlib.Core.List.{List, [], _∷_}
 use mathlib.Core.Option.{Option, none, some}
 use Prim.Native.Nat.{ℕ}
-use Rattle.refusals.specs.Refusals.{invalid, unfit, wrongLength, badSymbol, badStarts, uncovered, noPattern, valueTooLarge, disagrees, badPayload, badRecord, jobCancelled, alreadyOpen, notOpen, tableFull}
+use Rattle.refusals.specs.Refusals.{invalid, unfit, wrongLength, badSymbol, badStarts, uncovered, noPattern, valueTooLarge, disagrees, badPayload, badRecord, jobCancelled, alreadyOpen, notOpen, tableFull, numberZero}
 use Rattle.jobs.specs.Jobs.{Kind, opening, cancelling, finishing}
 
 -- "figures alone 1 2"
@@ -21,18 +22,18 @@ covering = invalid ∷ unfit ∷ wrongLength ∷ badSymbol ∷ uncovered ∷ []
 abbrev pub wordRead : List ℕ
 wordRead = invalid ∷ unfit ∷ wrongLength ∷ badSymbol ∷ noPattern ∷ valueTooLarge ∷ disagrees ∷ []
 
--- "job write 1 2 10 3 5 12 14"
+-- "job write 1 2 10 3 5 12 14", with 17 before 12
 abbrev pub jobWrite : List ℕ
-jobWrite = invalid ∷ unfit ∷ badPayload ∷ wrongLength ∷ badStarts ∷ jobCancelled ∷ notOpen ∷ []
+jobWrite = invalid ∷ unfit ∷ badPayload ∷ wrongLength ∷ badStarts ∷ numberZero ∷ jobCancelled ∷ notOpen ∷ []
 
 -- "job read 1 2, 10 for K, 3 4 7 8 9, 10, 12 14"
 abbrev pub jobRead : List ℕ
 jobRead = invalid ∷ unfit ∷ badPayload ∷ wrongLength ∷ badSymbol ∷ noPattern ∷ valueTooLarge ∷ disagrees ∷ badPayload ∷ jobCancelled ∷ notOpen ∷ []
 
--- "open 1 12 13 15; cancel 1 12 15; finish 1 12 14"
+-- "open 1 12 13 15; cancel 1 12 15; finish 1 12 14", with 17 before 12 in the first two
 abbrev pub call : Kind → List ℕ
-call opening = invalid ∷ jobCancelled ∷ alreadyOpen ∷ tableFull ∷ []
-call cancelling = invalid ∷ jobCancelled ∷ tableFull ∷ []
+call opening = invalid ∷ numberZero ∷ jobCancelled ∷ alreadyOpen ∷ tableFull ∷ []
+call cancelling = invalid ∷ numberZero ∷ jobCancelled ∷ tableFull ∷ []
 call finishing = invalid ∷ jobCancelled ∷ notOpen ∷ []
 
 -- a call by its letter: 11 for a letter that is none of the three

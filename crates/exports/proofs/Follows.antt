@@ -1,25 +1,26 @@
 -- Calls on a table in bytes, one after the other, answer as the ledger does. Assumes nothing.
-use mathlib.Core.Path.{_≡_, refl, sym, ap, _∙_}
+use mathlib.Core.Path.{_≡_, refl, sym, ap, ap₂, subst, _∙_}
 use mathlib.Core.Logic.{_≢_}
 use mathlib.Core.Bool.{Bool, true}
 use mathlib.Core.List.{List, [], _∷_}
-use Prim.Native.Nat.{ℕ, suc, _^_}
+use Prim.Native.Nat.{ℕ, zero, suc, _^_}
 use lib.Dec.{ltb}
-use lib.ListN.{length}
-use Rattle.refusals.specs.Refusals.{served}
+use lib.ListN.{length, set, length-set}
+use Rattle.refusals.specs.Refusals.{served, numberZero, must}
 use Rattle.combinatorics.specs.Lists.{all, any}
 use Rattle.combinatorics.proofs.Cases.{by-eq, by-bool, eqb-same, eqb-other}
 use Rattle.combinatorics.proofs.Lists.{both}
 use Rattle.cells.specs.Bytes.{byteValues}
 use Rattle.jobs.specs.declared.Entry.{Entry}
 use Rattle.jobs.specs.declared.Entry.the-variants.{Free, Open, Cancelled}
-use Rattle.jobs.specs.Jobs.{Kind, opening, cancelling, finishing, Call}
+use Rattle.jobs.specs.Jobs.{Kind, opening, cancelling, finishing, Call, isJob}
 use Rattle.jobs.specs.Replay.{kindOf, callBy}
-use Rattle.jobs.specs.Table.{isFree, holds, lookup, emptyTable, TableOut, refuse, accept, replaceFirst, put, twice, decide, openAt, cancelAt, finishAt, callAs, callOut, answersFrom, tableFrom}
-use Rattle.jobs.proofs.Simulates.{simulation-from-empty}
-use Rattle.exports.specs.Table.{tableIn, tableBytes, hasRoom, IsTable}
-use Rattle.exports.specs.Jobs.{called, calledAs}
-use Rattle.exports.specs.Follows.{letterOf, callOn, answersOn, bytesAfter, numbered, BytesFollow}
+use Rattle.jobs.specs.Table.{isFree, holds, lookup, emptyTable, TableOut, refuse, accept, replaceFirst, put, add, twice, decide, openJob, openAt, cancelAt, finishAt, callAs, callOut, answersFrom, tableFrom}
+use Rattle.jobs.specs.Simulation.{Start, empty, zero-open, zero-cancelled, zero-opened-cancelled}
+use Rattle.jobs.proofs.Simulates.{simulation-from-start}
+use Rattle.exports.specs.Table.{hasRoom, IsTable, TableOf}
+use Rattle.exports.specs.Jobs.{CallLent, calledAs}
+use Rattle.exports.specs.Follows.{letterOf, callOn, answersOn, bytesAfter, EmptyBytes, numbered, BytesFollow}
 use Rattle.exports.proofs.TableBack.{table-back, empty-bytes, empty-table}
 use Rattle.exports.proofs.JobLaws.{as-called}
 
@@ -57,15 +58,22 @@ module _ (es : List Entry) (g : IsTable es) where
   stored t x h = by-bool (any t es) (λ p. rw p (accepted t x h)) (λ p. rw p (refused _))
 
   module _ (n : ℕ) (h : ltb n (byteValues ^ 4) ≡ true) where
+    open-job-sound : (e : Entry) → Sound es (openJob e n es)
+    open-job-sound (Cancelled x) = refused _
+    open-job-sound (Open x) = refused _
+    open-job-sound Free = stored isFree (Open n) h
+
+    -- 17 or what comes after it
+    job-sound : (o : TableOut) → Sound es o → Sound es (must (isJob n) (refuse es numberZero) o)
+    job-sound o s = by-bool (isJob n) (λ j. rw j s) (λ j. rw j (refused numberZero))
+
     open-sound : (e : Entry) → Sound es (openAt e n es)
-    open-sound (Cancelled x) = refused _
-    open-sound (Open x) = refused _
-    open-sound Free = stored isFree (Open n) h
+    open-sound e = job-sound (openJob e n es) (open-job-sound e)
 
     cancel-sound : (e : Entry) → Sound es (cancelAt e n es)
     cancel-sound (Cancelled x) = refused _
     cancel-sound (Open x) = accepted (holds n) (Cancelled n) h
-    cancel-sound Free = stored isFree (Cancelled n) h
+    cancel-sound Free = job-sound (add (Cancelled n) es) (stored isFree (Cancelled n) h)
 
     finish-sound : (e : Entry) → Sound es (finishAt e n es)
     finish-sound (Cancelled x) = refused _
@@ -95,39 +103,71 @@ letter-known opening = refl
 letter-known cancelling = refl
 letter-known finishing = refl
 
-one-call : (es : List Entry) → IsTable es → (c : Call) → numbered c ≡ true → callOn (tableBytes es) c ≡ called (callOut es c .answer) (tableBytes (callOut es c .table))
-one-call es g c h =
-    let b = table-back es g in
+one-call : (bytes : List ℕ) (es : List Entry) → TableOf bytes es → (c : Call) → callOn bytes c ≡ calledAs bytes (callOut es c)
+one-call bytes es b c =
+    let k = letterOf (c .kind) in
+    as-called bytes k (c .number) (b .size) (letter-known (c .kind)) (b .known) (callOut es c)
+    (sym (letter-call (c .kind) es (c .number)) ∙ ap (λ (x : List Entry). callBy (kindOf k) x (c .number)) (sym (b .same)))
+
+-- the answer is the call's, and the bytes hold the table that it hands back: those written, or after a refusal those that were there
+record Left (o : CallLent) (out : TableOut) : Type 0 where
+  answer : o .answer ≡ out .answer
+  holds-table : TableOf (o .table) (out .table)
+
+call-left : (bytes : List ℕ) (es : List Entry) → TableOf bytes es → IsTable es → (c : Call) → numbered c ≡ true → Left (callOn bytes c) (callOut es c)
+call-left bytes es b g c h =
     let out = callOut es c in
-    let e : out ≡ callBy (kindOf (letterOf (c .kind))) (tableIn (tableBytes es)) (c .number) =
-    sym (letter-call (c .kind) es (c .number)) ∙ ap (λ (x : List Entry). callBy (kindOf (letterOf (c .kind))) x (c .number)) (sym (b .same)) in
-    as-called (tableBytes es) (letterOf (c .kind)) (c .number) (b .size) (letter-known (c .kind)) (b .known) out e
-    ∙ by-eq (out .answer) served (λ _. calledAs (tableBytes es) out ≡ called (out .answer) (tableBytes (out .table)))
-    (λ a. rw (eqb-same (out .answer) served a, a))
-    (λ a. rw (eqb-other (out .answer) served a) (ap (λ (x : List Entry). called (out .answer) (tableBytes x)) (sym (call-sound es g (c .number) h (c .kind) .kept a))))
+    let s = call-sound es g (c .number) h (c .kind) in
+    subst (λ (o : CallLent). Left o out) (sym (one-call bytes es b c))
+    (by-eq (out .answer) served (λ _. Left (calledAs bytes out) out)
+    (λ a. rw (eqb-same (out .answer) served a) (record { answer = sym a; holds-table = table-back (out .table) (s .table) }))
+    (λ a. rw (eqb-other (out .answer) served a) (record { answer = refl; holds-table = subst (TableOf bytes) (sym (s .kept a)) b })))
 
 -- ---- and so are many
 
-record Alike (es : List Entry) (calls : List Call) : Type 0 where
-  answers : answersOn (tableBytes es) calls ≡ answersFrom es calls
-  after : bytesAfter (tableBytes es) calls ≡ tableBytes (tableFrom es calls)
-  table : IsTable (tableFrom es calls)
+record Alike (bytes : List ℕ) (es : List Entry) (calls : List Call) : Type 0 where
+  pub answers : answersOn bytes calls ≡ answersFrom es calls
+  pub after : TableOf (bytesAfter bytes calls) (tableFrom es calls)
 
-calls-alike : (calls : List Call) (es : List Entry) → IsTable es → all numbered calls ≡ true → Alike es calls
+calls-alike : (calls : List Call) (bytes : List ℕ) (es : List Entry) → TableOf bytes es → IsTable es → all numbered calls ≡ true → Alike bytes es calls
 unfolding all answersOn bytesAfter answersFrom tableFrom
-calls-alike [] es g h = record { answers = refl; after = refl; table = g }
-calls-alike (c ∷ cs) es g h =
-    let b = both (numbered c) (all numbered cs) h in
-    let e = one-call es g c (b .0) in
-    let r = calls-alike cs (callOut es c .table) (call-sound es g (c .number) (b .0) (c .kind) .table) (b .1) in
-    record {
-      answers = rw e (ap {B = List ℕ} (λ l. callOut es c .answer ∷ l) (r .answers));
-      after = rw e (r .after);
-      table = r .table;
-    }
+calls-alike [] bytes es b g h = record { answers = refl; after = b }
+calls-alike (c ∷ cs) bytes es b g h =
+    let n = both (numbered c) (all numbered cs) h in
+    let l = call-left bytes es b g c (n .0) in
+    let r = calls-alike cs (callOn bytes c .table) (callOut es c .table) (l .holds-table) (call-sound es g (c .number) (n .0) (c .kind) .table) (n .1) in
+    record { answers = ap₂ {C = List ℕ} _∷_ (l .answer) (r .answers); after = r .after }
+
+-- ---- from every start
+
+room-set : (es : List Entry) (i : ℕ) (x : Entry) → hasRoom x ≡ true → all hasRoom es ≡ true → all hasRoom (set es i x) ≡ true
+unfolding all
+room-set [] i x h g = refl
+room-set (e ∷ es) zero x h g = rw h (both (hasRoom e) (all hasRoom es) g .1)
+room-set (e ∷ es) (suc i) x h g = let b = both (hasRoom e) (all hasRoom es) g in rw (b .0) (room-set es i x h (b .1))
+
+alone-table : (i : ℕ) (x : Entry) → hasRoom x ≡ true → IsTable (set emptyTable i x)
+alone-table i x h = record { many = length-set emptyTable i x; numbers = room-set emptyTable i x h (empty-table .numbers) }
+
+pub start-table : (es : List Entry) (before : List Call) → Start es before → IsTable es
+start-table es before empty = empty-table
+start-table es before (zero-open i l) = alone-table i (Open 0) refl
+start-table es before (zero-cancelled i l) = alone-table i (Cancelled 0) refl
+start-table es before (zero-opened-cancelled i l) = alone-table i (Cancelled 0) refl
+
+pub empty-bytes-hold : EmptyBytes
+empty-bytes-hold = subst (λ (bytes : List ℕ). TableOf bytes emptyTable) empty-bytes (table-back emptyTable empty-table)
+
+module _ (bytes : List ℕ) (es : List Entry) (before : List Call) (b : TableOf bytes es) (s : Start es before) (calls : List Call)
+    (h : all numbered calls ≡ true) where
+  alike : Alike bytes es calls
+  alike = calls-alike calls bytes es b (start-table es before s) h
+
+  -- the bytes that the last call leaves are a table's
+  pub bytes-left : TableOf (bytesAfter bytes calls) (tableFrom es calls)
+  bytes-left = alike .after
 
 pub bytes-follow : BytesFollow
-bytes-follow calls h =
-    let a = calls-alike calls emptyTable empty-table h in
-    let same : tableIn (bytesAfter (tableBytes emptyTable) calls) ≡ tableFrom emptyTable calls = ap tableIn (a .after) ∙ table-back (tableFrom emptyTable calls) (a .table) .same in
-    rw (← empty-bytes, a .answers, same) (simulation-from-empty calls)
+bytes-follow bytes es before b s calls h =
+    let a = alike bytes es before b s calls h in
+    rw (a .answers, a .after .same) (simulation-from-start es before s calls)

@@ -18,7 +18,7 @@ use Rattle.jobs.specs.declared.Entry.{Entry}
 use Rattle.jobs.specs.declared.Entry.the-variants.{Free, Open, Cancelled}
 use Rattle.jobs.specs.Table.{emptyTable}
 use Rattle.payloads.specs.Payload.{jobNumber}
-use Rattle.exports.specs.Table.{slotLen, tableLen, stateCount, entryOf, stateAt, entryAt, statesKnown, tableIn, entryBytes, tableBytes, hasRoom, IsTable, ReadBack}
+use Rattle.exports.specs.Table.{slotLen, tableLen, stateCount, entryOf, stateAt, entryAt, statesKnown, tableIn, entryBytes, tableBytes, hasRoom, IsTable, ReadsBack}
 use Rattle.exports.proofs.TableLaws.{entry-long}
 
 -- ---- One slot, with anything behind it
@@ -83,7 +83,7 @@ unfolding tableBytes flatMap
 length-table [] = refl
 length-table (e ∷ es) = length-append (entryBytes e) (tableBytes es) ∙ omega (arith, entry-long e, length-table es)
 
-pub table-back : (es : List Entry) → IsTable es → ReadBack es
+pub table-back : ReadsBack
 unfolding statesKnown tableIn
 table-back es t =
     record {

@@ -1,5 +1,5 @@
--- 'Demand 3 in these terms', the part about the list of calls, for a table in bytes: made one after the other on 320 bytes of 0, the calls answer as the
--- ledger does. Assumes nothing.
+-- 'Demand 3 in these terms', the part about the list of calls, for a table in bytes: made one after the other on the bytes of a table that a list may start
+-- from, the calls answer as the ledger does. Assumes nothing.
 use mathlib.Core.Path.{_≡_}
 use mathlib.Core.Bool.{Bool, true}
 use mathlib.Core.List.{List, [], _∷_}
@@ -8,9 +8,11 @@ use lib.Dec.{ltb}
 use lib.ListN.{replicate}
 use Rattle.combinatorics.specs.Lists.{all}
 use Rattle.cells.specs.Bytes.{byteValues}
+use Rattle.jobs.specs.declared.Entry.{Entry}
 use Rattle.jobs.specs.Jobs.{Kind, opening, cancelling, finishing, Call}
-use Rattle.jobs.specs.Simulation.{Follows}
-use Rattle.exports.specs.Table.{tableLen, tableIn}
+use Rattle.jobs.specs.Simulation.{Start, Follows}
+use Rattle.jobs.specs.Table.{emptyTable}
+use Rattle.exports.specs.Table.{tableLen, tableIn, TableOf}
 use Rattle.exports.specs.Jobs.{CallLent, callBytesOut}
 
 -- "O (open), C (cancel), F (finish)"
@@ -32,12 +34,16 @@ unfoldable pub bytesAfter : List ℕ → List Call → List ℕ
 bytesAfter bytes [] = bytes
 bytesAfter bytes (c ∷ cs) = bytesAfter (callOn bytes c .table) cs
 
-abbrev pub emptyBytes : List ℕ
-emptyBytes = replicate tableLen 0
+-- the empty table: 320 bytes of 0
+abbrev pub EmptyBytes : Type 0
+EmptyBytes = TableOf (replicate tableLen 0) emptyTable
 
 -- a job number has 32 bits
 abbrev pub numbered : Call → Bool
 numbered c = ltb (c .number) (byteValues ^ 4)
 
+-- from every start: "a ledger that begins with every number unknown", or document 02, ticket 3: "a book that holds 0 alone, in any place, open or cancelled"
 abbrev pub BytesFollow : Type 0
-BytesFollow = (calls : List Call) → all numbered calls ≡ true → Follows [] calls (answersOn emptyBytes calls) (tableIn (bytesAfter emptyBytes calls))
+BytesFollow =
+    (bytes : List ℕ) (es : List Entry) (before : List Call) → TableOf bytes es → Start es before → (calls : List Call) → all numbered calls ≡ true
+    → Follows before calls (answersOn bytes calls) (tableIn (bytesAfter bytes calls))

@@ -16,8 +16,8 @@ use Rattle.jobcodec.specs.JobRead.{JobRead, withhold, jobReadOut}
 use Rattle.exports.specs.Starts.{startsFrom}
 use Rattle.exports.specs.Table.{tableLen, statesKnown, tableIn, tableBytes}
 
--- ---- A call: 3 for the table's length and 11 for the letter, before the table is looked at; then "open 1 12 13 15; cancel 1 12 15; finish 1 12 14",
--- where 1 stands for an unknown state too
+-- ---- A call: 3 for the table's length and 11 for the letter, before the table is looked at; then "open 1 12 13 15; cancel 1 12 15; finish 1 12 14", with
+-- 17 before 12 in the first two, where 1 stands for an unknown state too
 
 pub record CallLent : Type 0 where
   pub answer : ℕ
@@ -46,7 +46,7 @@ isWhole bytes = eqb (length bytes) tableLen
 abbrev pub slotsFit : List ℕ → Bool
 slotsFit bytes = must (isWhole bytes) true (statesKnown bytes && not (twice (tableIn bytes)))
 
--- "job write 1 2 10 3 5 12 14", where 3 stands for the bytes of the table and of the starts too
+-- "job write 1 2 10 3 5 12 14", with 17 before 12, where 3 stands for the bytes of the table and of the starts too
 unfoldable pub jobWriteBytesOut : Params → List ℕ → List ℕ → List ℕ → List ℕ → Encoded
 jobWriteBytesOut f table starts payload out =
     must (inRange f && slotsFit table) (unwritten out invalid)

@@ -61,7 +61,13 @@ entryBytes (Cancelled x) = slotBytes 2 x
 unfoldable pub tableBytes : List Entry → List ℕ
 tableBytes es = flatMap entryBytes es
 
--- ---- Written and read back it is the same
+-- ---- Bytes that hold a table; written and read back it is the same
+
+-- 320 bytes with known states, whose slots are these entries; what the number bytes of a free slot are doesn't matter
+pub record TableOf (bytes : List ℕ) (es : List Entry) : Type 0 where
+  pub size : length bytes ≡ tableLen
+  pub known : statesKnown bytes ≡ true
+  pub same : tableIn bytes ≡ es
 
 -- a number of 32 bits, as every job number is
 abbrev pub hasRoom : Entry → Bool
@@ -73,7 +79,5 @@ pub record IsTable (es : List Entry) : Type 0 where
   pub many : length es ≡ slotCount
   pub numbers : all hasRoom es ≡ true
 
-pub record ReadBack (es : List Entry) : Type 0 where
-  pub size : length (tableBytes es) ≡ tableLen
-  pub known : statesKnown (tableBytes es) ≡ true
-  pub same : tableIn (tableBytes es) ≡ es
+abbrev pub ReadsBack : Type 0
+ReadsBack = (es : List Entry) → IsTable es → TableOf (tableBytes es) es

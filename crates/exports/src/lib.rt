@@ -102,7 +102,7 @@ pub extern "C" fn burgzemi_cover(
 }
 
 // A call on the job table: the letter O opens, C cancels, F finishes. Refusals: 3 for the table's length, 11 for another letter, 1 for a slot whose
-// state is none of the three; then the call's own.
+// state is none of the three; then the call's own: 1, then 17 12 13 15 for opening, 17 12 15 for cancelling, 12 14 for finishing.
 #[no_mangle]
 pub extern "C" fn burgzemi_call(table: &mut [u8], letter: u8, number: u32) -> u8
     ensures { λ r. ⌜ called r (now (table .exit)) ≡ callBytesOut (now (table .entry)) letter number ⌝ }
@@ -125,7 +125,7 @@ pub extern "C" fn burgzemi_call(table: &mut [u8], letter: u8, number: u32) -> u8
     Refusal::NONE
 }
 
-// Job write: the word of a placement and a payload whose job the table has open. Refusals: 1 2 10 3 5 12 14.
+// Job write: the word of a placement and a payload whose job the table has open; number 0 is no job. Refusals: 1 2 10 3 5 17 12 14.
 #[no_mangle]
 pub extern "C" fn burgzemi_job_write(
     n: u32,

@@ -8,7 +8,7 @@ use native.Mathlib.Omega.{arith}
 use lib.Dec.{eqb}
 use lib.ListN.{length, take, replicate, length-replicate}
 use lib.Seq.{length-take-le}
-use Rattle.refusals.specs.Refusals.{must, served, invalid, unfit, wrongLength, badStarts, badPayload}
+use Rattle.refusals.specs.Refusals.{must, served, invalid, unfit, wrongLength, badStarts, badPayload, numberZero}
 use Rattle.combinatorics.specs.Bursts.{apart}
 use Rattle.combinatorics.proofs.Cases.{eqb-same, eqb-other, leb-holds, leb-fails}
 use Rattle.cells.specs.Bytes.{payloadLen}
@@ -24,10 +24,10 @@ use Rattle.params.specs.declared.LayoutAnswer.the-variants.{Fit}
 use Rattle.params.specs.declared.Layout.{Layout}
 use Rattle.params.proofs.Answered.{Told, fit-learnt, Bounds, bounds}
 use Rattle.jobs.specs.declared.Entry.{Entry}
-use Rattle.jobs.specs.Jobs.{Status, unknown, opened, cancelled, needsOpen}
+use Rattle.jobs.specs.Jobs.{isJob, Status, unknown, opened, cancelled, needsOpen}
 use Rattle.jobs.specs.Replay.{ReplayOut, replayOut}
 use Rattle.jobs.specs.Table.{twice}
-use Rattle.payloads.specs.Payload.{carriesJob, messageOf, payloadIn, spellsPayload}
+use Rattle.payloads.specs.Payload.{carriesJob, jobNumber, messageOf, payloadIn, spellsPayload}
 use Rattle.jobcodec.specs.JobWrite.{jobStatus, whereOpen, jobWriteOut}
 use Rattle.jobcodec.specs.JobRead.{JobRead, handOut, withhold, jobIn, jobReading, jobReadOut}
 use Rattle.jobcodec.specs.Given.{Laid, Ready}
@@ -103,9 +103,13 @@ module _ (f : Params) (es : List Entry) (at : Held) (payload out : List ℕ) (r 
   abbrev pub done : Encoded
   done = record { answer = served; word = word f (inUse at) (messageOf (f .q) (messageLen f) payload) }
 
-  -- "5 12 14"
+  -- "17 12 14"
+  abbrev pub from-number : Encoded
+  from-number = must (isJob (jobNumber payload)) (unwritten out numberZero) (whereOpen (jobStatus es payload) (unwritten out) done)
+
+  -- "5 17 12 14"
   abbrev pub from-starts : Encoded
-  from-starts = must (apart (f .b) (f .n) 0 (inUse at)) (unwritten out badStarts) (whereOpen (jobStatus es payload) (unwritten out) done)
+  from-starts = must (apart (f .b) (f .n) 0 (inUse at)) (unwritten out badStarts) from-number
 
   from-lengths : jobWriteOut f es at payload out
       ≡ must (eqb (at .count) (f .m) && eqb (length payload) (payloadLen (f .q) (messageLen f)) && eqb (length out) (f .n)) (unwritten out wrongLength) from-starts
@@ -137,9 +141,13 @@ module _ (f : Params) (es : List Entry) (at : Held) (payload out : List ℕ) (r 
         by-status opened = refl
         by-status cancelled = refl
 
-        -- "12 14"
-        pub write-status : apart (f .b) (f .n) 0 (inUse at) ≡ true → jobWriteOut f es at payload out .answer ≡ needsOpen (jobStatus es payload)
-        write-status p = rw (past-lengths, p) (by-status (jobStatus es payload))
+        module _ (p : apart (f .b) (f .n) 0 (inUse at) ≡ true) where
+          pub write-zero : isJob (jobNumber payload) ≡ false → jobWriteOut f es at payload out ≡ unwritten out numberZero
+          write-zero z = past-lengths ∙ rw (p, z)
+
+          -- "12 14"
+          pub write-status : isJob (jobNumber payload) ≡ true → jobWriteOut f es at payload out .answer ≡ needsOpen (jobStatus es payload)
+          write-status j = rw (past-lengths, p, j) (by-status (jobStatus es payload))
 
 -- a refused writing keeps the word
 module _ (out : List ℕ) where
@@ -156,15 +164,17 @@ module _ (out : List ℕ) where
       let k = messageLen f in
       let done : Encoded = record { answer = served; word = word f (inUse at) (messageOf (f .q) k payload) } in
       let last = whereOpen (jobStatus es payload) (unwritten out) done in
-      let starts = must (apart (f .b) (f .n) 0 (inUse at)) (unwritten out badStarts) last in
+      let job = must (isJob (jobNumber payload)) (unwritten out numberZero) last in
+      let starts = must (apart (f .b) (f .n) 0 (inUse at)) (unwritten out badStarts) job in
       let lengths = must (eqb (at .count) (f .m) && eqb (length payload) (payloadLen (f .q) k) && eqb (length out) (f .n)) (unwritten out wrongLength) starts in
       let five = must (carriesJob (f .q) k) (unwritten out badPayload) lengths in
       keeps (inRange f && not (twice es)) invalid (must (fits f) (unwritten out unfit) five)
       (keeps (fits f) unfit five
       (keeps (carriesJob (f .q) k) badPayload lengths
       (keeps (eqb (at .count) (f .m) && eqb (length payload) (payloadLen (f .q) k) && eqb (length out) (f .n)) wrongLength starts
-      (keeps (apart (f .b) (f .n) 0 (inUse at)) badStarts last
-      (keeps (eqb (needsOpen (jobStatus es payload)) served) (needsOpen (jobStatus es payload)) done (λ d. absurd (d refl)))))))
+      (keeps (apart (f .b) (f .n) 0 (inUse at)) badStarts job
+      (keeps (isJob (jobNumber payload)) numberZero last
+      (keeps (eqb (needsOpen (jobStatus es payload)) served) (needsOpen (jobStatus es payload)) done (λ d. absurd (d refl))))))))
 
 -- ---- Reading
 
@@ -187,11 +197,11 @@ module _ (q k : ℕ) (es : List Entry) (out ms : List ℕ) where
 
 -- ---- A list of calls, and the job reading after it
 
-module _ (f : Params) (letters numbers answers w out : List ℕ) (r : ReplayOut) (e : r ≡ replayOut letters numbers answers) where
-  pub list-refused : r .answer ≢ served → listUnread r out ≡ listOut f letters numbers answers w out
+module _ (f : Params) (es : List Entry) (letters numbers answers w out : List ℕ) (r : ReplayOut) (e : r ≡ replayOut es letters numbers answers) where
+  pub list-refused : r .answer ≢ served → listUnread r out ≡ listOut f es letters numbers answers w out
   unfolding listOut
   list-refused d = rw (← e, eqb-other (r .answer) served d)
 
-  pub list-goes-on : (j : JobRead) → r .answer ≡ served → j ≡ jobReadOut f (r .table) w out → listRead r j ≡ listOut f letters numbers answers w out
+  pub list-goes-on : (j : JobRead) → r .answer ≡ served → j ≡ jobReadOut f (r .table) w out → listRead r j ≡ listOut f es letters numbers answers w out
   unfolding listOut
   list-goes-on j d h = rw (← e, eqb-same (r .answer) served d, h)

@@ -22,8 +22,8 @@ use Rattle.jobs.specs.declared.Entry.{Entry}
 use Rattle.jobs.specs.Jobs.{Kind, opening, cancelling, finishing, Call}
 use Rattle.jobs.specs.Table.{emptyTable, twice, answersFrom, tableFrom}
 use Rattle.jobs.specs.Ledger.{newest, statusAfter, status, ledgerFrom, acceptedBy}
-use Rattle.jobs.specs.Simulation.{Agrees, Follows}
-use Rattle.jobs.proofs.Simulates.{simulation-from-empty, accepted-by}
+use Rattle.jobs.specs.Simulation.{Agrees, Follows, empty}
+use Rattle.jobs.proofs.Simulates.{simulation-from-start, accepted-by}
 use Rattle.payloads.specs.Payload.{carriesJob, jobNumber, messageOf, payloadIn, spellsPayload}
 use Rattle.jobcodec.specs.JobWrite.{whereOpen}
 use Rattle.jobcodec.specs.JobRead.{JobRead, handOut, withhold, jobIn, jobReading, jobReadOut}
@@ -199,8 +199,9 @@ follows-claim f before calls answers es w out follows =
     }
 
 pub demand-three : DemandThree
-demand-three f calls w out = follows-claim f [] calls (answersFrom emptyTable calls) (tableFrom emptyTable calls) w out (simulation-from-empty calls)
+demand-three f es before s calls w out =
+    follows-claim f before calls (answersFrom es calls) (tableFrom es calls) w out (simulation-from-start es before s calls)
 
 -- it is not empty: both facts hold of the transfer example's word
 both-facts : (starts : List ℕ) × (y : List ℕ) × BothFacts (constructionA figures) (acceptedBy opened (answersFrom emptyTable opened) []) (wordWith 255) starts y
-both-facts = demand-three figures opened (wordWith 255) buffer .reading (computed .presented) .exactly .0 (computed .handed)
+both-facts = demand-three figures emptyTable [] empty opened (wordWith 255) buffer .reading (computed .presented) .exactly .0 (computed .handed)

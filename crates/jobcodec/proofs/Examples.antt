@@ -115,7 +115,7 @@ spelling =
 
 -- ---- Each refusal where the next in its order holds too
 
--- "job write 1 2 10 3 5 12 14"
+-- "job write 1 2 10 3 5 12 14", with 17 before 12
 abbrev writesAt : Held → List ℕ → List ℕ → List ℕ
 writesAt at y out = writtenOut (jobWriteOut figures emptyTable at y out)
 
@@ -128,7 +128,11 @@ writeOrder =
     ∷ example (writesAt (held []) payload (replicate 15 9)) (3 ∷ replicate 15 9)
     ∷ example (writesAt (held (14 ∷ [])) payload (replicate 14 9)) (3 ∷ replicate 14 9)
     ∷ example (writesAt (held (14 ∷ [])) (0 ∷ payload) (replicate 15 9)) (3 ∷ replicate 15 9)
-    ∷ example (writesAt (held (14 ∷ [])) payload (replicate 15 9)) (5 ∷ replicate 15 9)
+    ∷ example (writesAt (held (14 ∷ [])) (replicate 11 0) (replicate 15 9)) (5 ∷ replicate 15 9)
+    -- "the .. writing of 0", cancelled or open; "A 0 already open may still be read"
+    ∷ example (writtenOut (jobWriteOut figures (Cancelled 0 ∷ replicate 63 Free) (held (6 ∷ [])) (replicate 11 0) (replicate 15 9))) (17 ∷ replicate 15 9)
+    ∷ example (writtenOut (jobWriteOut figures (Open 0 ∷ replicate 63 Free) (held (6 ∷ [])) (replicate 11 0) (replicate 15 9))) (17 ∷ replicate 15 9)
+    ∷ example (readOut (jobReadOut figures (Open 0 ∷ replicate 63 Free) (word figures (6 ∷ []) (replicate 11 0)) (replicate 11 9))) (0 ∷ replicate 11 0)
     ∷ []
 
 -- "job read 1 2, 10 for K, 3 4 7 8 9, 10, 12 14"

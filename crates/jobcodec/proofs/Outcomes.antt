@@ -17,9 +17,9 @@ use Rattle.construction_a.specs.Outcomes.{Held, inUse, unserved, figuresOut, en
 use Rattle.construction_a.proofs.Figures.{ranged}
 use Rattle.construction_a.proofs.Outcomes.{refused-alike}
 use Rattle.jobs.specs.declared.Entry.{Entry}
-use Rattle.jobs.specs.Jobs.{opened}
+use Rattle.jobs.specs.Jobs.{isJob, opened}
 use Rattle.jobs.specs.Table.{twice}
-use Rattle.payloads.specs.Payload.{IsPayload, messageOf}
+use Rattle.payloads.specs.Payload.{IsPayload, jobNumber, messageOf}
 use Rattle.jobcodec.specs.JobWrite.{jobStatus, jobWriteOut}
 use Rattle.jobcodec.specs.JobRead.{JobRead, withhold, jobIn, jobReading, jobReadOut}
 use Rattle.jobcodec.specs.Given.{Ready}
@@ -45,10 +45,11 @@ module _ {A : Type 0} (f : Params) (es : List Entry) (refuse : ℕ → A) (rest 
 
 -- where nothing is refused, a job is written as the encoder writes its message
 pub write-encodes : (f : Params) (es : List Entry) (at : Held) (payload out : List ℕ) → Ready f es
-    → at .count ≡ f .m → IsPayload (f .q) (messageLen f) payload → length out ≡ f .n → apart (f .b) (f .n) 0 (inUse at) ≡ true → jobStatus es payload ≡ opened
+    → at .count ≡ f .m → IsPayload (f .q) (messageLen f) payload → length out ≡ f .n → apart (f .b) (f .n) 0 (inUse at) ≡ true
+    → isJob (jobNumber payload) ≡ true → jobStatus es payload ≡ opened
     → jobWriteOut f es at payload out ≡ encodeOut f at (messageOf (f .q) (messageLen f) payload) out
 unfolding jobWriteOut encodeOut
-write-encodes f es at payload out r count p lent placed is-open =
+write-encodes f es at payload out r count p lent placed job is-open =
     rw (
       r .range,
       r .once,
@@ -58,6 +59,7 @@ write-encodes f es at payload out r count p lent placed is-open =
       eqb-same (length payload) (payloadLen (f .q) (messageLen f)) (p .count),
       eqb-same (length out) (f .n) lent,
       placed,
+      job,
       is-open,
       eqb-same (length (messageOf (f .q) (messageLen f) payload)) (messageLen f) (length-message (f .q) (messageLen f) payload (p .count)),
       message-symbols (f .q) (messageLen f) (ranged f (r .range) .q-least) payload (p .bytes),

@@ -7,7 +7,7 @@ use native.Mathlib.Omega.{arith}
 use lib.Dec.{eqb}
 use lib.ListN.{length, getD}
 use lib.Seq.{length-take-le}
-use Rattle.refusals.specs.Refusals.{must, served, invalid, unfit, wrongLength, badStarts, badPayload}
+use Rattle.refusals.specs.Refusals.{must, served, invalid, unfit, wrongLength, badStarts, badPayload, numberZero}
 use Rattle.combinatorics.specs.Lists.{any, allBelow}
 use Rattle.combinatorics.specs.Bursts.{apart, inBurst}
 use Rattle.combinatorics.proofs.Cases.{eqb-same, eqb-true}
@@ -21,9 +21,9 @@ use Rattle.construction_a.specs.DemandTwo.{constructionA}
 use Rattle.construction_a.proofs.Figures.{ranged}
 use Rattle.construction_a.proofs.DemandTwo.{demand-two}
 use Rattle.jobs.specs.declared.Entry.{Entry}
-use Rattle.jobs.specs.Jobs.{Status, unknown, opened, cancelled}
+use Rattle.jobs.specs.Jobs.{isJob, Status, unknown, opened, cancelled}
 use Rattle.jobs.specs.Table.{twice}
-use Rattle.payloads.specs.Payload.{carriesJob, messageOf}
+use Rattle.payloads.specs.Payload.{carriesJob, jobNumber, messageOf}
 use Rattle.jobcodec.specs.JobWrite.{jobStatus, whereOpen, jobWriteOut}
 use Rattle.jobcodec.specs.JobRead.{handOut, jobReading, jobReadOut}
 use Rattle.jobcodec.specs.DemandThree.{isRefusal, Gives}
@@ -40,6 +40,7 @@ pub record Written (f : Params) (es : List Entry) (at : Held) (payload out : Lis
   pub long : length payload ≡ payloadLen (f .q) (messageLen f)
   pub lent : length out ≡ f .n
   pub placed : apart (f .b) (f .n) 0 (inUse at) ≡ true
+  pub job : isJob (jobNumber payload) ≡ true
   pub is-open : jobStatus es payload ≡ opened
 
 -- a test of an order that ends in acceptance was passed
@@ -65,14 +66,16 @@ module _ (f : Params) (es : List Entry) (at : Held) (payload out : List ℕ) whe
       let k = messageLen f in
       let answered : Encoded = record { answer = served; word = word f (inUse at) (messageOf (f .q) k payload) } in
       let last = whereOpen (jobStatus es payload) (unwritten out) answered in
-      let starts = must (apart (f .b) (f .n) 0 (inUse at)) (unwritten out badStarts) last in
+      let job = must (isJob (jobNumber payload)) (unwritten out numberZero) last in
+      let starts = must (apart (f .b) (f .n) 0 (inUse at)) (unwritten out badStarts) job in
       let lengths = must (eqb (at .count) (f .m) && eqb (length payload) (payloadLen (f .q) k) && eqb (length out) (f .n)) (unwritten out wrongLength) starts in
       let five = must (carriesJob (f .q) k) (unwritten out badPayload) lengths in
       let p₁ = passed (inRange f && not (twice es)) out invalid (must (fits f) (unwritten out unfit) five) refl e in
       let p₂ = passed (fits f) out unfit five refl (p₁ .1) in
       let p₃ = passed (carriesJob (f .q) k) out badPayload lengths refl (p₂ .1) in
       let p₄ = passed (eqb (at .count) (f .m) && eqb (length payload) (payloadLen (f .q) k) && eqb (length out) (f .n)) out wrongLength starts refl (p₃ .1) in
-      let p₅ = passed (apart (f .b) (f .n) 0 (inUse at)) out badStarts last refl (p₄ .1) in
+      let p₅ = passed (apart (f .b) (f .n) 0 (inUse at)) out badStarts job refl (p₄ .1) in
+      let p₆ = passed (isJob (jobNumber payload)) out numberZero last refl (p₅ .1) in
       let valid = both (inRange f) (not (twice es)) (p₁ .0) in
       let fit₁ = both (eqb (at .count) (f .m) && eqb (length payload) (payloadLen (f .q) k)) (eqb (length out) (f .n)) (p₄ .0) in
       let fit₂ = both (eqb (at .count) (f .m)) (eqb (length payload) (payloadLen (f .q) k)) (fit₁ .0) in
@@ -82,12 +85,13 @@ module _ (f : Params) (es : List Entry) (at : Held) (payload out : List ℕ) whe
         long = eqb-true (length payload) (payloadLen (f .q) k) (fit₂ .1);
         lent = eqb-true (length out) (f .n) (fit₁ .1);
         placed = p₅ .0;
-        is-open = found-open (jobStatus es payload) out answered (p₅ .1);
+        job = p₆ .0;
+        is-open = found-open (jobStatus es payload) out answered (p₆ .1);
       }
 
   -- and of the word
   pub written-word : Written f es at payload out → jobWriteOut f es at payload out .word ≡ word f (inUse at) (messageOf (f .q) (messageLen f) payload)
-  written-word wr = rw (past-lengths f es at payload out (wr .ready) (wr .count) (wr .long) (wr .lent), wr .placed, wr .is-open)
+  written-word wr = rw (past-lengths f es at payload out (wr .ready) (wr .count) (wr .long) (wr .lent), wr .placed, wr .job, wr .is-open)
 
   -- ---- Reading it back, from a placement and K bytes
 

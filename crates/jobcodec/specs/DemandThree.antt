@@ -14,9 +14,11 @@ use Rattle.cells.specs.Bytes.{payloadLen}
 use Rattle.cells.specs.Codec.{Codec, Word, LeadsTo}
 use Rattle.construction_a.specs.Figures.{Params, inRange, fits}
 use Rattle.construction_a.specs.DemandTwo.{constructionA}
+use Rattle.jobs.specs.declared.Entry.{Entry}
 use Rattle.jobs.specs.Jobs.{opening, cancelling, finishing, Call}
-use Rattle.jobs.specs.Table.{emptyTable, answersFrom, tableFrom}
+use Rattle.jobs.specs.Table.{answersFrom, tableFrom}
 use Rattle.jobs.specs.Ledger.{newest, verdictsFrom, acceptedBy}
+use Rattle.jobs.specs.Simulation.{Start}
 use Rattle.payloads.specs.Payload.{IsPayload, carriesJob, jobNumber, messageOf}
 use Rattle.jobcodec.specs.JobRead.{JobRead, handOut, withhold, jobReadOut}
 
@@ -88,12 +90,13 @@ pub record Claim (fit : Bool) (c : Codec) (before calls : List Call) (w out answ
   -- and nothing is handed out of anything else: 1, 2, 3, 4 or 10; which of them, the order says (`jobReadOut`)
   pub turned-away : (Presented fit c w out → ⊥) → (a : ℕ) × (isCallRefusal a ≡ true) × (r ≡ withhold out a)
 
--- the claim for Construction A, "in a ledger that begins with every number unknown"
-abbrev pub ClaimA : Params → List Call → List ℕ → List ℕ → List ℕ → JobRead → Type 0
-ClaimA f calls w out answers r = Claim (inRange f && fits f) (constructionA f) [] calls w out answers r
+-- the claim for Construction A
+abbrev pub ClaimA : Params → List Call → List Call → List ℕ → List ℕ → List ℕ → JobRead → Type 0
+ClaimA f before calls w out answers r = Claim (inRange f && fits f) (constructionA f) before calls w out answers r
 
--- for every list of calls, refused ones included, all figures, words and buffers
+-- for every list of calls, refused ones included, all figures, words and buffers: "in a ledger that begins with every number unknown"; document 02,
+-- ticket 3: "its list may also start from a book that holds 0 alone, in any place, open or cancelled, as if former accepted calls had put it there"
 abbrev pub DemandThree : Type 0
 DemandThree =
-    (f : Params) (calls : List Call) (w out : List ℕ)
-    → ClaimA f calls w out (answersFrom emptyTable calls) (jobReadOut f (tableFrom emptyTable calls) w out)
+    (f : Params) (es : List Entry) (before : List Call) → Start es before → (calls : List Call) (w out : List ℕ)
+    → ClaimA f before calls w out (answersFrom es calls) (jobReadOut f (tableFrom es calls) w out)

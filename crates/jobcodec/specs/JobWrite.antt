@@ -5,14 +5,14 @@ use mathlib.Core.List.{List}
 use Prim.Native.Nat.{ℕ}
 use lib.Dec.{eqb}
 use lib.ListN.{length}
-use Rattle.refusals.specs.Refusals.{must, served, invalid, unfit, wrongLength, badStarts, badPayload}
+use Rattle.refusals.specs.Refusals.{must, served, invalid, unfit, wrongLength, badStarts, badPayload, numberZero}
 use Rattle.combinatorics.specs.Bursts.{apart}
 use Rattle.cells.specs.Bytes.{payloadLen}
 use Rattle.construction_a.specs.Figures.{Params, inRange, fits, messageLen}
 use Rattle.construction_a.specs.Writing.{word}
 use Rattle.construction_a.specs.Outcomes.{Held, inUse, Encoded, unwritten}
 use Rattle.jobs.specs.declared.Entry.{Entry}
-use Rattle.jobs.specs.Jobs.{Status, needsOpen}
+use Rattle.jobs.specs.Jobs.{isJob, Status, needsOpen}
 use Rattle.jobs.specs.Table.{standing, lookup, twice}
 use Rattle.payloads.specs.Payload.{carriesJob, jobNumber, messageOf}
 
@@ -24,7 +24,7 @@ jobStatus es payload = standing (lookup es (jobNumber payload))
 abbrev pub whereOpen : {A : Type 0} → Status → (ℕ → A) → A → A
 whereOpen s refuse rest = must (eqb (needsOpen s) served) (refuse (needsOpen s)) rest
 
--- "job write 1 2 10 3 5 12 14"
+-- "job write 1 2 10 3 5 12 14"; document 02, ticket 3: "It refuses with 17, itself a state refusal and ahead of the others, the .. writing of 0"
 unfoldable pub jobWriteOut : Params → List Entry → Held → List ℕ → List ℕ → Encoded
 jobWriteOut f es at payload out =
     let k = messageLen f in
@@ -33,5 +33,6 @@ jobWriteOut f es at payload out =
     (must (carriesJob (f .q) k) (unwritten out badPayload)
     (must (eqb (at .count) (f .m) && eqb (length payload) (payloadLen (f .q) k) && eqb (length out) (f .n)) (unwritten out wrongLength)
     (must (apart (f .b) (f .n) 0 (inUse at)) (unwritten out badStarts)
+    (must (isJob (jobNumber payload)) (unwritten out numberZero)
     (whereOpen (jobStatus es payload) (unwritten out)
-    (record { answer = served; word = word f (inUse at) (messageOf (f .q) k payload) }))))))
+    (record { answer = served; word = word f (inUse at) (messageOf (f .q) k payload) })))))))

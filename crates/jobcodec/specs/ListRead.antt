@@ -5,6 +5,7 @@ use Prim.Native.Nat.{ℕ}
 use lib.Dec.{eqb}
 use Rattle.refusals.specs.Refusals.{must, served}
 use Rattle.construction_a.specs.Figures.{Params}
+use Rattle.jobs.specs.declared.Entry.{Entry}
 use Rattle.jobs.specs.Jobs.{Call}
 use Rattle.jobs.specs.Replay.{ReplayOut, replayOut}
 use Rattle.jobcodec.specs.declared.ListAnswer.{ListAnswer}
@@ -29,10 +30,10 @@ listUnread r out = record { answer = listRefused (r .answer); answers = r .answe
 abbrev pub listRead : ReplayOut → JobRead → ListOut
 listRead r j = record { answer = jobAnswer (j .answer); answers = r .answers; payload = j .payload }
 
--- the calls from the empty table, then "the job reading after it"
-unfoldable pub listOut : Params → List ℕ → List ℕ → List ℕ → List ℕ → List ℕ → ListOut
-listOut f letters numbers answers w out =
-    let r = replayOut letters numbers answers in
+-- the calls from a table, then "the job reading after it"
+unfoldable pub listOut : Params → List Entry → List ℕ → List ℕ → List ℕ → List ℕ → List ℕ → ListOut
+listOut f es letters numbers answers w out =
+    let r = replayOut es letters numbers answers in
     must (eqb (r .answer) served) (listUnread r out)
     (listRead r (jobReadOut f (r .table) w out))
 
@@ -42,7 +43,7 @@ listSeen (Refused a) answers out = record { answer = listRefused a; answers = an
 listSeen (Read a) answers out = record { answer = jobAnswer a; answers = answers; payload = out }
 
 -- "It is a single claim about the whole list and the job reading after it": where the list is not refused, of the answers and the buffer out′
--- that were then seen
-abbrev pub Claimed : ListAnswer → Params → List Call → List ℕ → List ℕ → List ℕ → List ℕ → Type 0
-Claimed (Refused a) f calls w out answers out′ = Unit {0}
-Claimed (Read a) f calls w out answers out′ = ClaimA f calls w out answers (seen a out′)
+-- that were then seen. `before` are the calls accepted earlier.
+abbrev pub Claimed : ListAnswer → Params → List Call → List Call → List ℕ → List ℕ → List ℕ → List ℕ → Type 0
+Claimed (Refused a) f before calls w out answers out′ = Unit {0}
+Claimed (Read a) f before calls w out answers out′ = ClaimA f before calls w out answers (seen a out′)

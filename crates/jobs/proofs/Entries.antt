@@ -2,10 +2,10 @@
 use mathlib.Core.Path.{_≡_, refl, sym, ap, _∙_}
 use mathlib.Core.Bool.{Bool, true, false, not, cond, _||_, true≢false, false≢true}
 use mathlib.Core.List.{List, [], _∷_}
-use Prim.Native.Nat.{ℕ, suc, _+_, _≤_}
+use Prim.Native.Nat.{ℕ, zero, suc, _+_, _≤_, _<_}
 use native.Mathlib.Omega.{arith}
 use lib.Dec.{ltb, leb·suc-suc}
-use lib.ListN.{length}
+use lib.ListN.{length, replicate, set}
 use borrow.Author.Tests.{not-false}
 use Rattle.combinatorics.specs.Lists.{any}
 use Rattle.combinatorics.specs.Stretch.{bit}
@@ -182,3 +182,39 @@ room-is (e ∷ es) =
     (λ t.
     let u : bit (isHeld (standing e)) + used es ≡ suc (used es) = omega (arith, rw t at (counted e)) in
     rw (t, u, room-is es) (sym (leb·suc-suc (suc (used es)) (length es))))
+
+-- ---- One entry alone
+
+pub free-lookup : (m n : ℕ) → lookup (replicate m Free) n ≡ Free
+unfolding firstEntry
+free-lookup zero n = refl
+free-lookup (suc m) n = free-lookup m n
+
+free-once : (m : ℕ) → twice (replicate m Free) ≡ false
+unfolding twice
+free-once zero = refl
+free-once (suc m) = free-once m
+
+free-used : (m : ℕ) → used (replicate m Free) ≡ 0
+unfolding used
+free-used zero = refl
+free-used (suc m) = omega (arith, free-used m)
+
+module _ (e : Entry) where
+  pub alone-lookup : (m i n : ℕ) → i < m → lookup (set (replicate m Free) i e) n ≡ cond (holds n e) e Free
+  unfolding firstEntry
+  alone-lookup zero i n l = absurd (omega arith)
+  alone-lookup (suc m) zero n l = rw (free-lookup m n)
+  alone-lookup (suc m) (suc i) n l = alone-lookup m i n (omega arith)
+
+  pub alone-once : (m i : ℕ) → i < m → twice (set (replicate m Free) i e) ≡ false
+  unfolding twice
+  alone-once zero i l = absurd (omega arith)
+  alone-once (suc m) zero l = once-more e (replicate m Free) (λ n _. free-lookup m n) (free-once m)
+  alone-once (suc m) (suc i) l = alone-once m i (omega arith)
+
+  pub alone-used : (m i : ℕ) → i < m → used (set (replicate m Free) i e) ≡ bit (isHeld (standing e))
+  unfolding used
+  alone-used zero i l = absurd (omega arith)
+  alone-used (suc m) zero l = omega (arith, free-used m)
+  alone-used (suc m) (suc i) l = omega (arith, alone-used m i (omega arith))

@@ -1,3 +1,4 @@
+pub mod Examples
 pub mod SlotLaws
 pub mod Entries
 pub mod Decisions

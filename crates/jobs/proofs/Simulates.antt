@@ -3,21 +3,21 @@ use mathlib.Core.Path.{_≡_, refl, sym, ap, ap₂, _∙_}
 use mathlib.Core.Bool.{Bool, true, false, cond, true≢false, false≢true}
 use mathlib.Core.List.{List, [], _∷_}
 use mathlib.Core.Option.{some}
-use Prim.Native.Nat.{ℕ, zero, suc}
+use Prim.Native.Nat.{ℕ, _<_}
 use native.Mathlib.Omega.{arith}
 use lib.Dec.{eqb}
-use lib.ListN.{replicate}
-use Rattle.refusals.specs.Refusals.{served, must, tableFull}
+use lib.ListN.{length, replicate, set, length-set}
+use Rattle.refusals.specs.Refusals.{served, must, jobCancelled, alreadyOpen, notOpen, tableFull, numberZero}
 use Rattle.combinatorics.specs.Lists.{any}
 use Rattle.combinatorics.specs.Stretch.{bit}
 use Rattle.combinatorics.proofs.Cases.{by-eq, by-bool, eqb-same, eqb-true}
 use Rattle.jobs.specs.declared.Entry.{Entry}
 use Rattle.jobs.specs.declared.Entry.the-variants.{Free, Open, Cancelled}
-use Rattle.jobs.specs.Jobs.{slotCount, Kind, opening, cancelling, finishing, Call, on, Status, unknown, opened, isHeld}
-use Rattle.jobs.specs.Table.{standing, isFree, holds, firstEntry, lookup, used, emptyTable, TableOut, refuse, accept, replaceFirst, put, add, twice, decide, callAs, callOut, answersFrom, tableFrom}
+use Rattle.jobs.specs.Jobs.{slotCount, Kind, opening, cancelling, finishing, Call, on, isJob, Status, unknown, opened, isHeld}
+use Rattle.jobs.specs.Table.{standing, isFree, holds, firstEntry, lookup, used, emptyTable, TableOut, refuse, accept, replaceFirst, put, add, twice, decide, openJob, callAs, callOut, answersFrom, tableFrom}
 use Rattle.jobs.specs.Ledger.{historyOf, newestOf, statusAfter, status, held, judge, verdict, enter, verdictsFrom, ledgerFrom, acceptedBy}
-use Rattle.jobs.specs.Simulation.{Agrees, Simulation, SimulationFromEmpty}
-use Rattle.jobs.proofs.Entries.{any-holds, entry-passes, free-entry, Stored, stored, held-le, room-is}
+use Rattle.jobs.specs.Simulation.{Agrees, Simulation, Start, empty, zero-open, zero-cancelled, zero-opened-cancelled, SimulationFromStart}
+use Rattle.jobs.proofs.Entries.{any-holds, entry-passes, free-entry, Stored, stored, held-le, room-is, free-lookup, alone-lookup, alone-once, alone-used}
 
 -- one call's outcome is what the ledger says
 pub record Alike (o : TableOut) (h : List Call) (c : Call) : Type 0 where
@@ -28,7 +28,7 @@ pub record Alike (o : TableOut) (h : List Call) (c : Call) : Type 0 where
 
 module _ (es : List Entry) (h : List Call) (g : Agrees es h) (c : Call) where
   -- the ledger's verdict, read off the table
-  judged : {e : Entry} → lookup es (c .number) ≡ e → verdict h c ≡ judge (c .kind) (standing e) (any isFree es)
+  judged : {e : Entry} → lookup es (c .number) ≡ e → verdict h c ≡ judge (c .kind) (isJob (c .number)) (standing e) (any isFree es)
   unfolding verdict
   judged l = rw (← l, g .same (c .number), room-is es, g .slots, g .count)
 
@@ -57,7 +57,7 @@ module _ (es : List Entry) (h : List Call) (g : Agrees es h) (c : Call) where
 
   -- an unknown number
   added : (new : Entry) → lookup es (c .number) ≡ Free → ((k : ℕ) → holds k new ≡ eqb (c .number) k) → standing new ≡ statusAfter (some (c .kind))
-      → judge (c .kind) unknown (any isFree es) ≡ must (any isFree es) tableFull served → Alike (add new es) h c
+      → judge (c .kind) (isJob (c .number)) unknown (any isFree es) ≡ must (any isFree es) tableFull served → Alike (add new es) h c
   unfolding put
   added new l own now j =
       by-bool (any isFree es)
@@ -70,7 +70,8 @@ module _ (es : List Entry) (h : List Call) (g : Agrees es h) (c : Call) where
   -- an open number: its entry changes, or goes
   changed : (new : Entry) (y : ℕ) → lookup es (c .number) ≡ Open y
       → ((k : ℕ) (r : Entry) → cond (holds k new) new (cond (eqb (c .number) k) Free r) ≡ cond (eqb (c .number) k) new r)
-      → ((k : ℕ) → holds k new ≡ true → eqb (c .number) k ≡ true) → standing new ≡ statusAfter (some (c .kind)) → judge (c .kind) opened (any isFree es) ≡ served
+      → ((k : ℕ) → holds k new ≡ true → eqb (c .number) k ≡ true) → standing new ≡ statusAfter (some (c .kind))
+      → judge (c .kind) (isJob (c .number)) opened (any isFree es) ≡ served
       → Alike (accept (replaceFirst (holds (c .number)) new es)) h c
   changed new y l own only now j =
       let full : isFree (lookup es (c .number)) ≡ false = ap isFree l in
@@ -86,22 +87,28 @@ same-twice true x y z = refl
 same-twice false x y z = refl
 
 module _ (es : List Entry) (h : List Call) (g : Agrees es h) (n : ℕ) where
-  -- what the ledger refuses by the number's status
-  away : (k : Kind) {e : Entry} → lookup es n ≡ e → eqb (judge k (standing e) (any isFree es)) served ≡ false
-      → Alike (refuse es (judge k (standing e) (any isFree es))) h (on k n)
-  away k {e} l z = refused es h g (on k n) (judge k (standing e) (any isFree es)) z (judged es h g (on k n) l)
+  -- what the ledger refuses by the number and its status
+  away : (k : Kind) (a : ℕ) {e : Entry} → lookup es n ≡ e → eqb a served ≡ false → judge k (isJob n) (standing e) (any isFree es) ≡ a
+      → Alike (refuse es a) h (on k n)
+  away k a l z j = refused es h g (on k n) a z (judged es h g (on k n) l ∙ j)
+
+  open-job : isJob n ≡ true → (e : Entry) → lookup es n ≡ e → Alike (openJob e n es) h (on opening n)
+  open-job job (Cancelled x) l = away opening jobCancelled l refl (rw job)
+  open-job job (Open x) l = away opening alreadyOpen l refl (rw job)
+  open-job job Free l = added es h g (on opening n) (Open n) l (λ k. refl) refl (rw job)
 
   one-call : (k : Kind) (e : Entry) → lookup es n ≡ e → Alike (callAs k es n) h (on k n)
   unfolding decide
-  one-call opening (Cancelled x) l = rw (g .once, l) (away opening l refl)
-  one-call opening (Open x) l = rw (g .once, l) (away opening l refl)
-  one-call opening Free l = rw (g .once, l) (added es h g (on opening n) (Open n) l (λ k. refl) refl refl)
-  one-call cancelling (Cancelled x) l = rw (g .once, l) (away cancelling l refl)
+  one-call opening e l =
+      by-bool (isJob n) (λ job. rw (g .once, job, l) (open-job job e l)) (λ zero. rw (g .once, zero) (away opening numberZero l refl (rw zero)))
+  one-call cancelling (Cancelled x) l = rw (g .once, l) (away cancelling jobCancelled l refl refl)
   one-call cancelling (Open x) l = rw (g .once, l) (changed es h g (on cancelling n) (Cancelled n) x l (λ k r. same-twice (eqb n k) (Cancelled n) Free r) (λ k p. p) refl refl)
-  one-call cancelling Free l = rw (g .once, l) (added es h g (on cancelling n) (Cancelled n) l (λ k. refl) refl refl)
-  one-call finishing (Cancelled x) l = rw (g .once, l) (away finishing l refl)
+  one-call cancelling Free l =
+      by-bool (isJob n) (λ job. rw (g .once, l, job) (added es h g (on cancelling n) (Cancelled n) l (λ k. refl) refl (rw job)))
+      (λ zero. rw (g .once, l, zero) (away cancelling numberZero l refl (rw zero)))
+  one-call finishing (Cancelled x) l = rw (g .once, l) (away finishing jobCancelled l refl refl)
   one-call finishing (Open x) l = rw (g .once, l) (changed es h g (on finishing n) Free x l (λ k r. refl) (λ k p. absurd (false≢true p)) refl refl)
-  one-call finishing Free l = rw (g .once, l) (away finishing l refl)
+  one-call finishing Free l = rw (g .once, l) (away finishing notOpen l refl refl)
 
 pub call-alike : (es : List Entry) (h : List Call) → Agrees es h → (c : Call) → Alike (callOut es c) h c
 call-alike es h g c = one-call es h g (c .number) (c .kind) (lookup es (c .number)) refl
@@ -116,17 +123,34 @@ simulation es h g (c ∷ cs) =
     let r = simulation (callOut es c .table) (enter h c) (a .agrees) cs in
     record { judged = ap₂ {C = List ℕ} _∷_ (a .answer) (r .judged); agrees = r .agrees }
 
-free-lookup : (m n : ℕ) → lookup (replicate m Free) n ≡ Free
-unfolding firstEntry
-free-lookup zero n = refl
-free-lookup (suc m) n = free-lookup m n
+-- ---- Where a list starts
 
 pub empty-agrees : Agrees emptyTable []
 unfolding historyOf status held used twice
 empty-agrees = record { slots = refl; same = λ n. ap standing (free-lookup slotCount n); once = refl; count = refl }
 
-pub simulation-from-empty : SimulationFromEmpty
-simulation-from-empty calls = simulation emptyTable [] empty-agrees calls
+-- 0 alone, in slot i, and calls that made it what it is
+alone-agrees : (i : ℕ) → i < slotCount → (e : Entry) (h : List Call) → ((n : ℕ) → standing (cond (holds n e) e Free) ≡ status h n)
+    → bit (isHeld (standing e)) ≡ held h
+    → Agrees (set emptyTable i e) h
+alone-agrees i l e h same count =
+    record {
+      slots = length-set emptyTable i e;
+      same = λ n. ap standing (alone-lookup e slotCount i n l) ∙ same n;
+      once = alone-once e slotCount i l;
+      count = alone-used e slotCount i l ∙ count;
+    }
+
+pub start-agrees : (es : List Entry) (before : List Call) → Start es before → Agrees es before
+unfolding historyOf status held
+start-agrees es before empty = empty-agrees
+start-agrees es before (zero-open i l) = alone-agrees i l (Open 0) (on opening 0 ∷ []) (λ n. by-bool (eqb 0 n) (λ t. rw t) (λ t. rw t)) refl
+start-agrees es before (zero-cancelled i l) = alone-agrees i l (Cancelled 0) (on cancelling 0 ∷ []) (λ n. by-bool (eqb 0 n) (λ t. rw t) (λ t. rw t)) refl
+start-agrees es before (zero-opened-cancelled i l) =
+    alone-agrees i l (Cancelled 0) (on cancelling 0 ∷ on opening 0 ∷ []) (λ n. by-bool (eqb 0 n) (λ t. rw t) (λ t. rw t)) refl
+
+pub simulation-from-start : SimulationFromStart
+simulation-from-start es before s calls = simulation es before (start-agrees es before s) calls
 
 -- the ledger after a list holds the calls that it answers with 0
 pub accepted-by : (h calls : List Call) → acceptedBy calls (verdictsFrom h calls) h ≡ ledgerFrom h calls

@@ -17,7 +17,7 @@ use Rattle.jobs.specs.declared.Entry.{Entry}
 use Rattle.jobs.specs.declared.JobTable.{JobTable}
 use Rattle.jobs.specs.declared.TableAnswer.{TableAnswer}
 use Rattle.jobs.specs.Jobs.{Kind, Call}
-use Rattle.jobs.specs.Table.{TableOut, emptyTable, tableFrom, answersFrom}
+use Rattle.jobs.specs.Table.{TableOut, tableFrom, answersFrom}
 use Rattle.jobs.specs.Slots.{entries, outcome}
 use Rattle.jobs.specs.Replay.{kindOf, known, isLetter, callBy, callBefore, callsOf, replayed, made, AreCalls}
 
@@ -65,15 +65,15 @@ unfolding callsOf
 calls-end letters numbers i h = rw (drop-of-length-le letters h)
 
 -- after i calls: what is left of them makes the rest of the whole outcome
-pub record Replaying (letters numbers answers : List ℕ) (es : List Entry) (i : ℕ) : Type 0 where
+pub record Replaying (start : List Entry) (letters numbers answers : List ℕ) (es : List Entry) (i : ℕ) : Type 0 where
   pub room : length answers ≡ length letters
   pub letters-left : all isLetter (drop i letters) ≡ true
-  pub table-left : tableFrom es (callsOf (drop i letters) (drop i numbers)) ≡ tableFrom emptyTable (callsOf letters numbers)
-  pub answers-left : take i answers ++ answersFrom es (callsOf (drop i letters) (drop i numbers)) ≡ answersFrom emptyTable (callsOf letters numbers)
+  pub table-left : tableFrom es (callsOf (drop i letters) (drop i numbers)) ≡ tableFrom start (callsOf letters numbers)
+  pub answers-left : take i answers ++ answersFrom es (callsOf (drop i letters) (drop i numbers)) ≡ answersFrom start (callsOf letters numbers)
 
-module _ (letters numbers answers : List ℕ) (es : List Entry) (i : ℕ) (s : Replaying letters numbers answers es i) where
+module _ (start : List Entry) (letters numbers answers : List ℕ) (es : List Entry) (i : ℕ) (s : Replaying start letters numbers answers es i) where
   pub call-made : i < length letters → length numbers ≡ length letters → (r : TableAnswer) → outcome r ≡ callBy (kindOf (getD letters i 0)) es (getD numbers i 0)
-      → Replaying letters numbers (set answers i (r .answer)) (entries (r .table)) (i + 1)
+      → Replaying start letters numbers (set answers i (r .answer)) (entries (r .table)) (i + 1)
   call-made h fit r out =
       let o = kindOf (getD letters i 0) in
       let n = getD numbers i 0 in
@@ -94,13 +94,15 @@ module _ (letters numbers answers : List ℕ) (es : List Entry) (i : ℕ) (s : R
         answers-left = rw (filled, append-assoc) (ap (λ (x : List ℕ). take i answers ++ x) rest ∙ s .answers-left);
       }
 
-  pub calls-made : length letters ≤ i → (t : JobTable) → es ≡ entries t → replayed (record { answer = served; table = t }) answers ≡ made (callsOf letters numbers)
+  pub calls-made : length letters ≤ i → (t : JobTable) → es ≡ entries t
+      → replayed (record { answer = served; table = t }) answers ≡ made start (callsOf letters numbers)
   unfolding tableFrom answersFrom
   calls-made h t e =
       let end : callsOf (drop i letters) (drop i numbers) ≡ [] = calls-end letters numbers i h in
-      let last : es ≡ tableFrom emptyTable (callsOf letters numbers) = rw end at (s .table-left) in
-      let filled : answers ≡ answersFrom emptyTable (callsOf letters numbers) = rw (end, append-nil, take-all i answers (omega (arith, s .room))) at (s .answers-left) in
+      let last : es ≡ tableFrom start (callsOf letters numbers) = rw end at (s .table-left) in
+      let filled : answers ≡ answersFrom start (callsOf letters numbers) =
+      rw (end, append-nil, take-all i answers (omega (arith, s .room))) at (s .answers-left) in
       rw (← e, ← last, ← filled)
 
-pub none-made : (letters numbers answers : List ℕ) (es : List Entry) → AreCalls letters numbers answers → es ≡ emptyTable → Replaying letters numbers answers es 0
-none-made letters numbers answers es h e = record { room = h .answers-fit; letters-left = h .known-letters; table-left = rw e; answers-left = rw e }
+pub none-made : (letters numbers answers : List ℕ) (es : List Entry) → AreCalls letters numbers answers → Replaying es letters numbers answers es 0
+none-made letters numbers answers es h = record { room = h .answers-fit; letters-left = h .known-letters; table-left = refl; answers-left = refl }

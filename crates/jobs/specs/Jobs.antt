@@ -1,6 +1,7 @@
 -- What the table and the ledger both speak of: calls on job numbers, and what a number can be. Assumes nothing.
-use mathlib.Core.Bool.{Bool, true, false}
+use mathlib.Core.Bool.{Bool, true, false, not}
 use Prim.Native.Nat.{ℕ}
+use lib.Dec.{eqb}
 use Rattle.refusals.specs.Refusals.{served, jobCancelled, notOpen}
 
 -- "The book holds at most 64 job numbers .. It has 64 places"
@@ -18,6 +19,10 @@ pub record Call : Type 0 where
 
 abbrev pub on : Kind → ℕ → Call
 on k n = record { kind = k; number = n }
+
+-- document 02, ticket 3: "The tray maker uses 0 for test trays .. From now on it is no job."
+abbrev pub isJob : ℕ → Bool
+isJob n = not (eqb n 0)
 
 -- "each open or cancelled"; every other number is unknown
 pub data Status : Type 0 where

@@ -6,10 +6,10 @@ use mathlib.Core.Option.{Option, none, some}
 use Prim.Native.Nat.{ℕ, _+_, _-_}
 use lib.Dec.{ltb, eqb}
 use lib.ListN.{length}
-use Rattle.refusals.specs.Refusals.{served, jobCancelled, alreadyOpen, tableFull, must}
+use Rattle.refusals.specs.Refusals.{served, jobCancelled, alreadyOpen, tableFull, numberZero, must}
 use Rattle.combinatorics.specs.Lists.{any}
 use Rattle.combinatorics.specs.Stretch.{bit}
-use Rattle.jobs.specs.Jobs.{slotCount, Kind, opening, cancelling, finishing, Call, Status, unknown, opened, cancelled, isHeld, needsOpen}
+use Rattle.jobs.specs.Jobs.{slotCount, Kind, opening, cancelling, finishing, Call, isJob, Status, unknown, opened, cancelled, isHeld, needsOpen}
 
 -- the kinds of the accepted calls on a number, newest first
 unfoldable pub historyOf : List Call → ℕ → List Kind
@@ -44,19 +44,23 @@ abbrev pub room : List Call → Bool
 room h = ltb (held h) slotCount
 
 -- "An opening that finds its number cancelled is refused with 12, open with 13, unknown while 64 are open or cancelled with 15; else it is accepted"
+abbrev pub judgeOpening : Status → Bool → ℕ
+judgeOpening cancelled hasRoom = jobCancelled
+judgeOpening opened hasRoom = alreadyOpen
+judgeOpening unknown hasRoom = must hasRoom tableFull served
+
 -- "A cancellation that finds it cancelled gets 12, unknown while 64 are open or cancelled 15; else it is accepted"
 -- "A finishing that finds it cancelled gets 12, unknown 14; else it is accepted"
-abbrev pub judge : Kind → Status → Bool → ℕ
-judge opening cancelled hasRoom = jobCancelled
-judge opening opened hasRoom = alreadyOpen
-judge opening unknown hasRoom = must hasRoom tableFull served
-judge cancelling cancelled hasRoom = jobCancelled
-judge cancelling opened hasRoom = served
-judge cancelling unknown hasRoom = must hasRoom tableFull served
-judge finishing found hasRoom = needsOpen found
+-- document 02, ticket 3: "demand 3's ledger knows 17", "ahead of the others, the opening .. of 0 and the cancelling of a 0 that the book doesn't hold."
+abbrev pub judge : Kind → Bool → Status → Bool → ℕ
+judge opening job found hasRoom = must job numberZero (judgeOpening found hasRoom)
+judge cancelling job cancelled hasRoom = jobCancelled
+judge cancelling job opened hasRoom = served
+judge cancelling job unknown hasRoom = must job numberZero (must hasRoom tableFull served)
+judge finishing job found hasRoom = needsOpen found
 
 unfoldable pub verdict : List Call → Call → ℕ
-verdict h c = judge (c .kind) (status h (c .number)) (room h)
+verdict h c = judge (c .kind) (isJob (c .number)) (status h (c .number)) (room h)
 
 -- "A refused call leaves the ledger alone."
 unfoldable pub enter : List Call → Call → List Call

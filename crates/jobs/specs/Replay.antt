@@ -11,7 +11,7 @@ use Rattle.combinatorics.specs.Lists.{all}
 use Rattle.jobs.specs.declared.Entry.{Entry}
 use Rattle.jobs.specs.declared.TableAnswer.{TableAnswer}
 use Rattle.jobs.specs.Jobs.{Kind, opening, cancelling, finishing, Call, on}
-use Rattle.jobs.specs.Table.{TableOut, refuse, callAs, emptyTable, answersFrom, tableFrom}
+use Rattle.jobs.specs.Table.{TableOut, refuse, callAs, answersFrom, tableFrom}
 use Rattle.jobs.specs.Slots.{entries}
 
 -- "O (open), C (cancel), F (finish)": 79, 67 and 70 as bytes
@@ -57,20 +57,20 @@ pub record ReplayOut : Type 0 where
 abbrev pub replayed : TableAnswer → List ℕ → ReplayOut
 replayed r answers = record { answer = r .answer; table = entries (r .table); answers = answers }
 
--- no call is made: "output buffers .. keep their contents"
-abbrev pub turnAway : List ℕ → ℕ → ReplayOut
-turnAway answers a = record { answer = a; table = emptyTable; answers = answers }
+-- no call is made: "output buffers and book keep their contents"
+abbrev pub turnAway : List Entry → List ℕ → ℕ → ReplayOut
+turnAway es answers a = record { answer = a; table = es; answers = answers }
 
--- the calls, one after the other from the empty table
-abbrev pub made : List Call → ReplayOut
-made calls = record { answer = served; table = tableFrom emptyTable calls; answers = answersFrom emptyTable calls }
+-- the calls, one after the other from a table
+abbrev pub made : List Entry → List Call → ReplayOut
+made es calls = record { answer = served; table = tableFrom es calls; answers = answersFrom es calls }
 
 -- 3 for lists of other lengths, 11 for a letter that is none of the three; then the calls
-unfoldable pub replayOut : List ℕ → List ℕ → List ℕ → ReplayOut
-replayOut letters numbers answers =
-    must (lengthsFit letters numbers answers) (turnAway answers wrongLength)
-    (must (all isLetter letters) (turnAway answers badRecord)
-    (made (callsOf letters numbers)))
+unfoldable pub replayOut : List Entry → List ℕ → List ℕ → List ℕ → ReplayOut
+replayOut es letters numbers answers =
+    must (lengthsFit letters numbers answers) (turnAway es answers wrongLength)
+    (must (all isLetter letters) (turnAway es answers badRecord)
+    (made es (callsOf letters numbers)))
 
 -- what is known once nothing is refused
 pub record AreCalls (letters numbers answers : List ℕ) : Type 0 where

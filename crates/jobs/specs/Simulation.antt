@@ -1,11 +1,12 @@
 -- 'Demand 3 in these terms', the part about the list of calls: the table answers as the ledger does, and stands for it. Assumes nothing.
 use mathlib.Core.Path.{_≡_}
 use mathlib.Core.Bool.{false}
-use mathlib.Core.List.{List, []}
-use Prim.Native.Nat.{ℕ}
-use lib.ListN.{length}
+use mathlib.Core.List.{List, [], _∷_}
+use Prim.Native.Nat.{ℕ, _<_}
+use lib.ListN.{length, set}
 use Rattle.jobs.specs.declared.Entry.{Entry}
-use Rattle.jobs.specs.Jobs.{slotCount, Call}
+use Rattle.jobs.specs.declared.Entry.the-variants.{Open, Cancelled}
+use Rattle.jobs.specs.Jobs.{slotCount, opening, cancelling, Call, on}
 use Rattle.jobs.specs.Table.{standing, lookup, used, twice, emptyTable, answersFrom, tableFrom}
 use Rattle.jobs.specs.Ledger.{status, held, verdictsFrom, ledgerFrom}
 
@@ -31,6 +32,17 @@ pub record Follows (h calls : List Call) (answers : List ℕ) (es : List Entry) 
 abbrev pub Simulation : Type 0
 Simulation = (es : List Entry) (h : List Call) → Agrees es h → (calls : List Call) → Follows h calls (answersFrom es calls) (tableFrom es calls)
 
--- "in a ledger that begins with every number unknown": from the empty table
-abbrev pub SimulationFromEmpty : Type 0
-SimulationFromEmpty = (calls : List Call) → Follows [] calls (answersFrom emptyTable calls) (tableFrom emptyTable calls)
+-- ---- Where a list may start: a table, and the calls accepted before, newest first
+
+pub data Start : List Entry → List Call → Type 0 where
+  -- "in a ledger that begins with every number unknown"
+  empty : Start emptyTable []
+  -- document 02, ticket 3: "its list may also start from a book that holds 0 alone, in any place, open or cancelled, as if former accepted calls had put
+  -- it there": an opening; a cancellation; or an opening and then a cancellation
+  zero-open : (i : ℕ) → i < slotCount → Start (set emptyTable i (Open 0)) (on opening 0 ∷ [])
+  zero-cancelled : (i : ℕ) → i < slotCount → Start (set emptyTable i (Cancelled 0)) (on cancelling 0 ∷ [])
+  zero-opened-cancelled : (i : ℕ) → i < slotCount → Start (set emptyTable i (Cancelled 0)) (on cancelling 0 ∷ on opening 0 ∷ [])
+
+abbrev pub SimulationFromStart : Type 0
+SimulationFromStart =
+    (es : List Entry) (before : List Call) → Start es before → (calls : List Call) → Follows before calls (answersFrom es calls) (tableFrom es calls)

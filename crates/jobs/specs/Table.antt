@@ -4,12 +4,12 @@ use mathlib.Core.List.{List, [], _∷_}
 use Prim.Native.Nat.{ℕ, _+_}
 use lib.Dec.{eqb}
 use lib.ListN.{replicate}
-use Rattle.refusals.specs.Refusals.{served, invalid, jobCancelled, alreadyOpen, notOpen, tableFull, must}
+use Rattle.refusals.specs.Refusals.{served, invalid, jobCancelled, alreadyOpen, notOpen, tableFull, numberZero, must}
 use Rattle.combinatorics.specs.Lists.{any}
 use Rattle.combinatorics.specs.Stretch.{bit}
 use Rattle.jobs.specs.declared.Entry.{Entry}
 use Rattle.jobs.specs.declared.Entry.the-variants.{Free, Open, Cancelled}
-use Rattle.jobs.specs.Jobs.{slotCount, Kind, opening, cancelling, finishing, Call, Status, unknown, opened, cancelled, isHeld}
+use Rattle.jobs.specs.Jobs.{slotCount, Kind, opening, cancelling, finishing, Call, isJob, Status, unknown, opened, cancelled, isHeld}
 
 -- "The book holds at most 64 job numbers, each open or cancelled. It has 64 places": an entry stands for what its number is
 abbrev pub standing : Entry → Status
@@ -83,21 +83,27 @@ unfoldable pub twice : List Entry → Bool
 twice [] = false
 twice (e ∷ es) = again es e || twice es
 
--- "open 1 12 13 15; cancel 1 12 15; finish 1 12 14": 1 comes first in every call, and then the number's entry decides
+-- "open 1 12 13 15; cancel 1 12 15; finish 1 12 14"; document 02, ticket 3: 17 is "ahead of the others" of the state. 1 comes first in every call, and
+-- then the number and its entry decide
 unfoldable pub decide : (Entry → ℕ → List Entry → TableOut) → List Entry → ℕ → TableOut
 decide byEntry es n = must (not (twice es)) (refuse es invalid) (byEntry (lookup es n) n es)
 
 -- "Opening adds one."
+abbrev pub openJob : Entry → ℕ → List Entry → TableOut
+openJob (Cancelled x) n es = refuse es jobCancelled
+openJob (Open x) n es = refuse es alreadyOpen
+openJob Free n es = add (Open n) es
+
+-- document 02, ticket 3: "It refuses with 17 .. the opening .. of 0", whatever the table has of it
 abbrev pub openAt : Entry → ℕ → List Entry → TableOut
-openAt (Cancelled x) n es = refuse es jobCancelled
-openAt (Open x) n es = refuse es alreadyOpen
-openAt Free n es = add (Open n) es
+openAt e n es = must (isJob n) (refuse es numberZero) (openJob e n es)
 
 -- "Cancelling turns open into cancelled, or adds an unknown number as cancelled; that entry stays."
+-- document 02, ticket 3: "It refuses with 17 .. the cancelling of a 0 that the book doesn't hold."
 abbrev pub cancelAt : Entry → ℕ → List Entry → TableOut
 cancelAt (Cancelled x) n es = refuse es jobCancelled
 cancelAt (Open x) n es = accept (replaceFirst (holds n) (Cancelled n) es)
-cancelAt Free n es = add (Cancelled n) es
+cancelAt Free n es = must (isJob n) (refuse es numberZero) (add (Cancelled n) es)
 
 -- "Finishing removes an open one and frees its place for use."
 abbrev pub finishAt : Entry → ℕ → List Entry → TableOut

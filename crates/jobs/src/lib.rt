@@ -1,19 +1,19 @@
 // The job table (document 01's book), by value, and the replay of a list of calls on it. Assumes nothing.
 ghost use mathlib.Core.Path.{_≡_};
 ghost use mathlib.Core.Bool.{false};
-ghost use mathlib.Core.List.{[]};
+ghost use mathlib.Core.List.{List};
 ghost use Prim.Native.Nat.{_+_};
 ghost use lib.ListN.{length, drop};
 ghost use Rattle.refusals.specs.Refusals.{served};
 ghost use Rattle.combinatorics.specs.Lists.{all};
-ghost use Rattle.jobs.specs.Jobs.{slotCount};
+ghost use Rattle.jobs.specs.Jobs.{slotCount, Call, isJob};
 ghost use Rattle.jobs.specs.Table.{isFree, emptyTable, openOut, cancelOut, finishOut};
 ghost use Rattle.jobs.specs.Slots.{entries, outcome, seeks, firstThat, markCount, markOf};
 ghost use Rattle.jobs.specs.Replay.{kindOf, callBy, isLetter, callsOf, AreCalls, replayed, made, replayOut};
-ghost use Rattle.jobs.specs.Simulation.{Follows};
+ghost use Rattle.jobs.specs.Simulation.{Agrees, Follows};
 use refusals::Refusal;
 
-// What a slot holds. Job numbers are all 32-bit numbers, 0 included.
+// What a slot holds. A number is any of 32 bits. 0 is no job; a table holds it only where it was put there before it was refused.
 pub enum Entry {
     Free,
     Open(u32),
@@ -58,12 +58,15 @@ impl JobTable {
         }
     }
 
-    // The number becomes open. Refusals: 1 12 13 15.
+    // The number becomes open. Refusals: 1 17 12 13 15.
     pub fn open(self, number: u32) -> TableAnswer
         ensures { λ r. ⌜ outcome r ≡ openOut (entries self) number ⌝ }
     {
         if self.twice() {
             return self.refuse(Refusal::INVALID);
+        }
+        if !is_job(number) {
+            return self.refuse(Refusal::NUMBER_ZERO);
         }
         let entry = self.lookup(number);
         match entry {
@@ -73,7 +76,7 @@ impl JobTable {
         }
     }
 
-    // The number becomes cancelled, and its entry stays. Refusals: 1 12 15.
+    // The number becomes cancelled, and its entry stays. Refusals: 1, 17 for a 0 that is not held, 12 15.
     pub fn cancel(self, number: u32) -> TableAnswer
         ensures { λ r. ⌜ outcome r ≡ cancelOut (entries self) number ⌝ }
     {
@@ -84,7 +87,12 @@ impl JobTable {
         match entry {
             Entry::Cancelled(_) => self.refuse(Refusal::CANCELLED),
             Entry::Open(_) => self.put(Sought::Number(number), Entry::Cancelled(number)),
-            Entry::Free => self.put(Sought::FreeSlot, Entry::Cancelled(number)),
+            Entry::Free => {
+                if !is_job(number) {
+                    return self.refuse(Refusal::NUMBER_ZERO);
+                }
+                self.put(Sought::FreeSlot, Entry::Cancelled(number))
+            }
         }
     }
 
@@ -231,6 +239,13 @@ fn mark_of(entry: Entry) -> usize
     }
 }
 
+// Every number but 0 can be a job's.
+pub fn is_job(number: u32) -> bool
+    ensures { λ r. ⌜ r ≡ isJob number ⌝ }
+{
+    number != 0
+}
+
 fn is_sought(entry: Entry, sought: Sought) -> bool
     ensures { λ r. ⌜ r ≡ seeks sought entry ⌝ }
 {
@@ -259,14 +274,13 @@ fn holds(entry: Entry, number: u32) -> bool
     }
 }
 
-// Makes the calls of lent letters and numbers, one after the other from the empty table; each answer goes to its place in `answers`.
-// Refusals of the whole list: 3 for lists of other lengths, 11 for a letter other than O, C, F. The table is then the empty one, and `answers` keeps
+// Makes the calls of lent letters and numbers, one after the other from a table; each answer goes to its place in `answers`.
+// Refusals of the whole list: 3 for lists of other lengths, 11 for a letter other than O, C, F. The table is then as it was, and `answers` keeps
 // what it held.
-pub fn replay(letters: &[u8], numbers: &[u32], answers: &mut [u8]) -> TableAnswer
-    ensures outcome { λ r. ⌜ replayed r (now (answers .exit)) ≡ replayOut (now (letters .entry)) (now (numbers .entry)) (now (answers .entry)) ⌝ }
-    ensures ledger { λ r. ⌜ (r .answer ≡ served → Follows [] (callsOf (now (letters .entry)) (now (numbers .entry))) (now (answers .exit)) (entries (r .table))) ⌝ }
+pub fn replay(table: JobTable, letters: &[u8], numbers: &[u32], answers: &mut [u8]) -> TableAnswer
+    ensures outcome { λ r. ⌜ replayed r (now (answers .exit)) ≡ replayOut (entries table) (now (letters .entry)) (now (numbers .entry)) (now (answers .entry)) ⌝ }
+    ensures ledger { λ r. ⌜ ((before : List Call) → Agrees (entries table) before → r .answer ≡ served → Follows before (callsOf (now (letters .entry)) (now (numbers .entry))) (now (answers .exit)) (entries (r .table))) ⌝ }
 {
-    let table = JobTable::empty();
     if numbers.len() != letters.len() {
         return table.refuse(Refusal::LENGTH);
     }
@@ -276,7 +290,7 @@ pub fn replay(letters: &[u8], numbers: &[u32], answers: &mut [u8]) -> TableAnswe
     if !all_letters(letters) {
         return table.refuse(Refusal::RECORD);
     }
-    make_calls(letters, numbers, answers)
+    make_calls(table, letters, numbers, answers)
 }
 
 fn all_letters(letters: &[u8]) -> bool
@@ -305,11 +319,11 @@ pub fn is_letter(letter: u8) -> bool
 }
 
 // All tests are done: the calls are made, and `answers` is filled.
-fn make_calls(letters: &[u8], numbers: &[u32], answers: &mut [u8]) -> TableAnswer
+fn make_calls(start: JobTable, letters: &[u8], numbers: &[u32], answers: &mut [u8]) -> TableAnswer
     requires { ⌜ AreCalls (now letters) (now numbers) (now answers) ⌝ }
-    ensures { λ r. ⌜ replayed r (now (answers .exit)) ≡ made (callsOf (now (letters .entry)) (now (numbers .entry))) ⌝ }
+    ensures { λ r. ⌜ replayed r (now (answers .exit)) ≡ made (entries start) (callsOf (now (letters .entry)) (now (numbers .entry))) ⌝ }
 {
-    let mut table = JobTable::empty();
+    let mut table = start;
     let mut i: usize = 0;
     while i < letters.len() {
         let out = table.call(letters[i], numbers[i]);

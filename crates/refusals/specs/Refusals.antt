@@ -1,4 +1,4 @@
--- The refusal numbers of document 01 under their names, and how an order of refusals is written. Assumes nothing.
+-- The refusal numbers of documents 01 and 02 under their names, and how an order of refusals is written. Assumes nothing.
 use mathlib.Core.Bool.{Bool, true, false}
 use mathlib.Core.List.{List, [], _∷_}
 use Prim.Native.Nat.{ℕ}
@@ -71,11 +71,15 @@ notOpen = 14
 abbrev pub tableFull : ℕ
 tableFull = 15
 
+-- document 02, ticket 3: "It refuses with 17, itself a state refusal .., the opening or writing of 0 and the cancelling of a 0 that the book doesn't hold."
+abbrev pub numberZero : ℕ
+numberZero = 17
+
 -- both lists
 abbrev pub refusals : List ℕ
 refusals =
     invalid ∷ unfit ∷ wrongLength ∷ badSymbol ∷ badStarts ∷ uncovered ∷ noPattern ∷ valueTooLarge ∷ disagrees ∷ badPayload ∷ badRecord
-    ∷ jobCancelled ∷ alreadyOpen ∷ notOpen ∷ tableFull ∷ []
+    ∷ jobCancelled ∷ alreadyOpen ∷ notOpen ∷ tableFull ∷ numberZero ∷ []
 
 -- An order of refusals, "1 2 3 ..", reads downward: where a test fails the outcome is `else`, and otherwise the next test decides.
 abbrev pub must : {A : Type 0} → Bool → A → A → A

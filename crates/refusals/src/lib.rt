@@ -1,6 +1,6 @@
-// The refusal numbers of document 01, one name each. Assumes nothing.
+// The refusal numbers of documents 01 and 02, one name each. Assumes nothing.
 ghost use mathlib.Core.Path.{_≡_};
-ghost use Rattle.refusals.specs.Refusals.{served, invalid, unfit, wrongLength, badSymbol, badStarts, uncovered, noPattern, valueTooLarge, disagrees, badPayload, badRecord, jobCancelled, alreadyOpen, notOpen, tableFull, refusals};
+ghost use Rattle.refusals.specs.Refusals.{served, invalid, unfit, wrongLength, badSymbol, badStarts, uncovered, noPattern, valueTooLarge, disagrees, badPayload, badRecord, jobCancelled, alreadyOpen, notOpen, tableFull, numberZero, refusals};
 
 // The numbers stand under this name; 0 stands for an accepted call.
 pub struct Refusal {}
@@ -40,8 +40,10 @@ impl Refusal {
 
     pub const FULL: u8 = 15;
 
-    // Both lists, in document 01's order. Its contract ties each name here to that of specs/.
-    pub fn all() -> [u8; 15]
+    pub const NUMBER_ZERO: u8 = 17;
+
+    // Both lists, in document 01's order, with document 02's number behind. Its contract ties each name here to that of specs/.
+    pub fn all() -> [u8; 16]
         ensures list { λ r. ⌜ r ≡ refusals ⌝ }
         ensures { λ _. do ⌜ (← ⟦Refusal::NONE⟧ .entry) ≡ served ⌝ }
         ensures { λ _. do ⌜ (← ⟦Refusal::INVALID⟧ .entry) ≡ invalid ⌝ }
@@ -59,6 +61,7 @@ impl Refusal {
         ensures { λ _. do ⌜ (← ⟦Refusal::ALREADY_OPEN⟧ .entry) ≡ alreadyOpen ⌝ }
         ensures { λ _. do ⌜ (← ⟦Refusal::NOT_OPEN⟧ .entry) ≡ notOpen ⌝ }
         ensures { λ _. do ⌜ (← ⟦Refusal::FULL⟧ .entry) ≡ tableFull ⌝ }
+        ensures { λ _. do ⌜ (← ⟦Refusal::NUMBER_ZERO⟧ .entry) ≡ numberZero ⌝ }
     {
         [
             Refusal::INVALID,
@@ -76,6 +79,7 @@ impl Refusal {
             Refusal::ALREADY_OPEN,
             Refusal::NOT_OPEN,
             Refusal::FULL,
+            Refusal::NUMBER_ZERO,
         ]
     }
 }

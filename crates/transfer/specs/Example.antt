@@ -36,6 +36,16 @@ exampleInput = recordS ++ recordO ++ recordW ++ recordR ++ recordC ++ recordR ++
 abbrev refusedS : List ℕ
 refusedS = 76 ∷ 84 ∷ 83 ∷ 0 ∷ 15 ∷ 0 ∷ 1 ∷ 0 ∷ 2 ∷ []
 
+-- an O, a C and a W of number 0
+abbrev zeroO : List ℕ
+zeroO = 76 ∷ 84 ∷ 79 ∷ 0 ∷ 0 ∷ 0 ∷ 0 ∷ []
+
+abbrev zeroC : List ℕ
+zeroC = 76 ∷ 84 ∷ 67 ∷ 0 ∷ 0 ∷ 0 ∷ 0 ∷ []
+
+abbrev zeroW : List ℕ
+zeroW = 76 ∷ 84 ∷ 87 ∷ 0 ∷ 6 ∷ 0 ∷ 0 ∷ 0 ∷ 0 ∷ 65 ∷ 66 ∷ 67 ∷ 68 ∷ 69 ∷ 70 ∷ 71 ∷ []
+
 -- 000000000741000042430744454647
 abbrev wordText : List ℕ
 wordText = 48 ∷ 48 ∷ 48 ∷ 48 ∷ 48 ∷ 48 ∷ 48 ∷ 48 ∷ 48 ∷ 55 ∷ 52 ∷ 49 ∷ 48 ∷ 48 ∷ 48 ∷ 48 ∷ 52 ∷ 50 ∷ 52 ∷ 51 ∷ 48 ∷ 55 ∷ 52 ∷ 52 ∷ 52 ∷ 53 ∷ 52 ∷ 54 ∷ 52 ∷ 55 ∷ []
@@ -88,6 +98,10 @@ rows =
     -- The table "outlasts an S"
     ∷ example (printed (recordO ++ recordS ++ recordO))
     (line 79 ((48 ∷ []) ∷ []) ++ line 83 ((48 ∷ []) ∷ (49 ∷ 52 ∷ []) ∷ (48 ∷ []) ∷ (49 ∷ 49 ∷ []) ∷ []) ++ line 79 ((49 ∷ 51 ∷ []) ∷ []) ++ endLine)
+    -- document 02, ticket 3: "the opening or writing of 0 and the cancelling of a 0 that the book doesn't hold"
+    ∷ example (printed (zeroO ++ zeroC ++ recordS ++ zeroW))
+    (line 79 ((49 ∷ 55 ∷ []) ∷ []) ++ line 67 ((49 ∷ 55 ∷ []) ∷ []) ++ line 83 ((48 ∷ []) ∷ (49 ∷ 52 ∷ []) ∷ (48 ∷ []) ∷ (49 ∷ 49 ∷ []) ∷ [])
+    ++ line 87 ((49 ∷ 55 ∷ []) ∷ []) ++ endLine)
     ∷ []
 
 abbrev pub RowsHold : Type 0

@@ -71,17 +71,17 @@ struct Tally {
     lines: u64,
     differences: u64,
     /// How often each answer was printed, by letter (the place in LETTERS) and number.
-    answers: [[u64; 16]; LETTERS.len()],
+    answers: [[u64; 18]; LETTERS.len()],
 }
 
 const LETTERS: &[u8; 7] = b"SOCFWRs";
 /// The answers that each letter can have, all of which a run of the usual length must see; s is for stop.
 const POSSIBLE: [&[usize]; 7] = [
     &[0, 1, 2],
-    &[0, 12, 13, 15],
-    &[0, 12, 15],
+    &[0, 12, 13, 15, 17],
+    &[0, 12, 15, 17],
     &[0, 12, 14],
-    &[0, 5, 10, 12, 14],
+    &[0, 5, 10, 12, 14, 17],
     &[0, 4, 7, 8, 9, 10, 12, 14],
     &[11],
 ];

@@ -1,6 +1,6 @@
 -- `replay_and_read` meets its contract: the table follows the ledger, and the reading under it is what demand 3 claims. Assumes nothing.
 use mathlib.Core.Path.{_≡_, sym, ap₂, subst}
-use mathlib.Core.List.{List, []}
+use mathlib.Core.List.{List}
 use Prim.Native.Nat.{ℕ}
 use borrow.Author.Needs.{needs}
 use Rattle.params.specs.Bridge.{given}
@@ -24,8 +24,9 @@ returns : tie.Need-returns
 returns c =
     let a = c .before .before .before .before .before .before .before .before .before .before .before .args in
     let r = c .before .before .before .before .replay in (
-      list-refused (given (a .figures)) (a .letters .now) (a .numbers .now) (a .answers .now) (a .word .now) (a .payload .now) (replayed (r .result) (r .last .1 .1 .0)) (r .ensures .0) (c .if1 .taken),
-      tt,
+      list-refused (given (a .figures)) (entries (a .table)) (a .letters .now) (a .numbers .now) (a .answers .now) (a .word .now) (a .payload .now)
+          (replayed (r .result) (r .last .1 .1 .1 .0)) (r .ensures .0) (c .if1 .taken),
+      λ _ _. tt,
     )
 
 job-read-requires : tie.Need-job-read-requires
@@ -44,13 +45,15 @@ returns-2 c =
     let r = c .before .before .before .before .before .before .before .before .replay in
     let j = c .before .before .job-read in
     let served = c .before .before .before .before .if1 .left in
-    let answers = r .last .1 .1 .0 in
+    let answers = r .last .1 .1 .1 .0 in
     let es = entries (r .result .table) in
     let calls = callsOf (a .letters .now) (a .numbers .now) in
     let read : seen (j .result) (j .last .1 .1 .1 .0) ≡ jobReadOut f es (a .word .now) (a .payload .now) =
     ap₂ {C = JobRead} (λ (n : ℕ) (y : List ℕ). record { answer = n; payload = y }) (j .ensures .0) (j .ensures .1) in (
-      list-goes-on f (a .letters .now) (a .numbers .now) (a .answers .now) (a .word .now) (a .payload .now) (replayed (r .result) answers) (r .ensures .0) (seen (j .result) (j .last .1 .1 .1 .0)) served read,
-      subst (ClaimA f calls (a .word .now) (a .payload .now) answers) (sym read) (follows-claim f [] calls answers es (a .word .now) (a .payload .now) (r .ensures .1 served)),
+      list-goes-on f (entries (a .table)) (a .letters .now) (a .numbers .now) (a .answers .now) (a .word .now) (a .payload .now)
+          (replayed (r .result) answers) (r .ensures .0) (seen (j .result) (j .last .1 .1 .1 .0)) served read,
+      λ before agrees. subst (ClaimA f before calls (a .word .now) (a .payload .now) answers) (sym read)
+          (follows-claim f before calls answers es (a .word .now) (a .payload .now) (r .ensures .1 before agrees served)),
     )
 
 pub replay-and-read-spec : {M : Type 1} → statement M

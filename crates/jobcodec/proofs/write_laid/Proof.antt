@@ -61,7 +61,9 @@ module _ (c : tie.Else1) (room : ℕ) (fits : c .before .before .before .before 
       let y = a .payload .now in
       let p = passed c in
       ap (λ (k : ℕ). encodeOut f (heldAs (a .at)) (messageOf (f .q) k y) (a .word .now)) lent-is
-      ∙ sym (write-encodes f (entries (a .table)) (heldAs (a .at)) y (a .word .now) (p .ready) (p .count) (record { count = p .long; bytes = at-below byteValues y (λ x _. omega (arith, c .before .before .before .before .shared-slice-known .given x)) }) (p .lent) (p .placed) (p .is-open))
+      ∙ sym (write-encodes f (entries (a .table)) (heldAs (a .at)) y (a .word .now) (p .ready) (p .count)
+      (record { count = p .long; bytes = at-below byteValues y (λ x _. omega (arith, c .before .before .before .before .shared-slice-known .given x)) })
+      (p .lent) (p .placed) (p .job) (p .is-open))
 
 longest : (s : tie.Start) → s .args .layout .«message_len» ≤ maxWord
 longest s = message-short (given (s .args .figures)) (s .args .layout) (entries (s .args .table)) (s .pre)

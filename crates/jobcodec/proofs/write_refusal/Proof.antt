@@ -12,11 +12,11 @@ use Rattle.construction_a.proofs.Figures.{ranged}
 use Rattle.params.specs.Bridge.{given}
 use Rattle.placements.specs.Bridge.{heldAs}
 use Rattle.jobs.specs.declared.Entry.{Entry}
-use Rattle.jobs.specs.Jobs.{needsOpen}
+use Rattle.jobs.specs.Jobs.{isJob, needsOpen}
 use Rattle.jobs.specs.Slots.{entries}
 use Rattle.jobs.specs.Table.{standing, lookup}
 use Rattle.jobcodec.specs.Given.{Ready}
-use Rattle.jobcodec.proofs.Calls.{laid-bounds, bytes-are, ready, write-few, write-count, write-bytes, write-length, write-starts, write-status}
+use Rattle.jobcodec.proofs.Calls.{laid-bounds, bytes-are, ready, write-few, write-count, write-bytes, write-length, write-starts, write-zero, write-status}
 use Rattle.jobcodec.proofs.write_refusal.Statement.{statement}
 use Rattle.jobcodec.proofs.write_refusal.Tie as tie
 
@@ -85,16 +85,32 @@ returns-5 c =
 job-number-requires : tie.Need-job-number-requires
 job-number-requires c κs = search needs
 
-needs-open-requires : tie.Need-needs-open-requires
-needs-open-requires c κs = search needs
+is-job-requires : tie.Need-is-job-requires
+is-job-requires c κs = search needs
 
 returns-6 : tie.Need-returns-6
 returns-6 c =
-    let s = c .before .before .before .before .before .before .before .before .before .before .before .before .before .before in
-    let five = c .before .before .before .before .before .before .before .before .before .before in
-    c .needs-open .ensures ∙ ap (λ (n : ℕ). needsOpen (standing (lookup (es s) n))) (c .before .job-number .ensures)
-    ∙ sym (write-status (f s) (es s) (at s) (y s) (w s) (goes-on five) (c .before .before .before .before .before .before .before .if2 .left) (c .before .before .before .before .before .before .if3 .left ∙ as-many five) (c .before .before .before .before .if4 .left ∙ s .pre .layout .n-is)
-    (sym (c .before .before .before .apart .ensures) ∙ not-false _ (c .before .before .if5 .left)))
+    let five = c .before .before .before .before .before .before .before .before .before .before .before in
+    let s = five .before .before .before .before in
+    sym (ap answer (write-zero (f s) (es s) (at s) (y s) (w s) (goes-on five) (c .before .before .before .before .before .before .before .before .if2 .left)
+    (c .before .before .before .before .before .before .before .if3 .left ∙ as-many five)
+    (c .before .before .before .before .before .if4 .left ∙ s .pre .layout .n-is)
+    (sym (c .before .before .before .before .apart .ensures) ∙ not-false _ (c .before .before .before .if5 .left))
+    (ap isJob (sym (c .before .before .job-number .ensures)) ∙ sym (c .before .is-job .ensures) ∙ not-true _ (c .if6 .taken))))
+
+needs-open-requires : tie.Need-needs-open-requires
+needs-open-requires c κs = search needs
+
+returns-7 : tie.Need-returns-7
+returns-7 c =
+    let five = c .before .before .before .before .before .before .before .before .before .before .before .before in
+    let s = five .before .before .before .before in
+    c .needs-open .ensures ∙ ap (λ (n : ℕ). needsOpen (standing (lookup (es s) n))) (c .before .before .before .job-number .ensures)
+    ∙ sym (write-status (f s) (es s) (at s) (y s) (w s) (goes-on five) (c .before .before .before .before .before .before .before .before .before .if2 .left)
+    (c .before .before .before .before .before .before .before .before .if3 .left ∙ as-many five)
+    (c .before .before .before .before .before .before .if4 .left ∙ s .pre .layout .n-is)
+    (sym (c .before .before .before .before .before .apart .ensures) ∙ not-false _ (c .before .before .before .before .if5 .left))
+    (ap isJob (sym (c .before .before .before .job-number .ensures)) ∙ sym (c .before .before .is-job .ensures) ∙ not-false _ (c .before .if6 .left)))
 
 pub write-refusal-spec : {M : Type 1} → statement M
 write-refusal-spec =
@@ -108,5 +124,7 @@ write-refusal-spec =
     apart-requires
     returns-5
     job-number-requires
+    is-job-requires
+    returns-6
     needs-open-requires
-    returns-6)
+    returns-7)

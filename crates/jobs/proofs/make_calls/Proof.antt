@@ -10,18 +10,15 @@ use Rattle.jobs.proofs.make_calls.Statement.{statement}
 use Rattle.jobs.proofs.make_calls.Tie as tie
 
 abbrev Inv-loop : tie.InvT-loop
-Inv-loop letters numbers answers₀ table₀ i₀ answers table i = Replaying letters numbers answers (entries table) i
+Inv-loop letters numbers answers₀ table₀ i₀ answers table i = Replaying (entries table₀) letters numbers answers (entries table) i
 
 abbrev μ-loop : tie.MeasureT-loop
 μ-loop letters numbers answers₀ table₀ i₀ answers table i = length letters - i
 
-empty-requires : tie.Need-empty-requires Inv-loop μ-loop
-empty-requires c κs = search needs
-
 loop-holds : tie.Need-loop-holds Inv-loop μ-loop
 loop-holds c =
-    let s = c .before .before .before .before in
-    none-made (s .args .letters .now) (s .args .numbers .now) (s .args .answers .now) (entries (c .empty .result)) (s .pre) (c .empty .ensures .0)
+    let s = c .before .before .before in
+    none-made (s .args .letters .now) (s .args .numbers .now) (s .args .answers .now) (entries (s .args .start)) (s .pre)
 
 shared-slice-read-call : tie.Need-shared-slice-read-call Inv-loop μ-loop
 shared-slice-read-call c = search needs
@@ -47,8 +44,9 @@ loop-less c = search needs
 loop-again : tie.Need-loop-again Inv-loop μ-loop
 loop-again c =
     let l = c .before .before .before .before .before in
-    let s = l .before .before .before .before .before in
-    call-made (s .args .letters .now) (s .args .numbers .now) (l .loop .answers) (entries (l .loop .table)) (l .loop .i) (l .loop .inv) (omega arith) (s .pre .numbers-fit)
+    let s = l .before .before .before .before in
+    call-made (entries (s .args .start)) (s .args .letters .now) (s .args .numbers .now) (l .loop .answers) (entries (l .loop .table)) (l .loop .i)
+    (l .loop .inv) (omega arith) (s .pre .numbers-fit)
     (c .before .call .result) (c .before .call .ensures)
 
 same-length : tie.Need-same-length Inv-loop μ-loop
@@ -57,8 +55,9 @@ same-length c = search needs
 returns : tie.Need-returns Inv-loop μ-loop
 returns c =
     let l = c .before in
-    let s = l .before .before .before .before .before in
-    calls-made (s .args .letters .now) (s .args .numbers .now) (l .loop .answers) (entries (l .loop .table)) (l .loop .i) (l .loop .inv) (omega arith) (l .loop .table) refl
+    let s = l .before .before .before .before in
+    calls-made (entries (s .args .start)) (s .args .letters .now) (s .args .numbers .now) (l .loop .answers) (entries (l .loop .table)) (l .loop .i)
+    (l .loop .inv) (omega arith) (l .loop .table) refl
 
 pub make-calls-spec : {M : Type 1} → statement M
 make-calls-spec =
@@ -66,7 +65,6 @@ make-calls-spec =
     (tie.spec
     Inv-loop
     μ-loop
-    empty-requires
     loop-holds
     shared-slice-read-call
     mul-call

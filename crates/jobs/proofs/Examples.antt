@@ -1,0 +1,51 @@
+-- Calls on number 0 that tell each answer from its neighbours, of the table and of the ledger: rows that hold by computation. Cites no law. Assumes nothing.
+use mathlib.Core.Path.{_≡_, refl}
+use mathlib.Core.Bool.{true}
+use mathlib.Core.List.{List, [], _∷_}
+use Prim.Native.Nat.{ℕ}
+use lib.ListN.{set}
+use Rattle.combinatorics.specs.Examples.{Example, example, comesTrue}
+use Rattle.combinatorics.specs.Lists.{all, any, sameList}
+use Rattle.combinatorics.specs.Stretch.{tabulate}
+use Rattle.jobs.specs.declared.Entry.{Entry}
+use Rattle.jobs.specs.declared.Entry.the-variants.{Open, Cancelled}
+use Rattle.jobs.specs.Jobs.{slotCount, Kind, opening, cancelling, finishing, on}
+use Rattle.jobs.specs.Table.{firstEntry, replaceFirst, put, twice, decide, emptyTable, callAs}
+use Rattle.jobs.specs.Ledger.{historyOf, status, held, verdict, enter, verdictsFrom}
+
+-- "a book that holds 0 alone"
+abbrev alone : Entry → List Entry
+alone e = set emptyTable 63 e
+
+-- 1 to 64 open
+abbrev full : List Entry
+full = tabulate slotCount 1 Open
+
+abbrev answer : Kind → List Entry → List ℕ
+answer k es = callAs k es 0 .answer ∷ []
+
+unfoldable pub calls : List Example
+calls =
+    -- "the opening .. of 0": unknown, also before 15; before 13; before 12
+    example (answer opening emptyTable) (17 ∷ [])
+    ∷ example (answer opening full) (17 ∷ [])
+    ∷ example (answer opening (alone (Open 0))) (17 ∷ [])
+    ∷ example (answer opening (alone (Cancelled 0))) (17 ∷ [])
+    -- "the cancelling of a 0 that the book doesn't hold", also before 15
+    ∷ example (answer cancelling emptyTable) (17 ∷ [])
+    ∷ example (answer cancelling full) (17 ∷ [])
+    -- "A 0 already open may still be .. finished or cancelled; a cancelled 0 stays in the book."
+    ∷ example (answer cancelling (alone (Open 0))) (0 ∷ [])
+    ∷ example (answer finishing (alone (Open 0))) (0 ∷ [])
+    ∷ example (answer cancelling (alone (Cancelled 0))) (12 ∷ [])
+    ∷ example (answer finishing (alone (Cancelled 0))) (12 ∷ [])
+    ∷ example (answer finishing emptyTable) (14 ∷ [])
+    -- "demand 3's ledger knows 17": from nothing, and from an opening that was accepted before
+    ∷ example (verdictsFrom [] (on opening 0 ∷ on cancelling 0 ∷ on finishing 0 ∷ [])) (17 ∷ 17 ∷ 14 ∷ [])
+    ∷ example (verdictsFrom (on opening 0 ∷ []) (on opening 0 ∷ on cancelling 0 ∷ on opening 0 ∷ on cancelling 0 ∷ on finishing 0 ∷ []))
+    (17 ∷ 0 ∷ 17 ∷ 12 ∷ 12 ∷ [])
+    ∷ []
+
+pub calls-hold : all comesTrue calls ≡ true
+unfolding all any sameList comesTrue tabulate firstEntry replaceFirst put twice decide historyOf status held verdict enter verdictsFrom calls
+calls-hold = refl
