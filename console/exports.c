@@ -184,28 +184,41 @@ static void calls(void)
     CALL("2 opened", 'O', 2, BURGZEMI_CANCELLED);
     CALL("2 finished", 'F', 2, BURGZEMI_CANCELLED);
     CALL("small o", 'o', 2, BURGZEMI_RECORD);
+    CALL("65 reinstated, which is open", 'I', 65, BURGZEMI_NOT_CANCELLED);
+    CALL("66 reinstated, which is unknown", 'I', 66, BURGZEMI_NOT_CANCELLED);
+    set_slot(expected, 1, 1, 2);
+    CALL("2 reinstated: open", 'I', 2, BURGZEMI_SERVED);
+    CALL("2 reinstated again", 'I', 2, BURGZEMI_NOT_CANCELLED);
+    CALL("2 opened, which is open again", 'O', 2, BURGZEMI_ALREADY_OPEN);
 
     memset(table, 0, sizeof table);
     memset(expected, 0, sizeof expected);
-    set_slot(expected, 0, 2, 9);
+    set_slot(expected, 0, 3, 9);
     CALL("unknown 9 cancelled", 'C', 9, BURGZEMI_SERVED);
     CALL("9 opened", 'O', 9, BURGZEMI_CANCELLED);
+    set_slot(expected, 0, 0, 0);
+    CALL("9 reinstated: unknown, and its slot free", 'I', 9, BURGZEMI_SERVED);
+    CALL("9 finished, which is unknown again", 'F', 9, BURGZEMI_NOT_OPEN);
+    set_slot(expected, 0, 3, 9);
+    CALL("9 cancelled again", 'C', 9, BURGZEMI_SERVED);
     set_slot(expected, 1, 1, 0xFEDCBA98);
     CALL("a number of four bytes", 'O', 0xFEDCBA98, BURGZEMI_SERVED);
 
     set_slot(table, 63, 1, 9);
     set_slot(expected, 63, 1, 9);
     CALL("9 in two slots", 'O', 10, BURGZEMI_INVALID);
-    set_slot(table, 63, 3, 10);
-    set_slot(expected, 63, 3, 10);
-    CALL("a state of 3", 'O', 10, BURGZEMI_INVALID);
-    CALL("a state of 3 and no letter", 'X', 10, BURGZEMI_RECORD);
+    CALL("9 in two slots", 'I', 10, BURGZEMI_INVALID);
+    set_slot(table, 63, 4, 10);
+    set_slot(expected, 63, 4, 10);
+    CALL("a state of 4", 'O', 10, BURGZEMI_INVALID);
+    CALL("a state of 4", 'I', 10, BURGZEMI_INVALID);
+    CALL("a state of 4 and no letter", 'X', 10, BURGZEMI_RECORD);
 #undef CALL
     see("a byte short", burgzemi_call(table, sizeof table - 1, 'X', 10), BURGZEMI_LENGTH, table, expected, sizeof table);
     see("no table", burgzemi_call(table, 0, 'O', 10), BURGZEMI_LENGTH, table, expected, sizeof table);
 }
 
-/* Number 0 alone, in the first slot, one between and the last: open, cancelled, finished; and what is read and written of it. */
+/* Number 0 alone, in the first slot, two between and the last: open, cancelled, finished, reinstated; and what is read and written of it. */
 static void number_zero(void)
 {
     static const uint8_t payload0[11] = {0, 0, 0, 0, 0x41}, starts[2] = {0, 6};
@@ -224,6 +237,7 @@ static void number_zero(void)
         CALL("an unknown 0 opened", 'O', BURGZEMI_NUMBER_ZERO);
         CALL("an unknown 0 cancelled", 'C', BURGZEMI_NUMBER_ZERO);
         CALL("an unknown 0 finished", 'F', BURGZEMI_NOT_OPEN);
+        CALL("an unknown 0 reinstated", 'I', BURGZEMI_NOT_CANCELLED);
         set_slot(table, at, 2, 0);
         set_slot(expected, at, 2, 0);
         WRITE("a cancelled 0 written", BURGZEMI_NUMBER_ZERO);
@@ -233,13 +247,16 @@ static void number_zero(void)
         CALL("a cancelled 0 finished", 'F', BURGZEMI_CANCELLED);
         set_slot(table, at, 1, 0);
         CALL("an open 0 cancelled", 'C', BURGZEMI_SERVED);
-        set_slot(table, at, 1, 0);
         set_slot(expected, at, 1, 0);
+        CALL("a 0 reinstated that was open", 'I', BURGZEMI_SERVED);
+        CALL("an open 0 reinstated", 'I', BURGZEMI_NOT_CANCELLED);
         WRITE("an open 0 written", BURGZEMI_NUMBER_ZERO);
         READ("an open 0 read", BURGZEMI_SERVED, payload0);
         CALL("an open 0 opened", 'O', BURGZEMI_NUMBER_ZERO);
         memcpy(expected, none, sizeof none);
         CALL("an open 0 finished", 'F', BURGZEMI_SERVED);
+        set_slot(table, at, 3, 0);
+        CALL("a 0 reinstated that was absent", 'I', BURGZEMI_SERVED);
 #undef CALL
 #undef WRITE
 #undef READ
@@ -298,12 +315,12 @@ static void transfer_example(void)
     memset(word, 1, sizeof word);
     read7("no pattern", BURGZEMI_PATTERN, 256, 2, empty, len, word, 15, 11);
 
-    /* A state of 3 is 1, but not in a table of another length. */
+    /* A state of 4 is 1, but not in a table of another length. */
     uint8_t unknown[BURGZEMI_TABLE_LEN];
     memcpy(unknown, table, len);
-    unknown[315] = 3;
-    write7("a state of 3, written", BURGZEMI_INVALID, 256, 9, unknown, len, 14, 1, 4, 14);
-    read7("a state of 3, read", BURGZEMI_INVALID, 256, 9, unknown, len, word, 14, 10);
+    unknown[315] = 4;
+    write7("a state of 4, written", BURGZEMI_INVALID, 256, 9, unknown, len, 14, 1, 4, 14);
+    read7("a state of 4, read", BURGZEMI_INVALID, 256, 9, unknown, len, word, 14, 10);
     memcpy(unknown, table, len);
     set_slot(unknown, 40, 2, 7);
     write7("7 in two slots, written", BURGZEMI_INVALID, 256, 9, unknown, len, 14, 1, 4, 14);
@@ -317,6 +334,13 @@ static void transfer_example(void)
     read7("job 7 cancelled, read", BURGZEMI_CANCELLED, 256, 2, table, len, found7, 15, 11);
     if (burgzemi_call(table, len, 'O', 7) != BURGZEMI_CANCELLED)
         wrong = 1;
+    if (burgzemi_call(table, len, 'I', 7) != BURGZEMI_SERVED)
+        wrong = 1;
+    write7("job 7 reinstated, written", BURGZEMI_SERVED, 256, 2, table, len, 6, 2, 11, 15);
+    read7("job 7 reinstated, read", BURGZEMI_SERVED, 256, 2, table, len, found7, 15, 11);
+    set_slot(table, 0, 3, 7);
+    write7("job 7 cancelled and never open, written", BURGZEMI_CANCELLED, 256, 2, table, len, 6, 2, 11, 15);
+    read7("job 7 cancelled and never open, read", BURGZEMI_CANCELLED, 256, 2, table, len, found7, 15, 11);
 }
 
 int main(void)

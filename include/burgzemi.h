@@ -26,13 +26,14 @@ enum burgzemi_answer {
     BURGZEMI_VALUE = 8,        /* the value at the heads of the index blocks is no rank */
     BURGZEMI_DISAGREES = 9,    /* the placement of that rank has other index blocks, or a fixed block that doesn't start with 0 */
     BURGZEMI_PAYLOAD = 10,     /* no room for a job, a byte's symbols that spell 256 or more, or a leftover symbol other than 0 */
-    BURGZEMI_RECORD = 11,      /* a record unreadable or one too many, or a call's letter that is none of O, C, F */
+    BURGZEMI_RECORD = 11,      /* a record unreadable or one too many, or a call's letter that is none of O, C, F, I */
     /* from the state of the job table */
     BURGZEMI_CANCELLED = 12,   /* the job number is cancelled */
     BURGZEMI_ALREADY_OPEN = 13,
     BURGZEMI_NOT_OPEN = 14,
     BURGZEMI_FULL = 15,        /* 64 numbers are held and a new one is needed */
-    BURGZEMI_NUMBER_ZERO = 17  /* job number 0 is no job: opened, written, or cancelled where the table doesn't hold it */
+    BURGZEMI_NUMBER_ZERO = 17, /* job number 0 is no job: opened, written, or cancelled where the table doesn't hold it */
+    BURGZEMI_NOT_CANCELLED = 20 /* the job number that is reinstated is not cancelled */
 };
 
 /*
@@ -46,7 +47,11 @@ enum burgzemi_answer {
 /* What burgzemi_message_len and burgzemi_payload_len answer for figures that are refused. */
 #define BURGZEMI_NO_LENGTH UINT32_MAX
 
-/* The bytes of a job table: 64 slots of 5, a state (0 free, 1 open, 2 cancelled) and the job number, high byte first. All 0 is the empty table. */
+/*
+ * The bytes of a job table: 64 slots of 5, a state and the job number, high byte first. The states: 0 free, 1 open, 2 cancelled and before that open,
+ * 3 cancelled and before that not in the table. All 0 is the empty table. A table kept from before there was a 3 has 2 for every cancelled number: each of
+ * them counts as one that was open.
+ */
 #define BURGZEMI_TABLE_SLOTS 64
 #define BURGZEMI_TABLE_LEN 320
 
@@ -105,13 +110,14 @@ uint8_t burgzemi_cover(uint32_t n, uint32_t q, uint32_t m, uint32_t b,
                        uint8_t *starts, size_t starts_len);
 
 /*
- * Makes a call on the job table, which then holds what it has afterwards: letter 'O' opens the number, 'C' cancels it, 'F' finishes it. An accepted
- * call leaves 0 in the number bytes of every free slot. Number 0 is no job. A table from before that rule may hold it, open or cancelled: it can then be
- * finished or cancelled as any other.
+ * Makes a call on the job table, which then holds what it has afterwards: letter 'O' opens the number, 'C' cancels it, 'F' finishes it, 'I' reinstates
+ * it: a cancelled number is again what it was before its cancellation, open, or not in the table and its slot free. An accepted call leaves 0 in the
+ * number bytes of every free slot. Number 0 is no job. A table from before that rule may hold it, open or cancelled: it can then be finished, cancelled
+ * or reinstated as any other.
  *
- * Refusals: 3 where table_len is not BURGZEMI_TABLE_LEN; 11 for another letter; 1 for a state above 2 or one number in two slots that aren't free; then
+ * Refusals: 3 where table_len is not BURGZEMI_TABLE_LEN; 11 for another letter; 1 for a state above 3 or one number in two slots that aren't free; then
  * 17 12 13 15 for opening, where 17 is for every opening of 0; 17 12 15 for cancelling, where 17 is for a 0 that the table doesn't hold; 12 14 for
- * finishing.
+ * finishing; 20 for reinstating a number that is not cancelled.
  */
 uint8_t burgzemi_call(uint8_t *table, size_t table_len, uint8_t letter, uint32_t number);
 

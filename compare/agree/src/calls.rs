@@ -1,10 +1,14 @@
 //! Calls on tables: long lists of calls on one table, and tables made at will. Number 0 is in some, in any slot.
 
-use crate::judge::Judge;
+use crate::judge::{hex, Judge, Op};
 use crate::rng::Rng;
 
 pub const TABLE: usize = 320;
 const SLOT: usize = 5;
+/// The largest state of a slot.
+const STATES: u64 = 3;
+/// The letters of the calls.
+const LETTERS: &[u8] = b"OCFI";
 
 /// A number from a pool that makes repeated numbers likely.
 pub fn number(rng: &mut Rng, pool: u64) -> u32 {
@@ -22,7 +26,7 @@ pub fn table(rng: &mut Rng) -> Vec<u8> {
     let shift = rng.index(64);
     for (i, slot) in table.chunks_exact_mut(SLOT).enumerate() {
         if rng.below(64) < taken {
-            slot[0] = rng.between(1, 2) as u8;
+            slot[0] = rng.between(1, STATES) as u8;
             slot[1..].copy_from_slice(&((i + shift) as u32 % 64 * step).to_be_bytes());
         } else if rng.once_in(4) {
             slot[1..].copy_from_slice(&number(rng, 64).to_be_bytes());
@@ -31,12 +35,12 @@ pub fn table(rng: &mut Rng) -> Vec<u8> {
     table
 }
 
-/// A table with something wrong with it: a number twice, a state above 2, or another length.
+/// A table with something wrong with it: a number twice, an unknown state, or another length.
 pub fn bad_table(rng: &mut Rng) -> Vec<u8> {
     let mut table = table(rng);
     let (i, j) = (rng.index(64) * SLOT, rng.index(64) * SLOT);
     match rng.below(5) {
-        0 => table[i] = rng.between(3, 255) as u8,
+        0 => table[i] = rng.between(STATES + 1, 255) as u8,
         1 => table.resize(TABLE - rng.pick(&[1, 5, 320]), 0),
         2 => table.resize(TABLE + rng.pick(&[1, 5]), 0),
         _ => {
@@ -44,49 +48,75 @@ pub fn bad_table(rng: &mut Rng) -> Vec<u8> {
             table[i + 1..i + SLOT].copy_from_slice(&number);
             table[j + 1..j + SLOT].copy_from_slice(&number);
             // A free place's bytes are no number, and i may be j.
-            table[i] = rng.between(0, 2) as u8;
-            table[j] = rng.between(0, 2) as u8;
+            table[i] = rng.between(0, STATES) as u8;
+            table[j] = rng.between(0, STATES) as u8;
         }
     }
     table
 }
 
 fn letter(rng: &mut Rng) -> u8 {
-    rng.pick(b"OOOOCCFFF")
+    rng.pick(b"OOOOCCFFFII")
 }
 
 /// The tables that demand 3's list starts from: the empty one, or 0 alone in any slot, open or cancelled.
 pub fn start(rng: &mut Rng) -> Vec<u8> {
     let mut table = vec![0; TABLE];
-    table[rng.index(64) * SLOT] = rng.below(3) as u8;
+    table[rng.index(64) * SLOT] = rng.between(0, STATES) as u8;
     table
 }
 
-/// A list of calls on one table, from each kind of start.
+/// A list of calls on one table, from each kind of start, and from a table made at will.
 pub fn list(judge: &mut Judge, rng: &mut Rng) {
-    let mut table = start(rng);
+    let mut table = if rng.once_in(4) {
+        table(rng)
+    } else {
+        start(rng)
+    };
     let pool = rng.pick(&[3, 40, 80, 1000]);
     for _ in 0..rng.pick(&[10, 100, 300]) {
         let number = number(rng, pool);
-        table = judge.call(&table, letter(rng), number).out;
+        let letter = letter(rng);
+        let after = judge.call(&table, letter, number);
+        if letter == b'C' && after.number == 0 {
+            there_and_back(judge, &table, &after.out, number);
+        }
+        table = after.out;
     }
 }
 
-/// One call on a table made at will. An odd letter meets a sound table only: whether 11 or a table's own refusal comes
-/// first is said nowhere.
+/// Reinstating what was just cancelled gives the table before, but for the bytes left behind in free slots.
+fn there_and_back(judge: &mut Judge, before: &[u8], cancelled: &[u8], number: u32) {
+    let back = judge.call(cancelled, b'I', number);
+    let right = back.number == 0 && back.out == tidy(before);
+    let inputs = || format!("table {} number {number}", hex(before));
+    judge.expect(Op::Reinstate, right, &inputs, "not the table before");
+}
+
+/// A table with 0 in the number bytes of every free slot.
+fn tidy(table: &[u8]) -> Vec<u8> {
+    let mut table = table.to_vec();
+    for slot in table.chunks_exact_mut(SLOT).filter(|slot| slot[0] == 0) {
+        slot.fill(0);
+    }
+    table
+}
+
+/// One call on a table made at will, with each kind of letter, and on one with something wrong with it.
 pub fn single(judge: &mut Judge, rng: &mut Rng) {
     let good = table(rng);
     let number = number(rng, 70);
     judge.call(&good, letter(rng), number);
-    judge.call(&good, odd_letter(rng), number);
     let bad = bad_table(rng);
     judge.call(&bad, letter(rng), number);
+    let either = if rng.once_in(2) { good } else { bad };
+    judge.call(&either, odd_letter(rng), number);
 }
 
 fn odd_letter(rng: &mut Rng) -> u8 {
     loop {
         let letter = rng.byte();
-        if !b"OCF".contains(&letter) {
+        if !LETTERS.contains(&letter) {
             return letter;
         }
     }

@@ -1,17 +1,13 @@
 //! The judge: makes each call on both sides, compares answers and every byte of the buffers, and counts.
 
-use second::blocks::Layout;
-use second::figures::MAX_RUNS;
 use second::Figures;
 
+use crate::lent::Lent;
 use crate::sides::{Numbers, Side, PROVED, SECOND};
+use crate::tally::Tally;
 
 /// How many differences are printed in full.
 const PRINTED: u64 = 10;
-/// Bytes before and behind each lent buffer, which no call may touch; odd, so that no buffer is aligned.
-const GUARD: usize = 13;
-/// The largest refusal.
-const LARGEST: u8 = 17;
 
 #[derive(Clone, Copy, PartialEq, Eq, Debug)]
 pub enum Op {
@@ -22,13 +18,14 @@ pub enum Op {
     Open,
     Cancel,
     Finish,
+    Reinstate,
     OtherLetter,
     JobWrite,
     JobRead,
 }
 
 /// Each kind of call, its name, and the answers that it can give, each of which a gate run must see.
-const OPS: [(Op, &str, &[u8]); 10] = [
+pub const OPS: [(Op, &str, &[u8]); 11] = [
     (Op::Figures, "figures", &[0, 1, 2]),
     (Op::Encode, "word write", &[0, 1, 2, 3, 4, 5]),
     (Op::Decode, "word read", &[0, 1, 2, 3, 4, 7, 8, 9]),
@@ -36,7 +33,8 @@ const OPS: [(Op, &str, &[u8]); 10] = [
     (Op::Open, "open", &[0, 1, 3, 12, 13, 15, 17]),
     (Op::Cancel, "cancel", &[0, 1, 3, 12, 15, 17]),
     (Op::Finish, "finish", &[0, 1, 3, 12, 14]),
-    (Op::OtherLetter, "other letter", &[11]),
+    (Op::Reinstate, "reinstate", &[0, 1, 3, 20]),
+    (Op::OtherLetter, "other letter", &[3, 11]),
     (Op::JobWrite, "job write", &[0, 1, 2, 3, 5, 10, 12, 14, 17]),
     (
         Op::JobRead,
@@ -44,40 +42,6 @@ const OPS: [(Op, &str, &[u8]); 10] = [
         &[0, 1, 2, 3, 4, 7, 8, 9, 10, 12, 14],
     ),
 ];
-
-/// A lent buffer between two guards, filled with bytes that no call would leave there by chance.
-#[derive(Clone, PartialEq, Eq)]
-struct Lent(Vec<u8>);
-
-impl Lent {
-    fn new(len: usize) -> Lent {
-        Lent(
-            (0..len + 2 * GUARD)
-                .map(|i| (i * 37 + 0xA5) as u8)
-                .collect(),
-        )
-    }
-
-    fn holding(bytes: &[u8]) -> Lent {
-        let mut lent = Lent::new(bytes.len());
-        lent.bytes().copy_from_slice(bytes);
-        lent
-    }
-
-    fn bytes(&mut self) -> &mut [u8] {
-        let end = self.0.len() - GUARD;
-        &mut self.0[GUARD..end]
-    }
-
-    fn guards(&self) -> (&[u8], &[u8]) {
-        (&self.0[..GUARD], &self.0[self.0.len() - GUARD..])
-    }
-
-    fn into_bytes(mut self) -> Vec<u8> {
-        self.0.truncate(self.0.len() - GUARD);
-        self.0.split_off(GUARD)
-    }
-}
 
 /// A call of one side on its own two buffers.
 type Call<'a> = dyn Fn(&Side, &mut [u8], &mut [u8]) -> u8 + 'a;
@@ -91,10 +55,7 @@ pub struct Answer {
 
 #[derive(Default)]
 pub struct Judge {
-    /// Answers by kind of call; the last place is for numbers that are no refusal.
-    seen: [[u64; LARGEST as usize + 2]; OPS.len()],
-    /// Accepted words, by m and by how many parts have no block that looks F.
-    accepted: [[u64; 3]; MAX_RUNS + 1],
+    pub tally: Tally,
     pub differences: u64,
 }
 
@@ -136,7 +97,7 @@ impl Judge {
     }
 
     fn count(&mut self, op: Op, number: u8, inputs: &dyn Fn() -> String) {
-        self.seen[op as usize][number.min(LARGEST + 1) as usize] += 1;
+        self.tally.count(op, number);
         if !OPS[op as usize].2.contains(&number) {
             self.report(
                 op,
@@ -202,7 +163,7 @@ impl Judge {
             (side.decode)(f, word, out, also)
         });
         if answer.number == 0 {
-            self.accepted[f.2 as usize][parts_without_fixed(f, word)] += 1;
+            self.tally.count_accepted(f, word);
         }
         answer
     }
@@ -224,6 +185,7 @@ impl Judge {
             b'O' => Op::Open,
             b'C' => Op::Cancel,
             b'F' => Op::Finish,
+            b'I' => Op::Reinstate,
             _ => Op::OtherLetter,
         };
         let inputs = || format!("table {} letter {letter} number {number}", hex(table));
@@ -266,71 +228,11 @@ impl Judge {
             &|side, out, _| (side.job_read)(f, table, word, out),
         )
     }
-
-    /// How many words were written or read, or refused for more than their figures and lengths.
-    pub fn words(&self) -> u64 {
-        let words = [Op::Encode, Op::Decode, Op::JobWrite, Op::JobRead];
-        let judged = |&op: &Op| {
-            let seen = &self.seen[op as usize];
-            seen[0] + seen[4..].iter().sum::<u64>()
-        };
-        words.iter().map(judged).sum()
-    }
-
-    /// Prints a line for each kind of call, and tells whether every answer that it can give was seen.
-    pub fn summary(&self) -> bool {
-        let mut complete = true;
-        for (op, name, possible) in OPS {
-            let seen = &self.seen[op as usize];
-            let shown = |&number: &u8| format!("{number}: {}", seen[number as usize]);
-            let total: u64 = seen.iter().sum();
-            println!(
-                "{name:>12} {total:>9}   {}",
-                list(possible.iter().map(shown))
-            );
-            for &number in possible
-                .iter()
-                .filter(|&&number| seen[number as usize] == 0)
-            {
-                println!("never seen: {name} answering {number}");
-                complete = false;
-            }
-        }
-        complete & self.accepted_summary()
-    }
-
-    /// Prints how often each kind of pattern was accepted, and tells whether all were.
-    fn accepted_summary(&self) -> bool {
-        let mut complete = true;
-        for (m, kinds) in self.accepted.iter().enumerate().skip(1) {
-            let [none, one, two] = kinds;
-            println!("accepted with m {m}, by parts without an F-block: none {none}, one {one}, two {two}");
-            complete &= *one > 0 && *two > 0 && (*none > 0 || m <= 2);
-        }
-        if !complete {
-            println!("never seen: some kind of pattern, accepted");
-        }
-        complete
-    }
-}
-
-/// How many parts of an accepted word have no block that starts with 0.
-fn parts_without_fixed((n, q, m, b): Numbers, word: &[u8]) -> usize {
-    let Ok(f) = Figures::new(n, q, m, b) else {
-        return 0;
-    };
-    let layout = Layout::new(&f);
-    let looks_fixed = |block: usize| word[layout.begin[block] as usize] == 0;
-    let without = |&part: &usize| !(part * f.m..(part + 1) * f.m).any(looks_fixed);
-    (0..f.p).filter(without).count()
-}
-
-fn list(items: impl Iterator<Item = String>) -> String {
-    items.collect::<Vec<_>>().join("  ")
 }
 
 fn all(lists: &[&[u8]]) -> String {
-    list(lists.iter().map(|bytes| hex(bytes)))
+    let lists: Vec<String> = lists.iter().map(|bytes| hex(bytes)).collect();
+    lists.join("  ")
 }
 
 /// Bytes as printed in a difference.

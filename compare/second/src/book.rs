@@ -1,23 +1,30 @@
-//! The book of 64 places, each free or holding a job number that is open or cancelled. Number 0 is no job: it can't be opened or written, and it is
-//! in a book only where it was opened or cancelled before that rule.
+//! The book of 64 places, each free or holding a job number that is open or cancelled. A cancelled one remembers what it was, for its reinstatement.
+//! Number 0 is no job: it can't be opened or written, and it is in a book only where it was opened or cancelled before that rule.
 
 pub const PLACES: usize = 64;
 
 /// The number of test trays.
 const NO_JOB: u32 = 0;
 
+/// What a number was before its cancellation.
+#[derive(Clone, Copy, Debug, PartialEq, Eq)]
+pub enum Former {
+    Absent,
+    Open,
+}
+
 #[derive(Clone, Copy, Debug, PartialEq, Eq)]
 pub enum Place {
     Free,
     Open(u32),
-    Cancelled(u32),
+    Cancelled(u32, Former),
 }
 
 impl Place {
     fn number(self) -> Option<u32> {
         match self {
             Place::Free => None,
-            Place::Open(number) | Place::Cancelled(number) => Some(number),
+            Place::Open(number) | Place::Cancelled(number, _) => Some(number),
         }
     }
 }
@@ -56,10 +63,17 @@ impl Book {
         &self.places
     }
 
-    fn find(&self, number: u32) -> Option<usize> {
+    fn find(&self, number: u32) -> Option<Place> {
         self.places
             .iter()
-            .position(|place| place.number() == Some(number))
+            .copied()
+            .find(|place| place.number() == Some(number))
+    }
+
+    fn find_mut(&mut self, number: u32) -> Option<&mut Place> {
+        self.places
+            .iter_mut()
+            .find(|place| place.number() == Some(number))
     }
 
     /// Puts a new number into the first free place.
@@ -75,11 +89,9 @@ impl Book {
 
     /// Refusals 17 12 13 15.
     pub fn open(&mut self, number: u32) -> u8 {
-        if number == NO_JOB {
-            return 17;
-        }
-        match self.find(number).map(|at| self.places[at]) {
-            Some(Place::Cancelled(_)) => 12,
+        match self.find(number) {
+            _ if number == NO_JOB => 17,
+            Some(Place::Cancelled(..)) => 12,
             Some(_) => 13,
             None => self.add(Place::Open(number)),
         }
@@ -87,27 +99,42 @@ impl Book {
 
     /// Refusals 17, for a 0 that isn't here, 12 15.
     pub fn cancel(&mut self, number: u32) -> u8 {
-        match self.find(number) {
+        match self.find_mut(number) {
             None if number == NO_JOB => 17,
-            Some(at) if self.places[at] == Place::Cancelled(number) => 12,
-            Some(at) => {
-                self.places[at] = Place::Cancelled(number);
+            Some(Place::Cancelled(..)) => 12,
+            Some(place) => {
+                *place = Place::Cancelled(number, Former::Open);
                 0
             }
-            None => self.add(Place::Cancelled(number)),
+            None => self.add(Place::Cancelled(number, Former::Absent)),
         }
     }
 
     /// Refusals 12 14, for 0 too.
     pub fn finish(&mut self, number: u32) -> u8 {
-        match self.find(number) {
-            Some(at) if self.places[at] == Place::Cancelled(number) => 12,
-            Some(at) => {
-                self.places[at] = Place::Free;
+        match self.find_mut(number) {
+            Some(Place::Cancelled(..)) => 12,
+            Some(place) => {
+                *place = Place::Free;
                 0
             }
             None => 14,
         }
+    }
+
+    /// Makes a cancelled number what it was before. Refusal 20, for 0 too.
+    pub fn reinstate(&mut self, number: u32) -> u8 {
+        let Some(place) = self.find_mut(number) else {
+            return 20;
+        };
+        let Place::Cancelled(_, former) = *place else {
+            return 20;
+        };
+        *place = match former {
+            Former::Absent => Place::Free,
+            Former::Open => Place::Open(number),
+        };
+        0
     }
 
     /// What writing a job asks: 17 for 0, then what reading asks.
@@ -120,10 +147,10 @@ impl Book {
 
     /// What reading a job asks: 12 where it is cancelled, 14 where it isn't open.
     pub fn require_open(&self, number: u32) -> Result<(), u8> {
-        match self.find(number).map(|at| self.places[at]) {
+        match self.find(number) {
             Some(Place::Open(_)) => Ok(()),
-            Some(_) => Err(12),
-            None => Err(14),
+            Some(Place::Cancelled(..)) => Err(12),
+            _ => Err(14),
         }
     }
 }

@@ -1,7 +1,8 @@
 //! The same calls on plain numbers and bytes, as a C program makes them: starts are 2 bytes each, high byte first, and a
-//! book is a table of 64 slots of 5 bytes, the state (0 free, 1 open, 2 cancelled) and the number, high byte first.
+//! book is a table of 64 slots of 5 bytes, the state and the number, high byte first. States: 0 free, 1 open, 2 cancelled and
+//! was open, 3 cancelled and was absent.
 
-use crate::book::{Book, Place, PLACES};
+use crate::book::{Book, Former, Place, PLACES};
 use crate::figures::{Figures, MAX_RUNS};
 use crate::{codec, cover as planner, job};
 
@@ -32,9 +33,9 @@ fn put_starts(starts: &[u16], bytes: &mut [u8]) {
 }
 
 /// The book of a table: none where its length is wrong, refusal 1 where a state is unknown or a number stands twice.
-fn book_of(table: &[u8]) -> Result<Option<Book>, u8> {
+fn book_of(table: &[u8]) -> Option<Result<Book, u8>> {
     if table.len() != TABLE {
-        return Ok(None);
+        return None;
     }
     let mut places = [Place::Free; PLACES];
     for (place, slot) in places.iter_mut().zip(table.chunks_exact(SLOT)) {
@@ -42,11 +43,12 @@ fn book_of(table: &[u8]) -> Result<Option<Book>, u8> {
         *place = match slot[0] {
             0 => Place::Free,
             1 => Place::Open(number),
-            2 => Place::Cancelled(number),
-            _ => return Err(1),
+            2 => Place::Cancelled(number, Former::Open),
+            3 => Place::Cancelled(number, Former::Absent),
+            _ => return Some(Err(1)),
         };
     }
-    Book::from_places(places).map(Some)
+    Some(Book::from_places(places))
 }
 
 fn put_book(book: &Book, table: &mut [u8]) {
@@ -54,7 +56,8 @@ fn put_book(book: &Book, table: &mut [u8]) {
         let (state, number) = match *place {
             Place::Free => (0, 0),
             Place::Open(number) => (1, number),
-            Place::Cancelled(number) => (2, number),
+            Place::Cancelled(number, Former::Open) => (2, number),
+            Place::Cancelled(number, Former::Absent) => (3, number),
         };
         slot[0] = state;
         slot[1..].copy_from_slice(&number.to_be_bytes());
@@ -113,17 +116,20 @@ pub fn cover(numbers: Numbers, map: &[u8], starts: &mut [u8]) -> u8 {
     }
 }
 
-/// Opens (O), cancels (C) or finishes (F) a number; another letter is 11.
+/// Opens (O), cancels (C), finishes (F) or reinstates (I) a number. Refusals 3, 11 for another letter, 1, then the call's own.
 pub fn call(table: &mut [u8], letter: u8, number: u32) -> u8 {
+    let Some(judged) = book_of(table) else {
+        return 3;
+    };
     let act = match letter {
         b'O' => Book::open,
         b'C' => Book::cancel,
         b'F' => Book::finish,
+        b'I' => Book::reinstate,
         _ => return 11,
     };
-    let mut book = match book_of(table) {
-        Ok(Some(book)) => book,
-        Ok(None) => return 3,
+    let mut book = match judged {
+        Ok(book) => book,
         Err(refusal) => return refusal,
     };
     let answer = act(&mut book, number);
@@ -136,7 +142,7 @@ pub fn call(table: &mut [u8], letter: u8, number: u32) -> u8 {
 /// What both job calls begin with: refusal 1 for the table, then 1 and 2 for the figures. A table of another length
 /// comes back as none, for it is judged with the other lengths.
 fn job_inputs(numbers: Numbers, table: &[u8]) -> Result<(Figures, Option<Book>), u8> {
-    let book = book_of(table)?;
+    let book = book_of(table).transpose()?;
     Ok((figures(numbers)?, book))
 }
 

@@ -1,6 +1,6 @@
 //! Document 02's change request 3: number 0 is no job.
 
-use second::book::{Place, PLACES};
+use second::book::{Former, Place, PLACES};
 use second::codec::encode;
 use second::job::{read_job, write_job};
 use second::{Book, Figures};
@@ -45,7 +45,7 @@ fn a_zero_in_any_place() {
         assert_eq!(finished.finish(0), 0);
         assert_eq!(finished, Book::default());
         assert_eq!(book.cancel(0), 0);
-        assert_eq!(book, alone(at, Place::Cancelled(0)));
+        assert_eq!(book, alone(at, Place::Cancelled(0, Former::Open)));
         assert_eq!(refused(&book, Book::open), 17);
         assert_eq!(refused(&book, Book::cancel), 12);
         assert_eq!(refused(&book, Book::finish), 12);
@@ -55,7 +55,11 @@ fn a_zero_in_any_place() {
 /// It takes one of the 64 places like any other.
 #[test]
 fn a_zero_is_counted() {
-    for zero in [Place::Open(0), Place::Cancelled(0)] {
+    for zero in [
+        Place::Open(0),
+        Place::Cancelled(0, Former::Open),
+        Place::Cancelled(0, Former::Absent),
+    ] {
         let mut book = alone(40, zero);
         assert!((1..=63).all(|number| book.open(number) == 0));
         assert_eq!(book.open(64), 15);
@@ -81,7 +85,7 @@ fn zero_is_never_written() {
     for book in [
         Book::default(),
         alone(5, Place::Open(0)),
-        alone(63, Place::Cancelled(0)),
+        alone(63, Place::Cancelled(0, Former::Open)),
     ] {
         assert_eq!(answer(&book, &[6], &payload), 17);
         // From the input goes before from the state.
@@ -98,7 +102,7 @@ fn an_open_zero_is_read() {
     let mut payload = [0xEE; 11];
     for (book, answer) in [
         (Book::default(), 14),
-        (alone(63, Place::Cancelled(0)), 12),
+        (alone(63, Place::Cancelled(0, Former::Open)), 12),
         (alone(63, Place::Open(0)), 0),
     ] {
         assert_eq!(payload, [0xEE; 11]);

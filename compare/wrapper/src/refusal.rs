@@ -2,11 +2,11 @@
 
 use std::fmt;
 
-/// The number of a refusal: 1 to 15, or 17.
+/// The number of a refusal: 1 to 15, 17 or 20.
 #[derive(Clone, Copy, PartialEq, Eq, Hash, Debug)]
 pub struct Refusal(u8);
 
-const TEXTS: [(u8, &str); 16] = [
+const TEXTS: [(u8, &str); 17] = [
     (
         1,
         "a figure is out of range, or a job table has an unknown state or one number twice",
@@ -29,6 +29,7 @@ const TEXTS: [(u8, &str); 16] = [
     (14, "the job number is not open"),
     (15, "64 job numbers are held and a new one is needed"),
     (17, "job number 0 is no job"),
+    (20, "the job number is not cancelled"),
 ];
 
 impl Refusal {
@@ -48,6 +49,7 @@ impl Refusal {
     pub const NOT_OPEN: Refusal = Refusal(14);
     pub const FULL: Refusal = Refusal(15);
     pub const NUMBER_ZERO: Refusal = Refusal(17);
+    pub const NOT_CANCELLED: Refusal = Refusal(20);
 
     /// The outcome that a C call's answer stands for.
     pub(crate) fn of(answer: u8) -> Result<(), Refusal> {

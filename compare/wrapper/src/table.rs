@@ -3,7 +3,7 @@
 use crate::raw;
 use crate::refusal::Refusal;
 
-/// 64 places of 5 bytes: a state (0 free, 1 open, 2 cancelled) and a number, high byte first.
+/// 64 places of 5 bytes: a state (0 free, 1 open, 2 cancelled and was open, 3 cancelled and was absent) and a number, high byte first.
 #[derive(Clone, PartialEq, Eq, Debug)]
 pub struct Table {
     bytes: [u8; Table::LEN],
@@ -40,6 +40,11 @@ impl Table {
 
     pub fn finish(&mut self, number: u32) -> Result<(), Refusal> {
         Refusal::of(raw::call(&mut self.bytes, b'F', number))
+    }
+
+    /// Takes a cancellation back: the number is open again, or absent where it was. A cancelled 0 too.
+    pub fn reinstate(&mut self, number: u32) -> Result<(), Refusal> {
+        Refusal::of(raw::call(&mut self.bytes, b'I', number))
     }
 }
 

@@ -24,9 +24,9 @@ use Rattle.construction_a.proofs.Ranking.{covers-least}
 use Rattle.jobs.proofs.Simulates.{simulation}
 use Rattle.jobs.specs.declared.Entry.{Entry}
 use Rattle.jobs.specs.declared.Entry.the-variants.{Free, Open, Cancelled}
-use Rattle.jobs.specs.Jobs.{Kind, opening, cancelling, finishing, isJob, Status, unknown, opened, cancelled}
-use Rattle.jobs.specs.Replay.{kindOf, known, callBy, isLetter, lengthsFit, ReplayOut, replayOut}
-use Rattle.jobs.specs.Table.{isFree, lookup, TableOut, put, twice, decide, openJob, openAt, cancelAt, finishAt, openOut, cancelOut, finishOut, callAs}
+use Rattle.jobs.specs.Jobs.{Kind, opening, cancelling, finishing, reinstating, isJob, Status, unknown, opened, cancelled}
+use Rattle.jobs.specs.Replay.{kindOf, listKind, known, callBy, isLetter, isListLetter, lengthsFit, ReplayOut, replayOut}
+use Rattle.jobs.specs.Table.{isFree, lookup, TableOut, put, twice, decide, openJob, openAt, cancelAt, finishAt, reinstateAt, openOut, cancelOut, finishOut, reinstateOut, callAs}
 use Rattle.payloads.specs.Payload.{carriesJob, payloadIn, spellsPayload, jobNumber}
 use Rattle.decoder.specs.Exported.{Exported, answered, exportedOut}
 use Rattle.jobcodec.specs.DemandThree.{isRefusal}
@@ -61,7 +61,7 @@ module _ {O : Type 0} (P : O → Type 0) where
 
   -- "12 14"
   where-open : (refuse : ℕ → O) (s : Status) {rest : O} → P (refuse jobCancelled) → P (refuse notOpen) → P rest → P (whereOpen s refuse rest)
-  where-open refuse cancelled p q r = p
+  where-open refuse (cancelled s) p q r = p
   where-open refuse unknown p q r = q
   where-open refuse opened p q r = r
 
@@ -136,7 +136,7 @@ module _ (es : List Entry) where
 
   open-entry : (e : Entry) (n : ℕ) → Calls (call opening) (openJob e n es)
   unfolding put isRefusal all any
-  open-entry (Cancelled x) n = keep refl refl
+  open-entry (Cancelled x was) n = keep refl refl
   open-entry (Open x) n = keep refl refl
   open-entry Free n = tested (Calls (call opening)) (any isFree es) (keep refl refl) (done refl)
 
@@ -146,16 +146,22 @@ module _ (es : List Entry) where
 
   cancel-at : (e : Entry) (n : ℕ) → Calls (call cancelling) (cancelAt e n es)
   unfolding put isRefusal all any
-  cancel-at (Cancelled x) n = keep refl refl
+  cancel-at (Cancelled x was) n = keep refl refl
   cancel-at (Open x) n = done refl
   cancel-at Free n =
       tested (Calls (call cancelling)) (isJob n) (keep refl refl) (tested (Calls (call cancelling)) (any isFree es) (keep refl refl) (done refl))
 
   finish-at : (e : Entry) (n : ℕ) → Calls (call finishing) (finishAt e n es)
   unfolding isRefusal all any
-  finish-at (Cancelled x) n = keep refl refl
+  finish-at (Cancelled x was) n = keep refl refl
   finish-at (Open x) n = done refl
   finish-at Free n = keep refl refl
+
+  reinstate-at : (e : Entry) (n : ℕ) → Calls (call reinstating) (reinstateAt e n es)
+  unfolding isRefusal all any
+  reinstate-at (Cancelled x was) n = done refl
+  reinstate-at (Open x) n = keep refl refl
+  reinstate-at Free n = keep refl refl
 
   open-job : (n : ℕ) → Calls (call opening) (openOut es n)
   unfolding decide isRefusal all any
@@ -169,10 +175,15 @@ module _ (es : List Entry) where
   unfolding decide isRefusal all any
   finish-job n = tested (Calls (call finishing)) (not (twice es)) (keep refl refl) (finish-at (lookup es n) n)
 
+  reinstate-job : (n : ℕ) → Calls (call reinstating) (reinstateOut es n)
+  unfolding decide isRefusal all any
+  reinstate-job n = tested (Calls (call reinstating)) (not (twice es)) (keep refl refl) (reinstate-at (lookup es n) n)
+
   call-as : (k : Kind) (n : ℕ) → Calls (call k) (callAs k es n)
   call-as opening n = open-job n
   call-as cancelling n = cancel-job n
   call-as finishing n = finish-job n
+  call-as reinstating n = reinstate-job n
 
   call-by : (k : Option Kind) (n : ℕ) → Calls (callByLetter k) (callBy k es n)
   unfolding isRefusal all any
@@ -187,7 +198,7 @@ unfolding replayOut isRefusal all any
 replay es letters numbers answers =
     let P = Replays es answers in
     tested P (lengthsFit letters numbers answers) (keep refl refl)
-    (tested P (all isLetter letters) (keep refl refl)
+    (tested P (all isListLetter letters) (keep refl refl)
     (done refl))
 
 -- ---- Jobs
@@ -323,6 +334,7 @@ module _ (table : List ℕ) where
       first opening = refl
       first cancelling = refl
       first finishing = refl
+      first reinstating = refl
 
   by-letter : (k : Option Kind) (number : ℕ)
       → CallsIn k (must (known k) (called badRecord table) (must (statesKnown table) (called invalid table) (calledAs table (callBy k (tableIn table) number))))
@@ -330,16 +342,17 @@ module _ (table : List ℕ) where
   by-letter none number = keep refl refl
   by-letter (some k) number = one-call k number
 
-  call-bytes : (letter number : ℕ) → CallsIn (kindOf letter) (callBytesOut table letter number)
+  call-bytes : (letter number : ℕ) → CallsIn (listKind letter) (callBytesOut table letter number)
   unfolding callBytesOut isRefusal all any
   call-bytes letter number =
-      tested (CallsIn (kindOf letter)) (eqb (length table) tableLen) (other-length (kindOf letter)) (by-letter (kindOf letter) number)
+      tested (CallsIn (listKind letter)) (eqb (length table) tableLen) (other-length (listKind letter)) (by-letter (listKind letter) number)
     where
       other-length : (k : Option Kind) → CallsIn k (called wrongLength table)
       other-length none = keep refl refl
       other-length (some opening) = keep refl refl
       other-length (some cancelling) = keep refl refl
       other-length (some finishing) = keep refl refl
+      other-length (some reinstating) = keep refl refl
 
 -- ---- The transfer program
 
@@ -431,6 +444,7 @@ demand-one =
       open-job = open-job;
       cancel-job = cancel-job;
       finish-job = finish-job;
+      reinstate-job = reinstate-job;
       call-by = λ k es n. call-by es k n;
       replay = replay;
       job-write = job-write;

@@ -15,10 +15,10 @@ use Rattle.construction_a.specs.Ranking.{CoversLeast}
 use Rattle.construction_a.specs.Outcomes.{Held, held, figuresNumber, figuresOut, encodeOut, worn, coverOut, answerNumber, decodeOut}
 use Rattle.construction_a.specs.DemandTwo.{DemandTwo}
 use Rattle.jobs.specs.declared.Entry.{Entry}
-use Rattle.jobs.specs.Jobs.{Kind, opening, cancelling, finishing}
-use Rattle.jobs.specs.Replay.{kindOf, callBy, replayOut}
+use Rattle.jobs.specs.Jobs.{Kind, opening, cancelling, finishing, reinstating}
+use Rattle.jobs.specs.Replay.{listKind, callBy, replayOut}
 use Rattle.jobs.specs.Simulation.{Simulation}
-use Rattle.jobs.specs.Table.{openOut, cancelOut, finishOut}
+use Rattle.jobs.specs.Table.{openOut, cancelOut, finishOut, reinstateOut}
 use Rattle.decoder.specs.Exported.{exportedOut}
 use Rattle.jobcodec.specs.DemandThree.{isRefusal}
 use Rattle.jobcodec.specs.JobWrite.{jobWriteOut}
@@ -68,6 +68,7 @@ pub record DemandOne : Type 0 where
   pub open-job : (es : List Entry) (n : ℕ) → AnswersBy (call opening) (openOut es n .answer) es (openOut es n .table)
   pub cancel-job : (es : List Entry) (n : ℕ) → AnswersBy (call cancelling) (cancelOut es n .answer) es (cancelOut es n .table)
   pub finish-job : (es : List Entry) (n : ℕ) → AnswersBy (call finishing) (finishOut es n .answer) es (finishOut es n .table)
+  pub reinstate-job : (es : List Entry) (n : ℕ) → AnswersBy (call reinstating) (reinstateOut es n .answer) es (reinstateOut es n .table)
   pub call-by : (k : Option Kind) (es : List Entry) (n : ℕ) → AnswersBy (callByLetter k) (callBy k es n .answer) es (callBy k es n .table)
   pub replay : (es : List Entry) (letters numbers answers : List ℕ)
       → AnswersBy {A = List Entry × List ℕ} listOfCalls (replayOut es letters numbers answers .answer) (es, answers)
@@ -86,7 +87,7 @@ pub record DemandOne : Type 0 where
       → AnswersBy wordWrite (encodeBytesOut f starts ms out .answer) out (encodeBytesOut f starts ms out .word)
   pub cover-bytes : (f : Params) (map starts : List ℕ) → AnswersBy covering (coverBytesOut f map starts .answer) starts (coverBytesOut f map starts .starts)
   pub call-bytes : (table : List ℕ) (letter number : ℕ)
-      → AnswersBy (callOnBytes (kindOf letter)) (callBytesOut table letter number .answer) table (callBytesOut table letter number .table)
+      → AnswersBy (callOnBytes (listKind letter)) (callBytesOut table letter number .answer) table (callBytesOut table letter number .table)
   pub job-write-bytes : (f : Params) (table starts payload out : List ℕ)
       → AnswersBy jobWrite (jobWriteBytesOut f table starts payload out .answer) out (jobWriteBytesOut f table starts payload out .word)
   pub job-read-bytes : (f : Params) (table w out : List ℕ)

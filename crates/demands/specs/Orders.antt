@@ -1,10 +1,10 @@
 -- "Orders: ..": the numbers that each call can refuse with, in document 01's order; document 02, ticket 3: 17, "itself a state refusal and ahead of the
--- others". Where lent bytes add a refusal, it stands at its place. Assumes nothing.
+-- others"; ticket 7: 20, "after 1". Where lent bytes add a refusal, it stands at its place. Assumes nothing.
 use mathlib.Core.List.{List, [], _∷_}
 use mathlib.Core.Option.{Option, none, some}
 use Prim.Native.Nat.{ℕ}
-use Rattle.refusals.specs.Refusals.{invalid, unfit, wrongLength, badSymbol, badStarts, uncovered, noPattern, valueTooLarge, disagrees, badPayload, badRecord, jobCancelled, alreadyOpen, notOpen, tableFull, numberZero}
-use Rattle.jobs.specs.Jobs.{Kind, opening, cancelling, finishing}
+use Rattle.refusals.specs.Refusals.{invalid, unfit, wrongLength, badSymbol, badStarts, uncovered, noPattern, valueTooLarge, disagrees, badPayload, badRecord, jobCancelled, alreadyOpen, notOpen, tableFull, numberZero, notCancelled}
+use Rattle.jobs.specs.Jobs.{Kind, opening, cancelling, finishing, reinstating}
 
 -- "figures alone 1 2"
 abbrev pub figuresAlone : List ℕ
@@ -30,13 +30,14 @@ jobWrite = invalid ∷ unfit ∷ badPayload ∷ wrongLength ∷ badStarts ∷ nu
 abbrev pub jobRead : List ℕ
 jobRead = invalid ∷ unfit ∷ badPayload ∷ wrongLength ∷ badSymbol ∷ noPattern ∷ valueTooLarge ∷ disagrees ∷ badPayload ∷ jobCancelled ∷ notOpen ∷ []
 
--- "open 1 12 13 15; cancel 1 12 15; finish 1 12 14", with 17 before 12 in the first two
+-- "open 1 12 13 15; cancel 1 12 15; finish 1 12 14", with 17 before 12 in the first two; reinstate 1 20
 abbrev pub call : Kind → List ℕ
 call opening = invalid ∷ numberZero ∷ jobCancelled ∷ alreadyOpen ∷ tableFull ∷ []
 call cancelling = invalid ∷ numberZero ∷ jobCancelled ∷ tableFull ∷ []
 call finishing = invalid ∷ jobCancelled ∷ notOpen ∷ []
+call reinstating = invalid ∷ notCancelled ∷ []
 
--- a call by its letter: 11 for a letter that is none of the three
+-- a call by its letter: 11 for a letter that is no call's
 abbrev pub callByLetter : Option Kind → List ℕ
 callByLetter none = badRecord ∷ []
 callByLetter (some k) = call k

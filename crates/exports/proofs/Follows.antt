@@ -13,9 +13,11 @@ use Rattle.combinatorics.proofs.Lists.{both}
 use Rattle.cells.specs.Bytes.{byteValues}
 use Rattle.jobs.specs.declared.Entry.{Entry}
 use Rattle.jobs.specs.declared.Entry.the-variants.{Free, Open, Cancelled}
-use Rattle.jobs.specs.Jobs.{Kind, opening, cancelling, finishing, Call, isJob}
-use Rattle.jobs.specs.Replay.{kindOf, callBy}
-use Rattle.jobs.specs.Table.{isFree, holds, lookup, emptyTable, TableOut, refuse, accept, replaceFirst, put, add, twice, decide, openJob, openAt, cancelAt, finishAt, callAs, callOut, answersFrom, tableFrom}
+use Rattle.jobs.specs.declared.Before.{Before}
+use Rattle.jobs.specs.declared.Before.the-variants.{WasAbsent, WasOpen}
+use Rattle.jobs.specs.Jobs.{Kind, opening, cancelling, finishing, reinstating, Call, isJob}
+use Rattle.jobs.specs.Replay.{kindOf, listKind, callBy, isListLetter}
+use Rattle.jobs.specs.Table.{isFree, holds, lookup, emptyTable, TableOut, refuse, accept, replaceFirst, put, add, twice, decide, openJob, openAt, cancelAt, finishAt, restored, reinstateAt, callAs, callOut, answersFrom, tableFrom}
 use Rattle.jobs.specs.Simulation.{Start, empty, zero-open, zero-cancelled, zero-opened-cancelled}
 use Rattle.jobs.proofs.Simulates.{simulation-from-start}
 use Rattle.exports.specs.Table.{hasRoom, IsTable, TableOf}
@@ -59,7 +61,7 @@ module _ (es : List Entry) (g : IsTable es) where
 
   module _ (n : ℕ) (h : ltb n (byteValues ^ 4) ≡ true) where
     open-job-sound : (e : Entry) → Sound es (openJob e n es)
-    open-job-sound (Cancelled x) = refused _
+    open-job-sound (Cancelled x was) = refused _
     open-job-sound (Open x) = refused _
     open-job-sound Free = stored isFree (Open n) h
 
@@ -71,14 +73,23 @@ module _ (es : List Entry) (g : IsTable es) where
     open-sound e = job-sound (openJob e n es) (open-job-sound e)
 
     cancel-sound : (e : Entry) → Sound es (cancelAt e n es)
-    cancel-sound (Cancelled x) = refused _
-    cancel-sound (Open x) = accepted (holds n) (Cancelled n) h
-    cancel-sound Free = job-sound (add (Cancelled n) es) (stored isFree (Cancelled n) h)
+    cancel-sound (Cancelled x was) = refused _
+    cancel-sound (Open x) = accepted (holds n) (Cancelled n WasOpen) h
+    cancel-sound Free = job-sound (add (Cancelled n WasAbsent) es) (stored isFree (Cancelled n WasAbsent) h)
 
     finish-sound : (e : Entry) → Sound es (finishAt e n es)
-    finish-sound (Cancelled x) = refused _
+    finish-sound (Cancelled x was) = refused _
     finish-sound (Open x) = accepted (holds n) Free refl
     finish-sound Free = refused _
+
+    restored-room : (was : Before) → hasRoom (restored was n) ≡ true
+    restored-room WasAbsent = refl
+    restored-room WasOpen = h
+
+    reinstate-sound : (e : Entry) → Sound es (reinstateAt e n es)
+    reinstate-sound (Cancelled x was) = accepted (holds n) (restored was n) (restored-room was)
+    reinstate-sound (Open x) = refused _
+    reinstate-sound Free = refused _
 
     decided : (byEntry : Entry → ℕ → List Entry → TableOut) → Sound es (byEntry (lookup es n) n es) → Sound es (decide byEntry es n)
     unfolding decide
@@ -88,26 +99,29 @@ module _ (es : List Entry) (g : IsTable es) where
     call-sound opening = decided openAt (open-sound (lookup es n))
     call-sound cancelling = decided cancelAt (cancel-sound (lookup es n))
     call-sound finishing = decided finishAt (finish-sound (lookup es n))
+    call-sound reinstating = decided reinstateAt (reinstate-sound (lookup es n))
 
 -- ---- So a call on the bytes is one on the table
 
-letter-call : (k : Kind) (es : List Entry) (n : ℕ) → callBy (kindOf (letterOf k)) es n ≡ callAs k es n
-unfolding kindOf
+letter-call : (k : Kind) (es : List Entry) (n : ℕ) → callBy (listKind (letterOf k)) es n ≡ callAs k es n
+unfolding kindOf listKind
 letter-call opening es n = refl
 letter-call cancelling es n = refl
 letter-call finishing es n = refl
+letter-call reinstating es n = refl
 
-letter-known : (k : Kind) → Rattle.jobs.specs.Replay.isLetter (letterOf k) ≡ true
-unfolding kindOf
+letter-known : (k : Kind) → isListLetter (letterOf k) ≡ true
+unfolding kindOf listKind
 letter-known opening = refl
 letter-known cancelling = refl
 letter-known finishing = refl
+letter-known reinstating = refl
 
 one-call : (bytes : List ℕ) (es : List Entry) → TableOf bytes es → (c : Call) → callOn bytes c ≡ calledAs bytes (callOut es c)
 one-call bytes es b c =
     let k = letterOf (c .kind) in
     as-called bytes k (c .number) (b .size) (letter-known (c .kind)) (b .known) (callOut es c)
-    (sym (letter-call (c .kind) es (c .number)) ∙ ap (λ (x : List Entry). callBy (kindOf k) x (c .number)) (sym (b .same)))
+    (sym (letter-call (c .kind) es (c .number)) ∙ ap (λ (x : List Entry). callBy (listKind k) x (c .number)) (sym (b .same)))
 
 -- the answer is the call's, and the bytes hold the table that it hands back: those written, or after a refusal those that were there
 record Left (o : CallLent) (out : TableOut) : Type 0 where
@@ -152,8 +166,8 @@ alone-table i x h = record { many = length-set emptyTable i x; numbers = room-se
 pub start-table : (es : List Entry) (before : List Call) → Start es before → IsTable es
 start-table es before empty = empty-table
 start-table es before (zero-open i l) = alone-table i (Open 0) refl
-start-table es before (zero-cancelled i l) = alone-table i (Cancelled 0) refl
-start-table es before (zero-opened-cancelled i l) = alone-table i (Cancelled 0) refl
+start-table es before (zero-cancelled i l) = alone-table i (Cancelled 0 WasAbsent) refl
+start-table es before (zero-opened-cancelled i l) = alone-table i (Cancelled 0 WasOpen) refl
 
 pub empty-bytes-hold : EmptyBytes
 empty-bytes-hold = subst (λ (bytes : List ℕ). TableOf bytes emptyTable) empty-bytes (table-back emptyTable empty-table)

@@ -14,7 +14,7 @@ use Rattle.construction_a.specs.Figures.{Params, maxBursts, inRange, fits, mess
 use Rattle.construction_a.specs.Outcomes.{unserved, figuresOut, unwritten}
 use Rattle.construction_a.proofs.Figures.{ranged}
 use Rattle.construction_a.proofs.Outcomes.{refused-alike}
-use Rattle.jobs.specs.Replay.{kindOf, callBy, isLetter}
+use Rattle.jobs.specs.Replay.{listKind, callBy, isListLetter}
 use Rattle.jobs.specs.Table.{TableOut, twice}
 use Rattle.payloads.specs.Payload.{carriesJob}
 use Rattle.jobcodec.specs.JobWrite.{jobWriteOut}
@@ -33,16 +33,16 @@ module _ (bytes : List ℕ) (letter number : ℕ) where
   call-length size = rw (eqb-other (length bytes) tableLen size)
 
   module _ (size : length bytes ≡ tableLen) where
-    pub call-letter : isLetter letter ≡ false → callBytesOut bytes letter number ≡ called badRecord bytes
+    pub call-letter : isListLetter letter ≡ false → callBytesOut bytes letter number ≡ called badRecord bytes
     unfolding callBytesOut
     call-letter l = rw (eqb-same (length bytes) tableLen size, l)
 
-    module _ (l : isLetter letter ≡ true) where
+    module _ (l : isListLetter letter ≡ true) where
       pub call-state : statesKnown bytes ≡ false → callBytesOut bytes letter number ≡ called invalid bytes
       unfolding callBytesOut
       call-state s = rw (eqb-same (length bytes) tableLen size, l, s)
 
-      module _ (s : statesKnown bytes ≡ true) (out : TableOut) (e : out ≡ callBy (kindOf letter) (tableIn bytes) number) where
+      module _ (s : statesKnown bytes ≡ true) (out : TableOut) (e : out ≡ callBy (listKind letter) (tableIn bytes) number) where
         pub as-called : callBytesOut bytes letter number ≡ calledAs bytes out
         unfolding callBytesOut
         as-called = rw (eqb-same (length bytes) tableLen size, l, s, e)

@@ -28,19 +28,12 @@ use Rattle.jobs.specs.Table.{emptyTable}
 use Rattle.jobs.proofs.SlotLaws.{stored-entries}
 use Rattle.payloads.specs.Payload.{jobNumber}
 use Rattle.payloads.specs.Given.{Spellable}
-use Rattle.exports.specs.Table.{slotLen, tableLen, stateCount, entryOf, stateAt, entryAt, states, statesKnown, tableIn, slotBytes, entryBytes, tableBytes}
+use Rattle.exports.specs.Table.{slotLen, tableLen, stateCount, entryOf, stateAt, entryAt, states, statesKnown, tableIn, slotBytes, cancelledState, entryBytes, tableBytes}
 
 -- ---- One slot, read
 
-module _ (state number : ℕ) where
-  pub entry-open : state ≡ 1 → Open number ≡ entryOf state number
-  entry-open e = rw (eqb-same state 1 e)
-
-  pub entry-cancelled : state ≢ 1 → state ≡ 2 → Cancelled number ≡ entryOf state number
-  entry-cancelled h e = rw (eqb-other state 1 h, eqb-same state 2 e)
-
-  pub entry-free : state ≢ 1 → state ≢ 2 → Free ≡ entryOf state number
-  entry-free h k = rw (eqb-other state 1 h, eqb-other state 2 k)
+pub entry-free : (state number : ℕ) → state ≢ 1 → state ≢ 2 → state ≢ 3 → Free ≡ entryOf state number
+entry-free state number a b c = rw (eqb-other state 1 a, eqb-other state 2 b, eqb-other state 3 c)
 
 -- ---- States, as a loop looks at them
 
@@ -58,10 +51,10 @@ module _ (bytes : List ℕ) where
     in-states : i < slotCount → i < length (states bytes)
     in-states h = omega (arith, length-tabulate slotCount 0 (stateAt bytes))
 
-    pub state-unknown : i < slotCount → 2 < stateAt bytes i → allBelow stateCount (drop i (states bytes)) ≡ false
+    pub state-unknown : i < slotCount → 3 < stateAt bytes i → allBelow stateCount (drop i (states bytes)) ≡ false
     state-unknown h k = all-fails (λ x. ltb x stateCount) (states bytes) i (in-states h) (rw (state-is h) (leb-fails (suc (stateAt bytes i)) stateCount (omega arith)))
 
-    pub state-known : i < slotCount → stateAt bytes i ≤ 2 → allBelow stateCount (drop i (states bytes)) ≡ allBelow stateCount (drop (i + 1) (states bytes))
+    pub state-known : i < slotCount → stateAt bytes i ≤ 3 → allBelow stateCount (drop i (states bytes)) ≡ allBelow stateCount (drop (i + 1) (states bytes))
     state-known h k = all-later (λ x. ltb x stateCount) (states bytes) i (in-states h) (rw (state-is h) (leb-holds (suc (stateAt bytes i)) stateCount (omega arith)))
 
     pub states-over : slotCount ≤ i → allBelow stateCount (drop i (states bytes)) ≡ true
@@ -136,7 +129,7 @@ slot-long state number = refl
 pub entry-long : (e : Entry) → length (entryBytes e) ≡ slotLen
 entry-long Free = slot-long 0 0
 entry-long (Open x) = slot-long 1 x
-entry-long (Cancelled x) = slot-long 2 x
+entry-long (Cancelled x was) = slot-long (cancelledState was) x
 
 -- ---- The table, as a loop writes it
 

@@ -8,7 +8,7 @@ use lib.ListN.{length}
 use Rattle.refusals.specs.Refusals.{must, served, invalid, unfit, wrongLength, badPayload, badRecord}
 use Rattle.construction_a.specs.Figures.{Params, inRange, fits, messageLen}
 use Rattle.construction_a.specs.Outcomes.{held, Encoded, unwritten}
-use Rattle.jobs.specs.Replay.{kindOf, callBy, isLetter}
+use Rattle.jobs.specs.Replay.{listKind, callBy, isListLetter}
 use Rattle.jobs.specs.Table.{TableOut, twice}
 use Rattle.payloads.specs.Payload.{carriesJob}
 use Rattle.jobcodec.specs.JobWrite.{jobWriteOut}
@@ -17,7 +17,7 @@ use Rattle.exports.specs.Starts.{startsFrom}
 use Rattle.exports.specs.Table.{tableLen, statesKnown, tableIn, tableBytes}
 
 -- ---- A call: 3 for the table's length and 11 for the letter, before the table is looked at; then "open 1 12 13 15; cancel 1 12 15; finish 1 12 14", with
--- 17 before 12 in the first two, where 1 stands for an unknown state too
+-- 17 before 12 in the first two, and reinstate 1 20, where 1 stands for an unknown state too
 
 pub record CallLent : Type 0 where
   pub answer : ℕ
@@ -33,9 +33,9 @@ calledAs bytes out = must (eqb (out .answer) served) (called (out .answer) bytes
 unfoldable pub callBytesOut : List ℕ → ℕ → ℕ → CallLent
 callBytesOut bytes letter number =
     must (eqb (length bytes) tableLen) (called wrongLength bytes)
-    (must (isLetter letter) (called badRecord bytes)
+    (must (isListLetter letter) (called badRecord bytes)
     (must (statesKnown bytes) (called invalid bytes)
-    (calledAs bytes (callBy (kindOf letter) (tableIn bytes) number))))
+    (calledAs bytes (callBy (listKind letter) (tableIn bytes) number))))
 
 -- ---- Jobs
 

@@ -101,8 +101,8 @@ pub extern "C" fn burgzemi_cover(
     }
 }
 
-// A call on the job table: the letter O opens, C cancels, F finishes. Refusals: 3 for the table's length, 11 for another letter, 1 for a slot whose
-// state is none of the three; then the call's own: 1, then 17 12 13 15 for opening, 17 12 15 for cancelling, 12 14 for finishing.
+// A call on the job table: the letter O opens, C cancels, F finishes, I reinstates. Refusals: 3 for the table's length, 11 for another letter, 1 for a slot
+// with an unknown state; then the call's own: 1, then 17 12 13 15 for opening, 17 12 15 for cancelling, 12 14 for finishing, 20 for reinstating.
 #[no_mangle]
 pub extern "C" fn burgzemi_call(table: &mut [u8], letter: u8, number: u32) -> u8
     ensures { λ r. ⌜ called r (now (table .exit)) ≡ callBytesOut (now (table .entry)) letter number ⌝ }
@@ -110,14 +110,14 @@ pub extern "C" fn burgzemi_call(table: &mut [u8], letter: u8, number: u32) -> u8
     if table.len() != table::TABLE_LEN {
         return Refusal::LENGTH;
     }
-    if !jobs::is_letter(letter) {
+    if !jobs::is_list_letter(letter) {
         return Refusal::RECORD;
     }
     if !table::states_known(table) {
         return Refusal::INVALID;
     }
     let before = table::table_in(table);
-    let out = before.call(letter, number);
+    let out = before.list_call(letter, number);
     if out.answer != Refusal::NONE {
         return out.answer;
     }

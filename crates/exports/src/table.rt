@@ -4,7 +4,8 @@ ghost use lib.ListN.{length};
 ghost use Rattle.jobs.specs.Slots.{entries};
 ghost use Rattle.params.specs.Bridge.{given};
 ghost use Rattle.exports.specs.Jobs.{withoutTable};
-ghost use Rattle.exports.specs.Table.{slotLen, tableLen, entryOf, statesKnown, tableIn, slotBytes, entryBytes, tableBytes};
+ghost use Rattle.exports.specs.Table.{slotLen, tableLen, entryOf, cancelledState, statesKnown, tableIn, slotBytes, entryBytes, tableBytes};
+use jobs::Before;
 use jobs::Entry;
 use jobs::JobTable;
 use jobs::Slot;
@@ -19,12 +20,14 @@ const SLOT_LEN: usize = 5;
 
 pub const TABLE_LEN: usize = JobTable::SLOTS * SLOT_LEN;
 
-// The states of a slot.
+// The states of a slot. A cancelled one says what its number was before.
 const FREE: u8 = 0;
 
 const OPEN: u8 = 1;
 
-const CANCELLED: u8 = 2;
+const CANCELLED_OPEN: u8 = 2;
+
+const CANCELLED_ABSENT: u8 = 3;
 
 // What a job is refused with where the table has another length, so that no slot is looked at: 1 2 10, or else 3.
 pub fn without_table(figures: Params) -> u8
@@ -42,14 +45,14 @@ pub fn without_table(figures: Params) -> u8
     }
 }
 
-// Whether each slot has one of the three states.
+// Whether each slot has one of the states.
 pub fn states_known(bytes: &[u8]) -> bool
     requires { ⌜ length (now bytes) ≡ tableLen ⌝ }
     ensures { λ r. ⌜ r ≡ statesKnown (now (bytes .entry)) ⌝ }
 {
     let mut i: usize = 0;
     while i < JobTable::SLOTS {
-        if CANCELLED < bytes[i * SLOT_LEN] {
+        if CANCELLED_ABSENT < bytes[i * SLOT_LEN] {
             return false;
         }
         i += 1;
@@ -79,13 +82,12 @@ pub fn table_in(bytes: &[u8]) -> JobTable
 fn entry_of(state: u8, number: u32) -> Entry
     ensures { λ r. ⌜ r ≡ entryOf state number ⌝ }
 {
-    if state == OPEN {
-        return Entry::Open(number);
+    match state {
+        OPEN => Entry::Open(number),
+        CANCELLED_OPEN => Entry::Cancelled(number, Before::WasOpen),
+        CANCELLED_ABSENT => Entry::Cancelled(number, Before::WasAbsent),
+        _ => Entry::Free,
     }
-    if state == CANCELLED {
-        return Entry::Cancelled(number);
-    }
-    Entry::Free
 }
 
 // The table's bytes.
@@ -111,7 +113,16 @@ fn put_entry(entry: Entry, bytes: &mut [u8])
     match entry {
         Entry::Free => put_slot(FREE, 0, bytes),
         Entry::Open(number) => put_slot(OPEN, number, bytes),
-        Entry::Cancelled(number) => put_slot(CANCELLED, number, bytes),
+        Entry::Cancelled(number, before) => put_slot(cancelled_state(before), number, bytes),
+    }
+}
+
+fn cancelled_state(before: Before) -> u8
+    ensures { λ r. ⌜ r ≡ cancelledState before ⌝ }
+{
+    match before {
+        Before::WasOpen => CANCELLED_OPEN,
+        Before::WasAbsent => CANCELLED_ABSENT,
     }
 }
 

@@ -139,7 +139,7 @@ module _ (f : Params) (es : List Entry) (at : Held) (payload out : List ℕ) (r 
         by-status : (s : Status) → whereOpen s (unwritten out) done .answer ≡ needsOpen s
         by-status unknown = refl
         by-status opened = refl
-        by-status cancelled = refl
+        by-status (cancelled s) = refl
 
         module _ (p : apart (f .b) (f .n) 0 (inUse at) ≡ true) where
           pub write-zero : isJob (jobNumber payload) ≡ false → jobWriteOut f es at payload out ≡ unwritten out numberZero

@@ -19,13 +19,14 @@ use Rattle.construction_a.specs.DemandTwo.{constructionA, Listed, no-pattern, t
 use Rattle.construction_a.proofs.Figures.{ranged}
 use Rattle.construction_a.proofs.DemandTwo.{demand-two}
 use Rattle.jobs.specs.declared.Entry.{Entry}
-use Rattle.jobs.specs.Jobs.{Kind, opening, cancelling, finishing, Call}
+use Rattle.jobs.specs.Jobs.{Kind, opening, cancelling, finishing, reinstating, Call, needsOpen}
 use Rattle.jobs.specs.Table.{emptyTable, twice, answersFrom, tableFrom}
-use Rattle.jobs.specs.Ledger.{newest, statusAfter, status, ledgerFrom, acceptedBy}
+use Rattle.jobs.specs.Ledger.{historyOf, lastLeft, answerAfter, status, ledgerFrom, acceptedBy}
 use Rattle.jobs.specs.Simulation.{Agrees, Follows, empty}
 use Rattle.jobs.proofs.Simulates.{simulation-from-start, accepted-by}
+use Rattle.jobs.proofs.Striking.{left-decides}
 use Rattle.payloads.specs.Payload.{carriesJob, jobNumber, messageOf, payloadIn, spellsPayload}
-use Rattle.jobcodec.specs.JobWrite.{whereOpen}
+use Rattle.jobcodec.specs.JobWrite.{whereOpen, unless}
 use Rattle.jobcodec.specs.JobRead.{JobRead, handOut, withhold, jobIn, jobReading, jobReadOut}
 use Rattle.jobcodec.specs.DemandThree.{Gives, OnlyPair, BothFacts, isRefusal, isWordRefusal, isCallRefusal, HandsOut, Presented, Claim, DemandThree}
 use Rattle.jobcodec.proofs.Examples.{figures, wordWith, buffer, opened, computed}
@@ -76,31 +77,33 @@ module _ (c : Codec) (h : List Call) (w out : List ℕ) where
         none-accepted = λ starts y u _. absurd (no-pair starts y (u .gives));
       }
 
-  -- one pair does, and the table stands for the calls: the newest of them on its number decides
-  module _ (starts y : List ℕ) (only : OnlyPair c w starts y) (r : JobRead) (is : r ≡ whereOpen (status h (jobNumber y)) (withhold out) (handOut y)) where
-    by-newest : (o : Option Kind) → newest h (jobNumber y) ≡ o → r ≡ whereOpen (statusAfter o) (withhold out) (handOut y)
-    unfolding status
-    by-newest o e = is ∙ ap (λ (x : Option Kind). whereOpen (statusAfter x) (withhold out) (handOut y)) e
+  -- one pair does, and the table stands for the calls: the last of what is left of those on its number decides
+  module _ (starts y : List ℕ) (only : OnlyPair c w starts y) (r : JobRead)
+      (is : r ≡ unless (answerAfter (lastLeft h (jobNumber y))) (withhold out) (handOut y)) where
+    by-last : (o : Option Kind) → lastLeft h (jobNumber y) ≡ o → r ≡ unless (answerAfter o) (withhold out) (handOut y)
+    by-last o e = is ∙ ap (λ (x : Option Kind). unless (answerAfter x) (withhold out) (handOut y)) e
 
-    same-newest : (starts′ y′ : List ℕ) (o : Option Kind) → Gives c w starts′ y′ → newest h (jobNumber y′) ≡ o → newest h (jobNumber y) ≡ o
-    same-newest starts′ y′ o g e = sym (ap (λ (z : List ℕ). newest h (jobNumber z)) (only .no-other starts′ y′ g .1)) ∙ e
+    same-last : (starts′ y′ : List ℕ) (o : Option Kind) → Gives c w starts′ y′ → lastLeft h (jobNumber y′) ≡ o → lastLeft h (jobNumber y) ≡ o
+    same-last starts′ y′ o g e = sym (ap (λ (z : List ℕ). lastLeft h (jobNumber z)) (only .no-other starts′ y′ g .1)) ∙ e
 
     handed : (starts′ y′ : List ℕ) → BothFacts c h w starts′ y′ → r ≡ handOut y′
     handed starts′ y′ u =
-        by-newest (some opening) (same-newest starts′ y′ (some opening) (u .only .gives) (u .opened)) ∙ ap handOut (sym (only .no-other starts′ y′ (u .only .gives) .1))
+        by-last (some opening) (same-last starts′ y′ (some opening) (u .only .gives) (u .opened))
+        ∙ ap handOut (sym (only .no-other starts′ y′ (u .only .gives) .1))
 
     -- the second fact holds, or a refusal says that it does not
-    decided : {P : Type 0} (o : Option Kind) → newest h (jobNumber y) ≡ o → (BothFacts c h w starts y → P)
+    decided : {P : Type 0} (o : Option Kind) → lastLeft h (jobNumber y) ≡ o → (BothFacts c h w starts y → P)
         → ((a : ℕ) → isRefusal a ≡ true → r ≡ withhold out a → P) → P
     unfolding isRefusal any
-    decided none e holds fails = fails notOpen refl (by-newest none e)
+    decided none e holds fails = fails notOpen refl (by-last none e)
     decided (some opening) e holds fails = holds (record { only = only; opened = e })
-    decided (some cancelling) e holds fails = fails jobCancelled refl (by-newest (some cancelling) e)
-    decided (some finishing) e holds fails = fails notOpen refl (by-newest (some finishing) e)
+    decided (some cancelling) e holds fails = fails jobCancelled refl (by-last (some cancelling) e)
+    decided (some finishing) e holds fails = fails notOpen refl (by-last (some finishing) e)
+    decided (some reinstating) e holds fails = fails notOpen refl (by-last (some reinstating) e)
 
     one-gives : HandsOut c h w out r
     one-gives =
-        let last = newest h (jobNumber y) in
+        let last = lastLeft h (jobNumber y) in
         record {
           exactly = (
             λ e. decided last refl (λ u. (starts, y, u)) (λ a i d. not-served a i (sym (ap (λ (x : JobRead). x .answer) d) ∙ e)),
@@ -109,15 +112,20 @@ module _ (c : Codec) (h : List Call) (w out : List ℕ) where
           hands = handed;
           no-pair = λ none. absurd (none starts y (only .gives));
           otherwise = λ not-both. decided last refl (λ u. absurd (not-both starts y u)) (λ a i d. (a, i, d));
-          after-cancelling = λ starts′ y′ u e. by-newest (some cancelling) (same-newest starts′ y′ (some cancelling) (u .gives) e);
-          after-finishing = λ starts′ y′ u e. by-newest (some finishing) (same-newest starts′ y′ (some finishing) (u .gives) e);
-          none-accepted = λ starts′ y′ u e. by-newest none (same-newest starts′ y′ none (u .gives) e);
+          after-cancelling = λ starts′ y′ u e. by-last (some cancelling) (same-last starts′ y′ (some cancelling) (u .gives) e);
+          after-finishing = λ starts′ y′ u e. by-last (some finishing) (same-last starts′ y′ (some finishing) (u .gives) e);
+          none-accepted = λ starts′ y′ u e. by-last none (same-last starts′ y′ none (u .gives) e);
         }
 
 -- ---- The job reading, under any exact codec whose refusals are document 01's
 
 module _ (c : Codec) (exact : Exact c) (two : 2 ≤ c .alphabet) (listed : (w : List ℕ) (a : ℕ) → c .decode w ≡ refused a → (isRefusal a ≡ true) × (isWordRefusal a ≡ true))
     (es : List Entry) (h : List Call) (g : Agrees es h) (w out : List ℕ) (found : Word c w) where
+  -- "12 and 14 go by what is left"
+  goes-by : (n : ℕ) → needsOpen (status h n) ≡ answerAfter (lastLeft h n)
+  unfolding status
+  goes-by n = left-decides (historyOf h n) (g .accepted n) .answers
+
   spelled : (starts ms : List ℕ) (b : Bool) → c .decode w ≡ accepted starts ms → spellsPayload (c .alphabet) (c .messageLen) ms ≡ b
       → HandsOut c h w out (jobIn (c .alphabet) (c .messageLen) es out (accepted starts ms))
   unfolding isRefusal isWordRefusal any
@@ -125,7 +133,7 @@ module _ (c : Codec) (exact : Exact c) (two : 2 ≤ c .alphabet) (listed : (w : 
       let y = payloadIn (c .alphabet) (c .messageLen) ms in
       rw (t, g .same (jobNumber y))
       (one-gives c h w out starts y (only-pair c exact two w found starts y (pair-read c exact two w found starts ms e t))
-      (whereOpen (status h (jobNumber y)) (withhold out) (handOut y)) refl)
+      (whereOpen (status h (jobNumber y)) (withhold out) (handOut y)) (ap (λ (a : ℕ). unless a (withhold out) (handOut y)) (goes-by (jobNumber y))))
   spelled starts ms false e t =
       let q = c .alphabet in
       let k = c .messageLen in

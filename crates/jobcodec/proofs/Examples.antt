@@ -23,7 +23,8 @@ use Rattle.construction_a.specs.Outcomes.{Held, held, Encoded}
 use Rattle.construction_a.specs.DemandTwo.{constructionA}
 use Rattle.jobs.specs.declared.Entry.{Entry}
 use Rattle.jobs.specs.declared.Entry.the-variants.{Free, Open, Cancelled}
-use Rattle.jobs.specs.Jobs.{opening, cancelling, finishing, Call, on}
+use Rattle.jobs.specs.declared.Before.the-variants.{WasOpen}
+use Rattle.jobs.specs.Jobs.{opening, cancelling, finishing, reinstating, Call, on}
 use Rattle.jobs.specs.Table.{firstEntry, replaceFirst, put, twice, decide, emptyTable, tableFrom}
 use Rattle.payloads.specs.Payload.{carriesJob, jobNumber, messageOf, payloadIn, spellsPayload}
 use Rattle.jobcodec.specs.JobWrite.{jobWriteOut}
@@ -55,6 +56,12 @@ cancelled = on opening 7 ∷ on cancelling 7 ∷ []
 abbrev finished : List Call
 finished = on opening 7 ∷ on finishing 7 ∷ []
 
+abbrev reinstated : List Call
+reinstated = on opening 7 ∷ on cancelling 7 ∷ on reinstating 7 ∷ []
+
+abbrev never : List Call
+never = on cancelling 7 ∷ on reinstating 7 ∷ []
+
 -- the answer, then the lent buffer
 abbrev writtenOut : Encoded → List ℕ
 writtenOut r = r .answer ∷ r .word
@@ -83,9 +90,12 @@ transfer =
     ∷ example (reads (after finished)) (14 ∷ buffer)
     ∷ example (reads emptyTable) (14 ∷ buffer)
     ∷ example (writes emptyTable) (14 ∷ replicate 15 9)
+    -- a cancellation taken back: open again, or unknown
+    ∷ example (reads (after reinstated)) (0 ∷ payload)
+    ∷ example (reads (after never)) (14 ∷ buffer)
     -- "a book with one number twice"
-    ∷ example (reads (Open 7 ∷ Cancelled 7 ∷ replicate 62 Free)) (1 ∷ buffer)
-    ∷ example (writes (Open 7 ∷ Cancelled 7 ∷ replicate 62 Free)) (1 ∷ replicate 15 9)
+    ∷ example (reads (Open 7 ∷ Cancelled 7 WasOpen ∷ replicate 62 Free)) (1 ∷ buffer)
+    ∷ example (writes (Open 7 ∷ Cancelled 7 WasOpen ∷ replicate 62 Free)) (1 ∷ replicate 15 9)
     ∷ []
 
 -- ---- q 17, m 1, b 1: a byte takes two symbols; n 14 has five bytes and a leftover symbol, n 12 four bytes
@@ -130,7 +140,8 @@ writeOrder =
     ∷ example (writesAt (held (14 ∷ [])) (0 ∷ payload) (replicate 15 9)) (3 ∷ replicate 15 9)
     ∷ example (writesAt (held (14 ∷ [])) (replicate 11 0) (replicate 15 9)) (5 ∷ replicate 15 9)
     -- "the .. writing of 0", cancelled or open; "A 0 already open may still be read"
-    ∷ example (writtenOut (jobWriteOut figures (Cancelled 0 ∷ replicate 63 Free) (held (6 ∷ [])) (replicate 11 0) (replicate 15 9))) (17 ∷ replicate 15 9)
+    ∷ example (writtenOut (jobWriteOut figures (Cancelled 0 WasOpen ∷ replicate 63 Free) (held (6 ∷ [])) (replicate 11 0) (replicate 15 9)))
+    (17 ∷ replicate 15 9)
     ∷ example (writtenOut (jobWriteOut figures (Open 0 ∷ replicate 63 Free) (held (6 ∷ [])) (replicate 11 0) (replicate 15 9))) (17 ∷ replicate 15 9)
     ∷ example (readOut (jobReadOut figures (Open 0 ∷ replicate 63 Free) (word figures (6 ∷ []) (replicate 11 0)) (replicate 11 9))) (0 ∷ replicate 11 0)
     ∷ []

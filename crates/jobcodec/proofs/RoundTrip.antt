@@ -53,7 +53,7 @@ found-open : (s : Status) (out : List ℕ) (rest : Encoded) → whereOpen s (unw
 unfolding isRefusal any
 found-open unknown out rest e = not-served 14 refl e
 found-open opened out rest e = refl
-found-open cancelled out rest e = not-served 12 refl e
+found-open (cancelled s) out rest e = not-served 12 refl e
 
 not-true : (b : Bool) → not b ≡ true → b ≡ false
 not-true true e = ap not e

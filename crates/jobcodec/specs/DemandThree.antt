@@ -1,5 +1,6 @@
 -- Demand 3: after any list of calls on the job table, a job is handed out exactly when one pair of placement and payload, and no other, gives a word
--- that differs from the found one only inside its bursts, and its last accepted call was an opening. The statement; its proof is `demand-three` of proofs/DemandThree.antt. Assumes nothing.
+-- that differs from the found one only inside its bursts, and its last accepted call that is not struck out was an opening. The statement; its proof is
+-- `demand-three` of proofs/DemandThree.antt. Assumes nothing.
 use mathlib.Core.Path.{_≡_}
 use mathlib.Core.Logic.{_↔_}
 use mathlib.Core.Bool.{Bool, true, _&&_}
@@ -17,7 +18,7 @@ use Rattle.construction_a.specs.DemandTwo.{constructionA}
 use Rattle.jobs.specs.declared.Entry.{Entry}
 use Rattle.jobs.specs.Jobs.{opening, cancelling, finishing, Call}
 use Rattle.jobs.specs.Table.{answersFrom, tableFrom}
-use Rattle.jobs.specs.Ledger.{newest, verdictsFrom, acceptedBy}
+use Rattle.jobs.specs.Ledger.{lastLeft, verdictsFrom, acceptedBy}
 use Rattle.jobs.specs.Simulation.{Start}
 use Rattle.payloads.specs.Payload.{IsPayload, carriesJob, jobNumber, messageOf}
 use Rattle.jobcodec.specs.JobRead.{JobRead, handOut, withhold, jobReadOut}
@@ -35,11 +36,13 @@ pub record OnlyPair (c : Codec) (w starts payload : List ℕ) : Type 0 where
   pub gives : Gives c w starts payload
   pub no-other : (starts′ payload′ : List ℕ) → Gives c w starts′ payload′ → (starts′ ≡ starts) × (payload′ ≡ payload)
 
--- ---- Both facts, by the accepted calls, newest first: the newest on the payload's number is an opening
+-- ---- Both facts, by the accepted calls, newest first
+-- document 02, ticket 7: "once each cancellation followed by its reinstatement is struck out, the job's last accepted call is an opening; 12 and 14 go by
+-- what is left"
 
 pub record BothFacts (c : Codec) (ledger : List Call) (w starts payload : List ℕ) : Type 0 where
   pub only : OnlyPair c w starts payload
-  pub opened : newest ledger (jobNumber payload) ≡ some opening
+  pub opened : lastLeft ledger (jobNumber payload) ≡ some opening
 
 -- a number of document 01's lists
 unfoldable pub isRefusal : ℕ → Bool
@@ -64,11 +67,11 @@ pub record HandsOut (c : Codec) (ledger : List Call) (w out : List ℕ) (r : Job
   -- where the first fact fails, with 7, 8, 9 or 10; which of them, the word alone says (`jobReadOut`)
   pub no-pair : ((starts payload : List ℕ) → Gives c w starts payload → ⊥) → (a : ℕ) × (isWordRefusal a ≡ true) × (r ≡ withhold out a)
   -- "Where only the second fact fails, the refusal is 12 after a cancellation, 14 after a finishing or no accepted call."
-  pub after-cancelling : (starts payload : List ℕ) → OnlyPair c w starts payload → newest ledger (jobNumber payload) ≡ some cancelling
+  pub after-cancelling : (starts payload : List ℕ) → OnlyPair c w starts payload → lastLeft ledger (jobNumber payload) ≡ some cancelling
       → r ≡ withhold out jobCancelled
-  pub after-finishing : (starts payload : List ℕ) → OnlyPair c w starts payload → newest ledger (jobNumber payload) ≡ some finishing
+  pub after-finishing : (starts payload : List ℕ) → OnlyPair c w starts payload → lastLeft ledger (jobNumber payload) ≡ some finishing
       → r ≡ withhold out notOpen
-  pub none-accepted : (starts payload : List ℕ) → OnlyPair c w starts payload → newest ledger (jobNumber payload) ≡ none
+  pub none-accepted : (starts payload : List ℕ) → OnlyPair c w starts payload → lastLeft ledger (jobNumber payload) ≡ none
       → r ≡ withhold out notOpen
 
 -- ---- The claim

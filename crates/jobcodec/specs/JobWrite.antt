@@ -20,9 +20,13 @@ use Rattle.payloads.specs.Payload.{carriesJob, jobNumber, messageOf}
 abbrev pub jobStatus : List Entry → List ℕ → Status
 jobStatus es payload = standing (lookup es (jobNumber payload))
 
+-- what a number refuses, unless it is 0
+abbrev pub unless : {A : Type 0} → ℕ → (ℕ → A) → A → A
+unless a refuse rest = must (eqb a served) (refuse a) rest
+
 -- "Writing or reading a job requires it open and leaves the book unchanged": 12 and 14 are left to refuse with, and no table is handed back
 abbrev pub whereOpen : {A : Type 0} → Status → (ℕ → A) → A → A
-whereOpen s refuse rest = must (eqb (needsOpen s) served) (refuse (needsOpen s)) rest
+whereOpen s refuse rest = unless (needsOpen s) refuse rest
 
 -- "job write 1 2 10 3 5 12 14"; document 02, ticket 3: "It refuses with 17, itself a state refusal and ahead of the others, the .. writing of 0"
 unfoldable pub jobWriteOut : Params → List Entry → Held → List ℕ → List ℕ → Encoded

@@ -6,6 +6,7 @@ use Prim.Native.Nat.{ℕ}
 use Rattle.refusals.specs.Refusals.{invalid, numberZero}
 use Rattle.jobs.specs.declared.Entry.{Entry}
 use Rattle.jobs.specs.declared.Entry.the-variants.{Free, Cancelled}
+use Rattle.jobs.specs.declared.Before.the-variants.{WasAbsent}
 use Rattle.jobs.specs.Jobs.{isJob}
 use Rattle.jobs.specs.Table.{isFree, holds, lookup, twice, TableOut, refuse, accept, replaceFirst, put, decide, openJob, openAt, cancelAt}
 use Rattle.jobs.proofs.Entries.{any-holds}
@@ -38,7 +39,7 @@ module _ (es : List Entry) (n : ℕ) {b j : Bool} (t : b ≡ twice es) (once : b
   unfolding decide
   zero-not-cancelled z l g = rw (sym t ∙ once, sym l ∙ g, sym is ∙ z)
 
-  pub job-cancelled : {e : Entry} → j ≡ true → e ≡ lookup es n → e ≡ Free → put isFree (Cancelled n) es ≡ decide cancelAt es n
+  pub job-cancelled : {e : Entry} → j ≡ true → e ≡ lookup es n → e ≡ Free → put isFree (Cancelled n WasAbsent) es ≡ decide cancelAt es n
   unfolding decide
   job-cancelled z l g = rw (sym t ∙ once, sym l ∙ g, sym is ∙ z)
 

@@ -4,7 +4,7 @@ use mathlib.Core.Bool.{Bool, true, false, not, cond, _||_, true≢false, false�
 use mathlib.Core.List.{List, [], _∷_}
 use Prim.Native.Nat.{ℕ, zero, suc, _+_, _≤_, _<_}
 use native.Mathlib.Omega.{arith}
-use lib.Dec.{ltb, leb·suc-suc}
+use lib.Dec.{ltb, eqb, leb·suc-suc}
 use lib.ListN.{length, replicate, set}
 use borrow.Author.Tests.{not-false}
 use Rattle.combinatorics.specs.Lists.{any}
@@ -21,18 +21,24 @@ use Rattle.jobs.specs.Table.{standing, isFree, holds, firstEntry, lookup
 pub free-is : (e : Entry) → isFree e ≡ true → e ≡ Free
 free-is Free t = refl
 free-is (Open x) t = absurd (false≢true t)
-free-is (Cancelled x) t = absurd (false≢true t)
+free-is (Cancelled x was) t = absurd (false≢true t)
 
 holds-full : (e : Entry) (n : ℕ) → holds n e ≡ true → isFree e ≡ false
 holds-full Free n t = absurd (false≢true t)
 holds-full (Open x) n t = refl
-holds-full (Cancelled x) n t = refl
+holds-full (Cancelled x was) n t = refl
+
+-- the entry of a number holds no other
+pub holds-only : (e : Entry) (n k : ℕ) → holds n e ≡ true → holds k e ≡ eqb n k
+holds-only Free n k t = absurd (false≢true t)
+holds-only (Open x) n k t = ap (λ (y : ℕ). eqb y k) (eqb-true x n t)
+holds-only (Cancelled x was) n k t = ap (λ (y : ℕ). eqb y k) (eqb-true x n t)
 
 -- an entry that is not free is held, and counts
 counted : (e : Entry) → bit (isHeld (standing e)) ≡ bit (not (isFree e))
 counted Free = refl
 counted (Open x) = refl
-counted (Cancelled x) = refl
+counted (Cancelled x was) = refl
 
 -- ---- The entry of a number
 
@@ -63,11 +69,11 @@ free-entry [] = refl
 free-entry (e ∷ es) = by-bool (isFree e) (λ p. rw p (free-is e p)) (λ p. rw p (free-entry es))
 
 -- where no entry of a number is there, none of the entries is one
-free-here : (e : Entry) (es : List Entry) (n : ℕ) → lookup (e ∷ es) n ≡ Free → holds n e ≡ false
+pub free-here : (e : Entry) (es : List Entry) (n : ℕ) → lookup (e ∷ es) n ≡ Free → holds n e ≡ false
 free-here e es n l =
     by-bool (holds n e) (λ t. absurd (true≢false (sym (ap isFree (sym (entry-here (holds n) e es t) ∙ l)) ∙ holds-full e n t))) (λ t. t)
 
-free-there : (e : Entry) (es : List Entry) (n : ℕ) → lookup (e ∷ es) n ≡ Free → lookup es n ≡ Free
+pub free-there : (e : Entry) (es : List Entry) (n : ℕ) → lookup (e ∷ es) n ≡ Free → lookup es n ≡ Free
 free-there e es n l = sym (entry-there (holds n) e es (free-here e es n l)) ∙ l
 
 -- a number that is not looked up is held by no entry
@@ -89,7 +95,7 @@ once-rest e es o = neither (again es e) (twice es) o .1
 again-is : (e : Entry) (es : List Entry) (n : ℕ) → holds n e ≡ true → again es e ≡ any (holds n) es
 again-is Free es n t = absurd (false≢true t)
 again-is (Open x) es n t = ap (λ (k : ℕ). any (holds k) es) (eqb-true x n t)
-again-is (Cancelled x) es n t = ap (λ (k : ℕ). any (holds k) es) (eqb-true x n t)
+again-is (Cancelled x was) es n t = ap (λ (k : ℕ). any (holds k) es) (eqb-true x n t)
 
 once-here : (e : Entry) (es : List Entry) (n : ℕ) → twice (e ∷ es) ≡ false → holds n e ≡ true → lookup es n ≡ Free
 unfolding twice
@@ -99,7 +105,7 @@ once-here e es n o t =
 never-again : (e : Entry) (es : List Entry) → ((n : ℕ) → holds n e ≡ true → lookup es n ≡ Free) → again es e ≡ false
 never-again Free es h = refl
 never-again (Open x) es h = rw (any-holds es x, h x (eqb-same x x refl))
-never-again (Cancelled x) es h = rw (any-holds es x, h x (eqb-same x x refl))
+never-again (Cancelled x was) es h = rw (any-holds es x, h x (eqb-same x x refl))
 
 once-more : (e : Entry) (es : List Entry) → ((n : ℕ) → holds n e ≡ true → lookup es n ≡ Free) → twice es ≡ false → twice (e ∷ es) ≡ false
 unfolding twice

@@ -12,7 +12,7 @@ use Rattle.combinatorics.specs.Stretch.{bit, keepIf}
 use Rattle.combinatorics.proofs.Lists.{both}
 use Rattle.combinatorics.proofs.Cases.{by-eq, by-bool, eqb-same, eqb-other}
 use Rattle.jobs.specs.Jobs.{Call, isHeld}
-use Rattle.jobs.specs.Ledger.{historyOf, status, held, distinct, Counted, HeldCounts}
+use Rattle.jobs.specs.Ledger.{historyOf, statusOf, status, held, distinct, Counted, HeldCounts}
 
 unfoldable without : ℕ → List ℕ → List ℕ
 without n [] = []
@@ -70,7 +70,7 @@ length-without n (x ∷ xs) p =
     (λ d. rw (eqb-other n x (λ e. d (sym e))) (omega (arith, i)))
 
 none-held : (n : ℕ) → has [] n ≡ isHeld (status [] n)
-unfolding any historyOf status
+unfolding any historyOf statusOf status
 none-held n = refl
 
 -- a call changes what is said of its own number alone

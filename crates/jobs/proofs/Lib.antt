@@ -7,3 +7,5 @@ pub mod Simulates
 pub mod HeldNumbers
 pub mod ReplayLaws
 pub mod Marks
+pub mod Striking
+pub mod Restoring

@@ -22,12 +22,12 @@ use Rattle.jobs.proofs.SlotLaws.{twice-here, twice-later, twice-end, th
 pub mark-fits : (e : Entry) → markOf e < markCount
 mark-fits Free = omega arith
 mark-fits (Open x) = mod-lt x (omega arith)
-mark-fits (Cancelled x) = mod-lt x (omega arith)
+mark-fits (Cancelled x was) = mod-lt x (omega arith)
 
 mark-same : (e : Entry) (x : ℕ) → holds x e ≡ true → x % markCount ≡ markOf e
 mark-same Free x t = absurd (false≢true t)
 mark-same (Open y) x t = ap (λ (k : ℕ). k % markCount) (sym (eqb-true y x t))
-mark-same (Cancelled y) x t = ap (λ (k : ℕ). k % markCount) (sym (eqb-true y x t))
+mark-same (Cancelled y was) x t = ap (λ (k : ℕ). k % markCount) (sym (eqb-true y x t))
 
 -- the slots from i on: no number twice, and a mark for each
 pub record Marked (es : List Entry) (marks : List ℕ) (i : ℕ) : Type 0 where
@@ -44,7 +44,7 @@ module _ (es : List Entry) (marks : List ℕ) (i : ℕ) (m : Marked es marks i) 
   without-mark : (e : Entry) → getD marks (markOf e) 0 ≡ 0 → again (drop i es) e ≡ false
   without-mark Free z = refl
   without-mark (Open x) z = unheld (any (holds x) (drop i es)) (λ t. m .marked x t z)
-  without-mark (Cancelled x) z = unheld (any (holds x) (drop i es)) (λ t. m .marked x t z)
+  without-mark (Cancelled x was) z = unheld (any (holds x) (drop i es)) (λ t. m .marked x t z)
 
   pub unmarked : (e : Entry) (j : ℕ) → j ≡ markOf e → getD marks j 0 ≡ 0 → again (drop i es) e ≡ false
   unmarked e j is z = without-mark e (rw is at z)

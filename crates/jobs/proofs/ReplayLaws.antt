@@ -15,7 +15,7 @@ use Rattle.jobs.specs.Jobs.{Call}
 use Rattle.jobs.specs.Table.{TableOut, refuse}
 use Rattle.jobs.specs.Simulation.{Agrees, Follows}
 use Rattle.jobs.specs.Slots.{entries, outcome}
-use Rattle.jobs.specs.Replay.{isLetter, callsOf, lengthsFit, ReplayOut, replayed, turnAway, made, replayOut, AreCalls}
+use Rattle.jobs.specs.Replay.{isListLetter, callsOf, lengthsFit, ReplayOut, replayed, turnAway, made, replayOut, AreCalls}
 use Rattle.jobs.proofs.Simulates.{simulation}
 
 -- what a table's refusal is for the whole list
@@ -40,7 +40,7 @@ module _ (start : List Entry) (letters numbers answers : List ℕ) where
   unfolding lengthsFit
   answers-unfit n a = unfit (rw (eqb-same (length numbers) (length letters) n, eqb-other (length answers) (length letters) a))
 
-  pub letter-unknown : length numbers ≡ length letters → length answers ≡ length letters → all isLetter letters ≡ false
+  pub letter-unknown : length numbers ≡ length letters → length answers ≡ length letters → all isListLetter letters ≡ false
       → turnAway start answers badRecord ≡ replayOut start letters numbers answers
   unfolding replayOut
   letter-unknown n a k = rw (fit n a, k)
@@ -53,7 +53,7 @@ module _ (start : List Entry) (letters numbers answers : List ℕ) where
   served-follows : (before : List Call) → Agrees start before → replayOut start letters numbers answers .answer ≡ served
       → Follows before (callsOf letters numbers) (replayOut start letters numbers answers .answers) (replayOut start letters numbers answers .table)
   unfolding replayOut
-  served-follows before agrees = go (lengthsFit letters numbers answers) (all isLetter letters)
+  served-follows before agrees = go (lengthsFit letters numbers answers) (all isListLetter letters)
     where
       outcome-of : Bool → Bool → ReplayOut
       outcome-of f k = must f (turnAway start answers wrongLength) (must k (turnAway start answers badRecord) (made start (callsOf letters numbers)))

@@ -1,23 +1,24 @@
 -- The table answers as the ledger does and stands for it: one call, then every list. Assumes nothing.
 use mathlib.Core.Path.{_≡_, refl, sym, ap, ap₂, _∙_}
-use mathlib.Core.Bool.{Bool, true, false, cond, true≢false, false≢true}
+use mathlib.Core.Bool.{Bool, true, false, cond, _&&_, true≢false, false≢true}
 use mathlib.Core.List.{List, [], _∷_}
-use mathlib.Core.Option.{some}
 use Prim.Native.Nat.{ℕ, _<_}
 use native.Mathlib.Omega.{arith}
 use lib.Dec.{eqb}
 use lib.ListN.{length, replicate, set, length-set}
-use Rattle.refusals.specs.Refusals.{served, must, jobCancelled, alreadyOpen, notOpen, tableFull, numberZero}
+use Rattle.refusals.specs.Refusals.{served, must, jobCancelled, alreadyOpen, notOpen, tableFull, numberZero, notCancelled}
 use Rattle.combinatorics.specs.Lists.{any}
 use Rattle.combinatorics.specs.Stretch.{bit}
 use Rattle.combinatorics.proofs.Cases.{by-eq, by-bool, eqb-same, eqb-true}
 use Rattle.jobs.specs.declared.Entry.{Entry}
 use Rattle.jobs.specs.declared.Entry.the-variants.{Free, Open, Cancelled}
-use Rattle.jobs.specs.Jobs.{slotCount, Kind, opening, cancelling, finishing, Call, on, isJob, Status, unknown, opened, isHeld}
-use Rattle.jobs.specs.Table.{standing, isFree, holds, firstEntry, lookup, used, emptyTable, TableOut, refuse, accept, replaceFirst, put, add, twice, decide, openJob, callAs, callOut, answersFrom, tableFrom}
-use Rattle.jobs.specs.Ledger.{historyOf, newestOf, statusAfter, status, held, judge, verdict, enter, verdictsFrom, ledgerFrom, acceptedBy}
+use Rattle.jobs.specs.declared.Before.{Before}
+use Rattle.jobs.specs.declared.Before.the-variants.{WasAbsent, WasOpen}
+use Rattle.jobs.specs.Jobs.{slotCount, Kind, opening, cancelling, finishing, reinstating, Call, on, isJob, Status, unknown, isHeld}
+use Rattle.jobs.specs.Table.{standing, isFree, holds, firstEntry, lookup, used, emptyTable, TableOut, refuse, accept, replaceFirst, put, add, twice, decide, openJob, restored, callAs, callOut, answersFrom, tableFrom}
+use Rattle.jobs.specs.Ledger.{historyOf, after, statusOf, status, lawful, held, judge, accepts, verdict, enter, verdictsFrom, ledgerFrom, acceptedBy}
 use Rattle.jobs.specs.Simulation.{Agrees, Simulation, Start, empty, zero-open, zero-cancelled, zero-opened-cancelled, SimulationFromStart}
-use Rattle.jobs.proofs.Entries.{any-holds, entry-passes, free-entry, Stored, stored, held-le, room-is, free-lookup, alone-lookup, alone-once, alone-used}
+use Rattle.jobs.proofs.Entries.{any-holds, entry-passes, holds-only, free-entry, Stored, stored, held-le, room-is, free-lookup, alone-lookup, alone-once, alone-used}
 
 -- one call's outcome is what the ledger says
 pub record Alike (o : TableOut) (h : List Call) (c : Call) : Type 0 where
@@ -39,48 +40,58 @@ module _ (es : List Entry) (h : List Call) (g : Agrees es h) (c : Call) where
 
   -- one store in the table is one call more in the ledger
   accepted : (next : List Entry) (old new : Entry) → Stored es next old new → standing old ≡ standing (lookup es (c .number))
-      → ((k : ℕ) → lookup next k ≡ cond (eqb (c .number) k) new (lookup es k)) → standing new ≡ statusAfter (some (c .kind)) → verdict h c ≡ served → Alike (accept next) h c
-  unfolding enter historyOf status held
-  accepted next old new s was at now v =
+      → ((k : ℕ) → lookup next k ≡ cond (eqb (c .number) k) new (lookup es k)) → standing new ≡ after (c .kind) (standing (lookup es (c .number)))
+      → accepts (c .kind) (standing (lookup es (c .number))) ≡ true → verdict h c ≡ served → Alike (accept next) h c
+  unfolding enter historyOf statusOf status lawful held
+  accepted next old new s was at now taken v =
+      let share : Status → ℕ = λ x. bit (isHeld x) in
+      let found = g .same (c .number) in
+      let new-is : standing new ≡ after (c .kind) (status h (c .number)) = now ∙ ap (after (c .kind)) found in
       record {
         answer = sym v;
         agrees = rw v
             (record {
               slots = s .slots ∙ g .slots;
               same = λ k. rw (at k)
-                  (by-eq (c .number) k (λ t. standing (cond t new (lookup es k)) ≡ statusAfter (newestOf (cond t (c .kind ∷ historyOf h k) (historyOf h k)))) (λ _. now) (λ _. g .same k));
+                  (by-eq (c .number) k (λ t. standing (cond t new (lookup es k)) ≡ statusOf (cond t (c .kind ∷ historyOf h k) (historyOf h k)))
+                  (λ d. new-is ∙ ap (λ (x : ℕ). after (c .kind) (status h x)) d) (λ _. g .same k));
               once = s .once;
-              count = rw (eqb-same (c .number) (c .number) refl, ← now)
-                  (omega (arith, s .count, g .count, held-le es (c .number), ap (λ (x : Status). bit (isHeld x)) was, ap (λ (x : Status). bit (isHeld x)) (g .same (c .number))));
+              count = rw (eqb-same (c .number) (c .number) refl, ← new-is)
+                  (omega (arith, s .count, g .count, held-le es (c .number), ap share was, ap share found));
+              accepted = λ k.
+                  by-eq (c .number) k (λ t. lawful (cond t (c .kind ∷ historyOf h k) (historyOf h k)) ≡ true)
+                  (λ d. rw (g .accepted k, ← d, ← found, taken)) (λ _. g .accepted k);
             });
       }
 
   -- an unknown number
-  added : (new : Entry) → lookup es (c .number) ≡ Free → ((k : ℕ) → holds k new ≡ eqb (c .number) k) → standing new ≡ statusAfter (some (c .kind))
-      → judge (c .kind) (isJob (c .number)) unknown (any isFree es) ≡ must (any isFree es) tableFull served → Alike (add new es) h c
+  added : (new : Entry) → lookup es (c .number) ≡ Free → ((k : ℕ) → holds k new ≡ eqb (c .number) k) → standing new ≡ after (c .kind) unknown
+      → accepts (c .kind) unknown ≡ true → judge (c .kind) (isJob (c .number)) unknown (any isFree es) ≡ must (any isFree es) tableFull served
+      → Alike (add new es) h c
   unfolding put
-  added new l own now j =
+  added new l own now taken j =
       by-bool (any isFree es)
       (λ t.
       let s : Stored es (replaceFirst isFree new es) Free new =
       rw (free-entry es) at (stored new isFree es t (g .once) (λ k p _. rw (eqb-true (c .number) k (sym (own k) ∙ p)) at l)) in
-      rw t (accepted (replaceFirst isFree new es) Free new s (ap standing (sym l)) (λ k. s .at k ∙ rw (own k)) now (judged l ∙ j ∙ rw t)))
+      rw t (accepted (replaceFirst isFree new es) Free new s (ap standing (sym l)) (λ k. s .at k ∙ rw (own k)) (rw l now) (rw l taken) (judged l ∙ j ∙ rw t)))
       (λ t. rw t (refused tableFull refl (judged l ∙ j ∙ rw t)))
 
-  -- an open number: its entry changes, or goes
-  changed : (new : Entry) (y : ℕ) → lookup es (c .number) ≡ Open y
+  -- a number that is held: its entry changes, or goes
+  changed : (new : Entry) (e : Entry) → lookup es (c .number) ≡ e → isFree e ≡ false
       → ((k : ℕ) (r : Entry) → cond (holds k new) new (cond (eqb (c .number) k) Free r) ≡ cond (eqb (c .number) k) new r)
-      → ((k : ℕ) → holds k new ≡ true → eqb (c .number) k ≡ true) → standing new ≡ statusAfter (some (c .kind))
-      → judge (c .kind) (isJob (c .number)) opened (any isFree es) ≡ served
+      → ((k : ℕ) → holds k new ≡ true → eqb (c .number) k ≡ true) → standing new ≡ after (c .kind) (standing e)
+      → accepts (c .kind) (standing e) ≡ true → judge (c .kind) (isJob (c .number)) (standing e) (any isFree es) ≡ served
       → Alike (accept (replaceFirst (holds (c .number)) new es)) h c
-  changed new y l own only now j =
-      let full : isFree (lookup es (c .number)) ≡ false = ap isFree l in
-      let mine : y ≡ c .number = eqb-true y (c .number) (rw l at (entry-passes (holds (c .number)) es full)) in
-      let old : (k : ℕ) → holds k (lookup es (c .number)) ≡ eqb (c .number) k = λ k. ap (holds k) l ∙ ap (λ (x : ℕ). eqb x k) mine in
+  changed new e l full-entry own only now taken j =
+      let full : isFree (lookup es (c .number)) ≡ false = ap isFree l ∙ full-entry in
+      let old : (k : ℕ) → holds k (lookup es (c .number)) ≡ eqb (c .number) k =
+      λ k. holds-only (lookup es (c .number)) (c .number) k (entry-passes (holds (c .number)) es full) in
       let there : any (holds (c .number)) es ≡ true = rw (any-holds es (c .number), full) in
       let s = stored new (holds (c .number)) es there (g .once) (λ k p q. absurd (true≢false (sym (only k p) ∙ sym (old k) ∙ q))) in
       accepted (replaceFirst (holds (c .number)) new es) (lookup es (c .number)) new s refl
-      (λ k. s .at k ∙ ap (λ (b : Bool). cond (holds k new) new (cond b Free (lookup es k))) (old k) ∙ own k (lookup es k)) now (judged l ∙ j)
+      (λ k. s .at k ∙ ap (λ (b : Bool). cond (holds k new) new (cond b Free (lookup es k))) (old k) ∙ own k (lookup es k))
+      (rw l now) (rw l taken) (judged l ∙ j)
 
 same-twice : {A : Type 0} (b : Bool) (x y z : A) → cond b x (cond b y z) ≡ cond b x z
 same-twice true x y z = refl
@@ -92,23 +103,43 @@ module _ (es : List Entry) (h : List Call) (g : Agrees es h) (n : ℕ) where
       → Alike (refuse es a) h (on k n)
   away k a l z j = refused es h g (on k n) a z (judged es h g (on k n) l ∙ j)
 
+  -- the number's entry becomes another of its own
+  turned : (k : Kind) (new e : Entry) → lookup es n ≡ e → isFree e ≡ false → ((j : ℕ) → holds j new ≡ eqb n j) → standing new ≡ after k (standing e)
+      → accepts k (standing e) ≡ true → judge k (isJob n) (standing e) (any isFree es) ≡ served
+      → Alike (accept (replaceFirst (holds n) new es)) h (on k n)
+  turned k new e l full own now taken j =
+      changed es h g (on k n) new e l full (λ i r. rw (own i) (same-twice (eqb n i) new Free r)) (λ i p. sym (own i) ∙ p) now taken j
+
+  -- or it goes
+  gone : (k : Kind) (e : Entry) → lookup es n ≡ e → isFree e ≡ false → unknown ≡ after k (standing e)
+      → accepts k (standing e) ≡ true → judge k (isJob n) (standing e) (any isFree es) ≡ served
+      → Alike (accept (replaceFirst (holds n) Free es)) h (on k n)
+  gone k e l full now taken j = changed es h g (on k n) Free e l full (λ i r. refl) (λ i p. absurd (false≢true p)) now taken j
+
   open-job : isJob n ≡ true → (e : Entry) → lookup es n ≡ e → Alike (openJob e n es) h (on opening n)
-  open-job job (Cancelled x) l = away opening jobCancelled l refl (rw job)
+  open-job job (Cancelled x was) l = away opening jobCancelled l refl (rw job)
   open-job job (Open x) l = away opening alreadyOpen l refl (rw job)
-  open-job job Free l = added es h g (on opening n) (Open n) l (λ k. refl) refl (rw job)
+  open-job job Free l = added es h g (on opening n) (Open n) l (λ k. refl) refl refl (rw job)
+
+  reinstated : (x : ℕ) (was : Before) → lookup es n ≡ Cancelled x was → Alike (accept (replaceFirst (holds n) (restored was n) es)) h (on reinstating n)
+  reinstated x WasAbsent l = gone reinstating (Cancelled x WasAbsent) l refl refl refl refl
+  reinstated x WasOpen l = turned reinstating (Open n) (Cancelled x WasOpen) l refl (λ k. refl) refl refl refl
 
   one-call : (k : Kind) (e : Entry) → lookup es n ≡ e → Alike (callAs k es n) h (on k n)
   unfolding decide
   one-call opening e l =
       by-bool (isJob n) (λ job. rw (g .once, job, l) (open-job job e l)) (λ zero. rw (g .once, zero) (away opening numberZero l refl (rw zero)))
-  one-call cancelling (Cancelled x) l = rw (g .once, l) (away cancelling jobCancelled l refl refl)
-  one-call cancelling (Open x) l = rw (g .once, l) (changed es h g (on cancelling n) (Cancelled n) x l (λ k r. same-twice (eqb n k) (Cancelled n) Free r) (λ k p. p) refl refl)
+  one-call cancelling (Cancelled x was) l = rw (g .once, l) (away cancelling jobCancelled l refl refl)
+  one-call cancelling (Open x) l = rw (g .once, l) (turned cancelling (Cancelled n WasOpen) (Open x) l refl (λ k. refl) refl refl refl)
   one-call cancelling Free l =
-      by-bool (isJob n) (λ job. rw (g .once, l, job) (added es h g (on cancelling n) (Cancelled n) l (λ k. refl) refl (rw job)))
+      by-bool (isJob n) (λ job. rw (g .once, l, job) (added es h g (on cancelling n) (Cancelled n WasAbsent) l (λ k. refl) refl refl (rw job)))
       (λ zero. rw (g .once, l, zero) (away cancelling numberZero l refl (rw zero)))
-  one-call finishing (Cancelled x) l = rw (g .once, l) (away finishing jobCancelled l refl refl)
-  one-call finishing (Open x) l = rw (g .once, l) (changed es h g (on finishing n) Free x l (λ k r. refl) (λ k p. absurd (false≢true p)) refl refl)
+  one-call finishing (Cancelled x was) l = rw (g .once, l) (away finishing jobCancelled l refl refl)
+  one-call finishing (Open x) l = rw (g .once, l) (gone finishing (Open x) l refl refl refl refl)
   one-call finishing Free l = rw (g .once, l) (away finishing notOpen l refl refl)
+  one-call reinstating (Cancelled x was) l = rw (g .once, l) (reinstated x was l)
+  one-call reinstating (Open x) l = rw (g .once, l) (away reinstating notCancelled l refl refl)
+  one-call reinstating Free l = rw (g .once, l) (away reinstating notCancelled l refl refl)
 
 pub call-alike : (es : List Entry) (h : List Call) → Agrees es h → (c : Call) → Alike (callOut es c) h c
 call-alike es h g c = one-call es h g (c .number) (c .kind) (lookup es (c .number)) refl
@@ -126,28 +157,34 @@ simulation es h g (c ∷ cs) =
 -- ---- Where a list starts
 
 pub empty-agrees : Agrees emptyTable []
-unfolding historyOf status held used twice
-empty-agrees = record { slots = refl; same = λ n. ap standing (free-lookup slotCount n); once = refl; count = refl }
+unfolding historyOf statusOf status lawful held used twice
+empty-agrees = record { slots = refl; same = λ n. ap standing (free-lookup slotCount n); once = refl; count = refl; accepted = λ n. refl }
 
 -- 0 alone, in slot i, and calls that made it what it is
 alone-agrees : (i : ℕ) → i < slotCount → (e : Entry) (h : List Call) → ((n : ℕ) → standing (cond (holds n e) e Free) ≡ status h n)
     → bit (isHeld (standing e)) ≡ held h
-    → Agrees (set emptyTable i e) h
-alone-agrees i l e h same count =
+    → ((n : ℕ) → lawful (historyOf h n) ≡ true) → Agrees (set emptyTable i e) h
+alone-agrees i l e h same count accepted =
     record {
       slots = length-set emptyTable i e;
       same = λ n. ap standing (alone-lookup e slotCount i n l) ∙ same n;
       once = alone-once e slotCount i l;
       count = alone-used e slotCount i l ∙ count;
+      accepted = accepted;
     }
 
 pub start-agrees : (es : List Entry) (before : List Call) → Start es before → Agrees es before
-unfolding historyOf status held
+unfolding historyOf statusOf status lawful held
 start-agrees es before empty = empty-agrees
-start-agrees es before (zero-open i l) = alone-agrees i l (Open 0) (on opening 0 ∷ []) (λ n. by-bool (eqb 0 n) (λ t. rw t) (λ t. rw t)) refl
-start-agrees es before (zero-cancelled i l) = alone-agrees i l (Cancelled 0) (on cancelling 0 ∷ []) (λ n. by-bool (eqb 0 n) (λ t. rw t) (λ t. rw t)) refl
+start-agrees es before (zero-open i l) =
+    alone-agrees i l (Open 0) (on opening 0 ∷ []) (λ n. by-bool (eqb 0 n) (λ t. rw t) (λ t. rw t)) refl
+    (λ n. by-bool (eqb 0 n) (λ t. rw t) (λ t. rw t))
+start-agrees es before (zero-cancelled i l) =
+    alone-agrees i l (Cancelled 0 WasAbsent) (on cancelling 0 ∷ []) (λ n. by-bool (eqb 0 n) (λ t. rw t) (λ t. rw t)) refl
+    (λ n. by-bool (eqb 0 n) (λ t. rw t) (λ t. rw t))
 start-agrees es before (zero-opened-cancelled i l) =
-    alone-agrees i l (Cancelled 0) (on cancelling 0 ∷ on opening 0 ∷ []) (λ n. by-bool (eqb 0 n) (λ t. rw t) (λ t. rw t)) refl
+    alone-agrees i l (Cancelled 0 WasOpen) (on cancelling 0 ∷ on opening 0 ∷ []) (λ n. by-bool (eqb 0 n) (λ t. rw t) (λ t. rw t)) refl
+    (λ n. by-bool (eqb 0 n) (λ t. rw t) (λ t. rw t))
 
 pub simulation-from-start : SimulationFromStart
 simulation-from-start es before s calls = simulation es before (start-agrees es before s) calls

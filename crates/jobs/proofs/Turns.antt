@@ -19,7 +19,7 @@ use Rattle.jobs.specs.declared.TableAnswer.{TableAnswer}
 use Rattle.jobs.specs.Jobs.{Kind, Call}
 use Rattle.jobs.specs.Table.{TableOut, tableFrom, answersFrom}
 use Rattle.jobs.specs.Slots.{entries, outcome}
-use Rattle.jobs.specs.Replay.{kindOf, known, isLetter, callBy, callBefore, callsOf, replayed, made, AreCalls}
+use Rattle.jobs.specs.Replay.{kindOf, listKind, known, isListLetter, callBy, callBefore, callsOf, replayed, made, AreCalls}
 
 -- ---- A test of every number
 
@@ -44,6 +44,10 @@ pub no-kind : (k : ℕ) → k ≢ 79 → k ≢ 67 → k ≢ 70 → kindOf k ≡ 
 unfolding kindOf
 no-kind k o c f = rw (eqb-other k 79 o, eqb-other k 67 c, eqb-other k 70 f)
 
+pub list-kind : (k : ℕ) → k ≢ 73 → listKind k ≡ kindOf k
+unfolding listKind
+list-kind k i = rw (eqb-other k 73 i)
+
 module _ (es : List Entry) (n : ℕ) (cs : List Call) where
   table-next : (o : Option Kind) → known o ≡ true → tableFrom es (callBefore o n cs) ≡ tableFrom (callBy o es n .table) cs
   unfolding tableFrom
@@ -56,7 +60,8 @@ module _ (es : List Entry) (n : ℕ) (cs : List Call) where
   answers-next (some k) p = refl
 
 calls-next : (letters numbers : List ℕ) (i : ℕ) → i < length letters → i < length numbers
-    → callsOf (drop i letters) (drop i numbers) ≡ callBefore (kindOf (getD letters i 0)) (getD numbers i 0) (callsOf (drop (i + 1) letters) (drop (i + 1) numbers))
+    → callsOf (drop i letters) (drop i numbers)
+    ≡ callBefore (listKind (getD letters i 0)) (getD numbers i 0) (callsOf (drop (i + 1) letters) (drop (i + 1) numbers))
 unfolding callsOf
 calls-next letters numbers i h g = rw (add-one, drop-cons letters i 0 h, drop-cons numbers i 0 g)
 
@@ -67,21 +72,22 @@ calls-end letters numbers i h = rw (drop-of-length-le letters h)
 -- after i calls: what is left of them makes the rest of the whole outcome
 pub record Replaying (start : List Entry) (letters numbers answers : List ℕ) (es : List Entry) (i : ℕ) : Type 0 where
   pub room : length answers ≡ length letters
-  pub letters-left : all isLetter (drop i letters) ≡ true
+  pub letters-left : all isListLetter (drop i letters) ≡ true
   pub table-left : tableFrom es (callsOf (drop i letters) (drop i numbers)) ≡ tableFrom start (callsOf letters numbers)
   pub answers-left : take i answers ++ answersFrom es (callsOf (drop i letters) (drop i numbers)) ≡ answersFrom start (callsOf letters numbers)
 
 module _ (start : List Entry) (letters numbers answers : List ℕ) (es : List Entry) (i : ℕ) (s : Replaying start letters numbers answers es i) where
-  pub call-made : i < length letters → length numbers ≡ length letters → (r : TableAnswer) → outcome r ≡ callBy (kindOf (getD letters i 0)) es (getD numbers i 0)
+  pub call-made : i < length letters → length numbers ≡ length letters
+      → (r : TableAnswer) → outcome r ≡ callBy (listKind (getD letters i 0)) es (getD numbers i 0)
       → Replaying start letters numbers (set answers i (r .answer)) (entries (r .table)) (i + 1)
   call-made h fit r out =
-      let o = kindOf (getD letters i 0) in
+      let o = listKind (getD letters i 0) in
       let n = getD numbers i 0 in
       let cs = callsOf (drop (i + 1) letters) (drop (i + 1) numbers) in
       let hn : i < length numbers = omega arith in
       let ha : i < length answers = omega (arith, s .room) in
       let next : callsOf (drop i letters) (drop i numbers) ≡ callBefore o n cs = calls-next letters numbers i h hn in
-      let ls = both (isLetter (getD letters i 0)) (all isLetter (drop (i + 1) letters)) (sym (all-next isLetter letters i h) ∙ s .letters-left) in
+      let ls = both (isListLetter (getD letters i 0)) (all isListLetter (drop (i + 1) letters)) (sym (all-next isListLetter letters i h) ∙ s .letters-left) in
       let a : r .answer ≡ callBy o es n .answer = ap (λ (x : TableOut). x .answer) out in
       let t : entries (r .table) ≡ callBy o es n .table = ap (λ (x : TableOut). x .table) out in
       let filled : take (i + 1) (set answers i (r .answer)) ≡ take i answers ++ (r .answer ∷ []) = rw add-one (take-suc-set answers i (r .answer) ha) in

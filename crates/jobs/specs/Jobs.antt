@@ -9,8 +9,9 @@ abbrev pub slotCount : ℕ
 slotCount = 64
 
 -- "Opening adds one. Finishing removes an open one .. Cancelling turns open into cancelled, or adds an unknown number as cancelled"
+-- document 02, ticket 7: "Reinstatements join the list of demand 3"
 pub data Kind : Type 0 where
-  opening cancelling finishing : Kind
+  opening cancelling finishing reinstating : Kind
 
 -- "The calls are judged by their kinds and numbers alone"
 pub record Call : Type 0 where
@@ -25,17 +26,19 @@ abbrev pub isJob : ℕ → Bool
 isJob n = not (eqb n 0)
 
 -- "each open or cancelled"; every other number is unknown
+-- document 02, ticket 7: "Reinstating restores the book to what it was for that number before its cancellation .. The entry must remember which."
 pub data Status : Type 0 where
-  unknown opened cancelled : Status
+  unknown opened : Status
+  cancelled : Status → Status
 
 -- "open or cancelled": what counts among the 64
 abbrev pub isHeld : Status → Bool
 isHeld unknown = false
 isHeld opened = true
-isHeld cancelled = true
+isHeld (cancelled s) = true
 
 -- "Writing or reading a job requires it open", and finishing does too. "12: number cancelled. .. 14: not open."
 abbrev pub needsOpen : Status → ℕ
-needsOpen cancelled = jobCancelled
+needsOpen (cancelled s) = jobCancelled
 needsOpen opened = served
 needsOpen unknown = notOpen

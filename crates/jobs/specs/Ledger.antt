@@ -1,38 +1,87 @@
 -- The ledger of 'Demand 3 in these terms': the accepted calls, newest first, and what they say of a number. It knows nothing of slots. Assumes nothing.
 use mathlib.Core.Path.{_≡_}
-use mathlib.Core.Bool.{Bool, true, not, cond, _&&_}
-use mathlib.Core.List.{List, [], _∷_}
+use mathlib.Core.Bool.{Bool, true, false, not, cond, _&&_, _||_}
+use mathlib.Core.List.{List, [], _∷_, _++_}
 use mathlib.Core.Option.{Option, none, some}
 use Prim.Native.Nat.{ℕ, _+_, _-_}
 use lib.Dec.{ltb, eqb}
 use lib.ListN.{length}
-use Rattle.refusals.specs.Refusals.{served, jobCancelled, alreadyOpen, tableFull, numberZero, must}
+use Rattle.refusals.specs.Refusals.{served, jobCancelled, alreadyOpen, notOpen, tableFull, numberZero, notCancelled, must}
 use Rattle.combinatorics.specs.Lists.{any}
 use Rattle.combinatorics.specs.Stretch.{bit}
-use Rattle.jobs.specs.Jobs.{slotCount, Kind, opening, cancelling, finishing, Call, isJob, Status, unknown, opened, cancelled, isHeld, needsOpen}
+use Rattle.jobs.specs.Jobs.{slotCount, Kind, opening, cancelling, finishing, reinstating, Call, isJob, Status, unknown, opened, cancelled, isHeld, needsOpen}
 
 -- the kinds of the accepted calls on a number, newest first
 unfoldable pub historyOf : List Call → ℕ → List Kind
 historyOf [] n = []
 historyOf (c ∷ h) n = cond (eqb (c .number) n) (c .kind ∷ historyOf h n) (historyOf h n)
 
+-- ".. and the number is open", ".. cancelled", ".. unknown"
+-- document 02, ticket 7: "what it was for that number before its cancellation". A reinstatement of a number that isn't cancelled
+-- is never accepted.
+abbrev pub after : Kind → Status → Status
+after opening s = opened
+after cancelling s = cancelled s
+after finishing s = unknown
+after reinstating (cancelled s) = s
+after reinstating unknown = unknown
+after reinstating opened = opened
+
+-- "a ledger that begins with every number unknown"
+unfoldable pub statusOf : List Kind → Status
+statusOf [] = unknown
+statusOf (k ∷ ks) = after k (statusOf ks)
+
+unfoldable pub status : List Call → ℕ → Status
+status h n = statusOf (historyOf h n)
+
+-- ---- document 02, ticket 7: "once each cancellation followed by its reinstatement is struck out"
+
+abbrev pub takesBack : Kind → Kind → Bool
+takesBack reinstating cancelling = true
+takesBack reinstating opening = false
+takesBack reinstating finishing = false
+takesBack reinstating reinstating = false
+takesBack opening k = false
+takesBack cancelling k = false
+takesBack finishing k = false
+
+-- a call after what is left of those before it, newest first: it is struck out with the call that it takes back
+abbrev pub strike : Kind → List Kind → List Kind
+strike k [] = k ∷ []
+strike k (j ∷ ks) = cond (takesBack k j) ks (k ∷ j ∷ ks)
+
+unfoldable pub whatIsLeft : List Kind → List Kind
+whatIsLeft [] = []
+whatIsLeft (k ∷ ks) = strike k (whatIsLeft ks)
+
+-- two calls that stand together, a cancellation and then its reinstatement
+unfoldable pub hasPair : List Kind → Bool
+hasPair [] = false
+hasPair (k ∷ []) = false
+hasPair (k ∷ j ∷ ks) = takesBack k j || hasPair (j ∷ ks)
+
+-- so that pairs may be struck out in any order, until there is none
+pub record StrikesPairs : Type 0 where
+  pub any-pair : (newer older : List Kind) (k j : Kind) → takesBack k j ≡ true → whatIsLeft (newer ++ k ∷ j ∷ older) ≡ whatIsLeft (newer ++ older)
+  pub no-pair : (ks : List Kind) → hasPair ks ≡ false → whatIsLeft ks ≡ ks
+  pub none-left : (ks : List Kind) → hasPair (whatIsLeft ks) ≡ false
+
 abbrev pub newestOf : List Kind → Option Kind
 newestOf [] = none
 newestOf (k ∷ ks) = some k
 
--- the newest accepted call on a number
-abbrev pub newest : List Call → ℕ → Option Kind
-newest h n = newestOf (historyOf h n)
+-- "the job's last accepted call" of what is left
+abbrev pub lastLeft : List Call → ℕ → Option Kind
+lastLeft h n = newestOf (whatIsLeft (historyOf h n))
 
--- "a ledger that begins with every number unknown", ".. and the number is open", ".. cancelled", ".. unknown"
-abbrev pub statusAfter : Option Kind → Status
-statusAfter none = unknown
-statusAfter (some opening) = opened
-statusAfter (some cancelling) = cancelled
-statusAfter (some finishing) = unknown
-
-unfoldable pub status : List Call → ℕ → Status
-status h n = statusAfter (newest h n)
+-- what a call that needs the number open answers: "12 and 14 go by what is left". No reinstatement of an accepted list is left.
+abbrev pub answerAfter : Option Kind → ℕ
+answerAfter none = notOpen
+answerAfter (some opening) = served
+answerAfter (some cancelling) = jobCancelled
+answerAfter (some finishing) = notOpen
+answerAfter (some reinstating) = notOpen
 
 -- how many numbers are open or cancelled: with each call, its number's share before it goes and its share after it comes
 unfoldable pub held : List Call → ℕ
@@ -45,19 +94,23 @@ room h = ltb (held h) slotCount
 
 -- "An opening that finds its number cancelled is refused with 12, open with 13, unknown while 64 are open or cancelled with 15; else it is accepted"
 abbrev pub judgeOpening : Status → Bool → ℕ
-judgeOpening cancelled hasRoom = jobCancelled
+judgeOpening (cancelled s) hasRoom = jobCancelled
 judgeOpening opened hasRoom = alreadyOpen
 judgeOpening unknown hasRoom = must hasRoom tableFull served
 
 -- "A cancellation that finds it cancelled gets 12, unknown while 64 are open or cancelled 15; else it is accepted"
 -- "A finishing that finds it cancelled gets 12, unknown 14; else it is accepted"
 -- document 02, ticket 3: "demand 3's ledger knows 17", "ahead of the others, the opening .. of 0 and the cancelling of a 0 that the book doesn't hold."
+-- document 02, ticket 7: "It refuses with 20 .. a number that isn't cancelled."
 abbrev pub judge : Kind → Bool → Status → Bool → ℕ
 judge opening job found hasRoom = must job numberZero (judgeOpening found hasRoom)
-judge cancelling job cancelled hasRoom = jobCancelled
+judge cancelling job (cancelled s) hasRoom = jobCancelled
 judge cancelling job opened hasRoom = served
 judge cancelling job unknown hasRoom = must job numberZero (must hasRoom tableFull served)
 judge finishing job found hasRoom = needsOpen found
+judge reinstating job (cancelled s) hasRoom = served
+judge reinstating job opened hasRoom = notCancelled
+judge reinstating job unknown hasRoom = notCancelled
 
 unfoldable pub verdict : List Call → Call → ℕ
 verdict h c = judge (c .kind) (isJob (c .number)) (status h (c .number)) (room h)
@@ -80,6 +133,26 @@ unfoldable pub acceptedBy : List Call → List ℕ → List Call → List Call
 acceptedBy [] vs h = h
 acceptedBy (c ∷ cs) [] h = h
 acceptedBy (c ∷ cs) (v ∷ vs) h = acceptedBy cs vs (cond (eqb v served) (c ∷ h) h)
+
+-- ---- Histories of accepted calls
+
+-- accepted as far as its number's own history decides: of a job, while there is room
+abbrev pub accepts : Kind → Status → Bool
+accepts k found = eqb (judge k true found true) served
+
+-- each call was accepted when it came
+unfoldable pub lawful : List Kind → Bool
+lawful [] = true
+lawful (k ∷ ks) = accepts k (statusOf ks) && lawful ks
+
+-- what is left says what the number is, and document 02, ticket 7: "12 and 14 go by what is left"
+pub record GoesByLeft (ks : List Kind) : Type 0 where
+  pub accepted : lawful (whatIsLeft ks) ≡ true
+  pub same : statusOf (whatIsLeft ks) ≡ statusOf ks
+  pub answers : needsOpen (statusOf ks) ≡ answerAfter (newestOf (whatIsLeft ks))
+
+abbrev pub LeftDecides : Type 0
+LeftDecides = (ks : List Kind) → lawful ks ≡ true → GoesByLeft ks
 
 -- ---- What the count counts
 

@@ -10,7 +10,7 @@ use Rattle.refusals.specs.Refusals.{served, wrongLength, badRecord, must}
 use Rattle.combinatorics.specs.Lists.{all}
 use Rattle.jobs.specs.declared.Entry.{Entry}
 use Rattle.jobs.specs.declared.TableAnswer.{TableAnswer}
-use Rattle.jobs.specs.Jobs.{Kind, opening, cancelling, finishing, Call, on}
+use Rattle.jobs.specs.Jobs.{Kind, opening, cancelling, finishing, reinstating, Call, on}
 use Rattle.jobs.specs.Table.{TableOut, refuse, callAs, answersFrom, tableFrom}
 use Rattle.jobs.specs.Slots.{entries}
 
@@ -21,6 +21,10 @@ kindOf letter =
     (cond (eqb letter 67) (some cancelling)
     (cond (eqb letter 70) (some finishing)
     none))
+
+-- the letters of a list's calls: those of records, and 73, I (reinstate), which no record has (docs/DECISIONS.md)
+unfoldable pub listKind : ℕ → Option Kind
+listKind letter = cond (eqb letter 73) (some reinstating) (kindOf letter)
 
 -- a call by its letter; another letter is 11 as in a record, before the call's own refusals (docs/DECISIONS.md)
 abbrev pub callBy : Option Kind → List Entry → ℕ → TableOut
@@ -34,15 +38,18 @@ known (some k) = true
 abbrev pub isLetter : ℕ → Bool
 isLetter letter = known (kindOf letter)
 
+abbrev pub isListLetter : ℕ → Bool
+isListLetter letter = known (listKind letter)
+
 abbrev pub callBefore : Option Kind → ℕ → List Call → List Call
 callBefore none n cs = cs
 callBefore (some k) n cs = on k n ∷ cs
 
--- the calls that letters and numbers spell; a letter that is none of the three spells none
+-- the calls that letters and numbers spell; a letter that is none of theirs spells none
 unfoldable pub callsOf : List ℕ → List ℕ → List Call
 callsOf [] ns = []
 callsOf (k ∷ ks) [] = []
-callsOf (k ∷ ks) (n ∷ ns) = callBefore (kindOf k) n (callsOf ks ns)
+callsOf (k ∷ ks) (n ∷ ns) = callBefore (listKind k) n (callsOf ks ns)
 
 -- The numbers and the answers are as many as the letters: 3 as for any lent list of another length (docs/DECISIONS.md).
 unfoldable pub lengthsFit : List ℕ → List ℕ → List ℕ → Bool
@@ -65,15 +72,15 @@ turnAway es answers a = record { answer = a; table = es; answers = answers }
 abbrev pub made : List Entry → List Call → ReplayOut
 made es calls = record { answer = served; table = tableFrom es calls; answers = answersFrom es calls }
 
--- 3 for lists of other lengths, 11 for a letter that is none of the three; then the calls
+-- 3 for lists of other lengths, 11 for a letter that is none of theirs; then the calls
 unfoldable pub replayOut : List Entry → List ℕ → List ℕ → List ℕ → ReplayOut
 replayOut es letters numbers answers =
     must (lengthsFit letters numbers answers) (turnAway es answers wrongLength)
-    (must (all isLetter letters) (turnAway es answers badRecord)
+    (must (all isListLetter letters) (turnAway es answers badRecord)
     (made es (callsOf letters numbers)))
 
 -- what is known once nothing is refused
 pub record AreCalls (letters numbers answers : List ℕ) : Type 0 where
   pub numbers-fit : length numbers ≡ length letters
   pub answers-fit : length answers ≡ length letters
-  pub known-letters : all isLetter letters ≡ true
+  pub known-letters : all isListLetter letters ≡ true

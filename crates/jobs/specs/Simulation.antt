@@ -1,14 +1,15 @@
 -- 'Demand 3 in these terms', the part about the list of calls: the table answers as the ledger does, and stands for it. Assumes nothing.
 use mathlib.Core.Path.{_≡_}
-use mathlib.Core.Bool.{false}
+use mathlib.Core.Bool.{true, false}
 use mathlib.Core.List.{List, [], _∷_}
 use Prim.Native.Nat.{ℕ, _<_}
 use lib.ListN.{length, set}
 use Rattle.jobs.specs.declared.Entry.{Entry}
 use Rattle.jobs.specs.declared.Entry.the-variants.{Open, Cancelled}
+use Rattle.jobs.specs.declared.Before.the-variants.{WasAbsent, WasOpen}
 use Rattle.jobs.specs.Jobs.{slotCount, opening, cancelling, Call, on}
 use Rattle.jobs.specs.Table.{standing, lookup, used, twice, emptyTable, answersFrom, tableFrom}
-use Rattle.jobs.specs.Ledger.{status, held, verdictsFrom, ledgerFrom}
+use Rattle.jobs.specs.Ledger.{historyOf, status, lawful, held, verdictsFrom, ledgerFrom}
 
 -- The table holds exactly the numbers that the ledger has open or cancelled, each once, in that state.
 pub record Agrees (es : List Entry) (h : List Call) : Type 0 where
@@ -18,8 +19,10 @@ pub record Agrees (es : List Entry) (h : List Call) : Type 0 where
   pub same : (n : ℕ) → standing (lookup es n) ≡ status h n
   -- none is there twice
   pub once : twice es ≡ false
-  -- and they are as many
+  -- they are as many
   pub count : used es ≡ held h
+  -- and every number's calls were accepted
+  pub accepted : (n : ℕ) → lawful (historyOf h n) ≡ true
 
 -- What was seen of a list of calls, its answers and the table that the last one handed back, is what the ledger says.
 pub record Follows (h calls : List Call) (answers : List ℕ) (es : List Entry) : Type 0 where
@@ -40,8 +43,8 @@ pub data Start : List Entry → List Call → Type 0 where
   -- document 02, ticket 3: "its list may also start from a book that holds 0 alone, in any place, open or cancelled, as if former accepted calls had put
   -- it there": an opening; a cancellation; or an opening and then a cancellation
   zero-open : (i : ℕ) → i < slotCount → Start (set emptyTable i (Open 0)) (on opening 0 ∷ [])
-  zero-cancelled : (i : ℕ) → i < slotCount → Start (set emptyTable i (Cancelled 0)) (on cancelling 0 ∷ [])
-  zero-opened-cancelled : (i : ℕ) → i < slotCount → Start (set emptyTable i (Cancelled 0)) (on cancelling 0 ∷ on opening 0 ∷ [])
+  zero-cancelled : (i : ℕ) → i < slotCount → Start (set emptyTable i (Cancelled 0 WasAbsent)) (on cancelling 0 ∷ [])
+  zero-opened-cancelled : (i : ℕ) → i < slotCount → Start (set emptyTable i (Cancelled 0 WasOpen)) (on cancelling 0 ∷ on opening 0 ∷ [])
 
 abbrev pub SimulationFromStart : Type 0
 SimulationFromStart =

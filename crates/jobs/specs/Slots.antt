@@ -34,4 +34,4 @@ markCount = 1024
 abbrev pub markOf : Entry → ℕ
 markOf Free = 0
 markOf (Open x) = x % markCount
-markOf (Cancelled x) = x % markCount
+markOf (Cancelled x was) = x % markCount

@@ -1,31 +1,39 @@
 -- The job table (document 01's book), over the list of its entries, slot by slot (its places). Assumes nothing.
+use mathlib.Core.Path.{_≡_}
 use mathlib.Core.Bool.{Bool, true, false, not, cond, _||_}
 use mathlib.Core.List.{List, [], _∷_}
 use Prim.Native.Nat.{ℕ, _+_}
 use lib.Dec.{eqb}
 use lib.ListN.{replicate}
-use Rattle.refusals.specs.Refusals.{served, invalid, jobCancelled, alreadyOpen, notOpen, tableFull, numberZero, must}
+use Rattle.refusals.specs.Refusals.{served, invalid, jobCancelled, alreadyOpen, notOpen, tableFull, numberZero, notCancelled, must}
 use Rattle.combinatorics.specs.Lists.{any}
 use Rattle.combinatorics.specs.Stretch.{bit}
 use Rattle.jobs.specs.declared.Entry.{Entry}
 use Rattle.jobs.specs.declared.Entry.the-variants.{Free, Open, Cancelled}
-use Rattle.jobs.specs.Jobs.{slotCount, Kind, opening, cancelling, finishing, Call, isJob, Status, unknown, opened, cancelled, isHeld}
+use Rattle.jobs.specs.declared.Before.{Before}
+use Rattle.jobs.specs.declared.Before.the-variants.{WasAbsent, WasOpen}
+use Rattle.jobs.specs.Jobs.{slotCount, Kind, opening, cancelling, finishing, reinstating, Call, isJob, Status, unknown, opened, cancelled, isHeld}
+
+-- document 02, ticket 7: "what it was for that number before its cancellation: open, or absent if it was unknown"
+abbrev pub formerly : Before → Status
+formerly WasAbsent = unknown
+formerly WasOpen = opened
 
 -- "The book holds at most 64 job numbers, each open or cancelled. It has 64 places": an entry stands for what its number is
 abbrev pub standing : Entry → Status
 standing Free = unknown
 standing (Open x) = opened
-standing (Cancelled x) = cancelled
+standing (Cancelled x was) = cancelled (formerly was)
 
 abbrev pub isFree : Entry → Bool
 isFree Free = true
 isFree (Open x) = false
-isFree (Cancelled x) = false
+isFree (Cancelled x was) = false
 
 abbrev pub holds : ℕ → Entry → Bool
 holds n Free = false
 holds n (Open x) = eqb x n
-holds n (Cancelled x) = eqb x n
+holds n (Cancelled x was) = eqb x n
 
 -- the first entry that passes the test, or a free one
 unfoldable pub firstEntry : (Entry → Bool) → List Entry → Entry
@@ -76,7 +84,7 @@ add x es = put isFree x es
 abbrev pub again : List Entry → Entry → Bool
 again es Free = false
 again es (Open x) = any (holds x) es
-again es (Cancelled x) = any (holds x) es
+again es (Cancelled x was) = any (holds x) es
 
 -- "a book with one number twice"
 unfoldable pub twice : List Entry → Bool
@@ -90,7 +98,7 @@ decide byEntry es n = must (not (twice es)) (refuse es invalid) (byEntry (lookup
 
 -- "Opening adds one."
 abbrev pub openJob : Entry → ℕ → List Entry → TableOut
-openJob (Cancelled x) n es = refuse es jobCancelled
+openJob (Cancelled x was) n es = refuse es jobCancelled
 openJob (Open x) n es = refuse es alreadyOpen
 openJob Free n es = add (Open n) es
 
@@ -101,15 +109,26 @@ openAt e n es = must (isJob n) (refuse es numberZero) (openJob e n es)
 -- "Cancelling turns open into cancelled, or adds an unknown number as cancelled; that entry stays."
 -- document 02, ticket 3: "It refuses with 17 .. the cancelling of a 0 that the book doesn't hold."
 abbrev pub cancelAt : Entry → ℕ → List Entry → TableOut
-cancelAt (Cancelled x) n es = refuse es jobCancelled
-cancelAt (Open x) n es = accept (replaceFirst (holds n) (Cancelled n) es)
-cancelAt Free n es = must (isJob n) (refuse es numberZero) (add (Cancelled n) es)
+cancelAt (Cancelled x was) n es = refuse es jobCancelled
+cancelAt (Open x) n es = accept (replaceFirst (holds n) (Cancelled n WasOpen) es)
+cancelAt Free n es = must (isJob n) (refuse es numberZero) (add (Cancelled n WasAbsent) es)
 
 -- "Finishing removes an open one and frees its place for use."
 abbrev pub finishAt : Entry → ℕ → List Entry → TableOut
-finishAt (Cancelled x) n es = refuse es jobCancelled
+finishAt (Cancelled x was) n es = refuse es jobCancelled
 finishAt (Open x) n es = accept (replaceFirst (holds n) Free es)
 finishAt Free n es = refuse es notOpen
+
+-- document 02, ticket 7: "Reinstating restores the book to what it was for that number before its cancellation: open, or absent if it was unknown."
+abbrev pub restored : Before → ℕ → Entry
+restored WasAbsent n = Free
+restored WasOpen n = Open n
+
+-- document 02, ticket 7: "It refuses with 20, after 1, a number that isn't cancelled."
+abbrev pub reinstateAt : Entry → ℕ → List Entry → TableOut
+reinstateAt (Cancelled x was) n es = accept (replaceFirst (holds n) (restored was n) es)
+reinstateAt (Open x) n es = refuse es notCancelled
+reinstateAt Free n es = refuse es notCancelled
 
 abbrev pub openOut : List Entry → ℕ → TableOut
 openOut es n = decide openAt es n
@@ -120,12 +139,16 @@ cancelOut es n = decide cancelAt es n
 abbrev pub finishOut : List Entry → ℕ → TableOut
 finishOut es n = decide finishAt es n
 
+abbrev pub reinstateOut : List Entry → ℕ → TableOut
+reinstateOut es n = decide reinstateAt es n
+
 -- ---- A list of calls
 
 abbrev pub callAs : Kind → List Entry → ℕ → TableOut
 callAs opening es n = openOut es n
 callAs cancelling es n = cancelOut es n
 callAs finishing es n = finishOut es n
+callAs reinstating es n = reinstateOut es n
 
 abbrev pub callOut : List Entry → Call → TableOut
 callOut es c = callAs (c .kind) es (c .number)
@@ -139,3 +162,9 @@ answersFrom es (c ∷ cs) = callOut es c .answer ∷ answersFrom (callOut es c .
 unfoldable pub tableFrom : List Entry → List Call → List Entry
 tableFrom es [] = es
 tableFrom es (c ∷ cs) = tableFrom (callOut es c .table) cs
+
+-- ---- Taking a call back
+
+-- document 02, ticket 7: "Reinstating restores the book to what it was for that number before its cancellation", slot for slot
+abbrev pub Restores : Type 0
+Restores = (es : List Entry) (n : ℕ) → cancelOut es n .answer ≡ served → reinstateOut (cancelOut es n .table) n ≡ accept es

@@ -7,17 +7,23 @@ ghost use lib.ListN.{length, drop};
 ghost use Rattle.refusals.specs.Refusals.{served};
 ghost use Rattle.combinatorics.specs.Lists.{all};
 ghost use Rattle.jobs.specs.Jobs.{slotCount, Call, isJob};
-ghost use Rattle.jobs.specs.Table.{isFree, emptyTable, openOut, cancelOut, finishOut};
+ghost use Rattle.jobs.specs.Table.{isFree, emptyTable, openOut, cancelOut, finishOut, reinstateOut};
 ghost use Rattle.jobs.specs.Slots.{entries, outcome, seeks, firstThat, markCount, markOf};
-ghost use Rattle.jobs.specs.Replay.{kindOf, callBy, isLetter, callsOf, AreCalls, replayed, made, replayOut};
+ghost use Rattle.jobs.specs.Replay.{kindOf, listKind, callBy, isLetter, isListLetter, callsOf, AreCalls, replayed, made, replayOut};
 ghost use Rattle.jobs.specs.Simulation.{Agrees, Follows};
 use refusals::Refusal;
+
+// What a number was before its cancellation.
+pub enum Before {
+    WasAbsent,
+    WasOpen,
+}
 
 // What a slot holds. A number is any of 32 bits. 0 is no job; a table holds it only where it was put there before it was refused.
 pub enum Entry {
     Free,
     Open(u32),
-    Cancelled(u32),
+    Cancelled(u32, Before),
 }
 
 // A place of the table.
@@ -70,7 +76,7 @@ impl JobTable {
         }
         let entry = self.lookup(number);
         match entry {
-            Entry::Cancelled(_) => self.refuse(Refusal::CANCELLED),
+            Entry::Cancelled(_, _) => self.refuse(Refusal::CANCELLED),
             Entry::Open(_) => self.refuse(Refusal::ALREADY_OPEN),
             Entry::Free => self.put(Sought::FreeSlot, Entry::Open(number)),
         }
@@ -85,13 +91,19 @@ impl JobTable {
         }
         let entry = self.lookup(number);
         match entry {
-            Entry::Cancelled(_) => self.refuse(Refusal::CANCELLED),
-            Entry::Open(_) => self.put(Sought::Number(number), Entry::Cancelled(number)),
+            Entry::Cancelled(_, _) => self.refuse(Refusal::CANCELLED),
+            Entry::Open(_) => self.put(
+                Sought::Number(number),
+                Entry::Cancelled(number, Before::WasOpen),
+            ),
             Entry::Free => {
                 if !is_job(number) {
                     return self.refuse(Refusal::NUMBER_ZERO);
                 }
-                self.put(Sought::FreeSlot, Entry::Cancelled(number))
+                self.put(
+                    Sought::FreeSlot,
+                    Entry::Cancelled(number, Before::WasAbsent),
+                )
             }
         }
     }
@@ -105,13 +117,30 @@ impl JobTable {
         }
         let entry = self.lookup(number);
         match entry {
-            Entry::Cancelled(_) => self.refuse(Refusal::CANCELLED),
+            Entry::Cancelled(_, _) => self.refuse(Refusal::CANCELLED),
             Entry::Open(_) => self.put(Sought::Number(number), Entry::Free),
             Entry::Free => self.refuse(Refusal::NOT_OPEN),
         }
     }
 
-    // The call of a letter: O opens, C cancels, F finishes. Refusals: 11 for another letter, then the call's own.
+    // A cancelled number is what it was before its cancellation. Refusals: 1 20.
+    pub fn reinstate(self, number: u32) -> TableAnswer
+        ensures { λ r. ⌜ outcome r ≡ reinstateOut (entries self) number ⌝ }
+    {
+        if self.twice() {
+            return self.refuse(Refusal::INVALID);
+        }
+        let entry = self.lookup(number);
+        match entry {
+            Entry::Cancelled(_, before) => {
+                self.put(Sought::Number(number), restored(before, number))
+            }
+            Entry::Open(_) => self.refuse(Refusal::NOT_CANCELLED),
+            Entry::Free => self.refuse(Refusal::NOT_CANCELLED),
+        }
+    }
+
+    // The call of a record's letter: O opens, C cancels, F finishes. Refusals: 11 for another letter, then the call's own.
     pub fn call(self, letter: u8, number: u32) -> TableAnswer
         ensures { λ r. ⌜ outcome r ≡ callBy (kindOf letter) (entries self) number ⌝ }
     {
@@ -120,6 +149,16 @@ impl JobTable {
             b'C' => self.cancel(number),
             b'F' => self.finish(number),
             _ => self.refuse(Refusal::RECORD),
+        }
+    }
+
+    // The call of a letter in a list: those of records, and I reinstates. Refusals: 11 for another letter, then the call's own.
+    pub fn list_call(self, letter: u8, number: u32) -> TableAnswer
+        ensures { λ r. ⌜ outcome r ≡ callBy (listKind letter) (entries self) number ⌝ }
+    {
+        match letter {
+            b'I' => self.reinstate(number),
+            _ => self.call(letter, number),
         }
     }
 
@@ -180,7 +219,7 @@ impl JobTable {
     {
         match entry {
             Entry::Free => false,
-            Entry::Open(x) | Entry::Cancelled(x) => {
+            Entry::Open(x) | Entry::Cancelled(x, _) => {
                 self.find(start, Sought::Number(x)) < JobTable::SLOTS
             }
         }
@@ -229,13 +268,23 @@ impl JobTable {
     }
 }
 
+// The entry of a number that is no longer cancelled.
+fn restored(before: Before, number: u32) -> Entry
+    ensures { λ r. ⌜ r ≡ Rattle.jobs.specs.Table.restored before number ⌝ }
+{
+    match before {
+        Before::WasAbsent => Entry::Free,
+        Before::WasOpen => Entry::Open(number),
+    }
+}
+
 // The place of an entry's mark.
 fn mark_of(entry: Entry) -> usize
     ensures { λ r. ⌜ r ≡ markOf entry ⌝ }
 {
     match entry {
         Entry::Free => 0,
-        Entry::Open(x) | Entry::Cancelled(x) => x as usize % MARKS,
+        Entry::Open(x) | Entry::Cancelled(x, _) => x as usize % MARKS,
     }
 }
 
@@ -261,7 +310,7 @@ fn is_free(entry: Entry) -> bool
     match entry {
         Entry::Free => true,
         Entry::Open(_) => false,
-        Entry::Cancelled(_) => false,
+        Entry::Cancelled(_, _) => false,
     }
 }
 
@@ -270,12 +319,12 @@ fn holds(entry: Entry, number: u32) -> bool
 {
     match entry {
         Entry::Free => false,
-        Entry::Open(x) | Entry::Cancelled(x) => x == number,
+        Entry::Open(x) | Entry::Cancelled(x, _) => x == number,
     }
 }
 
 // Makes the calls of lent letters and numbers, one after the other from a table; each answer goes to its place in `answers`.
-// Refusals of the whole list: 3 for lists of other lengths, 11 for a letter other than O, C, F. The table is then as it was, and `answers` keeps
+// Refusals of the whole list: 3 for lists of other lengths, 11 for a letter other than O, C, F, I. The table is then as it was, and `answers` keeps
 // what it held.
 pub fn replay(table: JobTable, letters: &[u8], numbers: &[u32], answers: &mut [u8]) -> TableAnswer
     ensures outcome { λ r. ⌜ replayed r (now (answers .exit)) ≡ replayOut (entries table) (now (letters .entry)) (now (numbers .entry)) (now (answers .entry)) ⌝ }
@@ -294,11 +343,11 @@ pub fn replay(table: JobTable, letters: &[u8], numbers: &[u32], answers: &mut [u
 }
 
 fn all_letters(letters: &[u8]) -> bool
-    ensures { λ r. ⌜ r ≡ all isLetter (now (letters .entry)) ⌝ }
+    ensures { λ r. ⌜ r ≡ all isListLetter (now (letters .entry)) ⌝ }
 {
     let mut i: usize = 0;
     while i < letters.len() {
-        if !is_letter(letters[i]) {
+        if !is_list_letter(letters[i]) {
             return false;
         }
         i += 1;
@@ -306,7 +355,17 @@ fn all_letters(letters: &[u8]) -> bool
     true
 }
 
-// Whether a call has this letter.
+// Whether a call in a list has this letter.
+pub fn is_list_letter(letter: u8) -> bool
+    ensures { λ r. ⌜ r ≡ isListLetter letter ⌝ }
+{
+    match letter {
+        b'I' => true,
+        _ => is_letter(letter),
+    }
+}
+
+// Whether a record's call has this letter.
 pub fn is_letter(letter: u8) -> bool
     ensures { λ r. ⌜ r ≡ isLetter letter ⌝ }
 {
@@ -326,7 +385,7 @@ fn make_calls(start: JobTable, letters: &[u8], numbers: &[u32], answers: &mut [u
     let mut table = start;
     let mut i: usize = 0;
     while i < letters.len() {
-        let out = table.call(letters[i], numbers[i]);
+        let out = table.list_call(letters[i], numbers[i]);
         answers[i] = out.answer;
         table = out.table;
         i += 1;

@@ -75,11 +75,15 @@ tableFull = 15
 abbrev pub numberZero : ℕ
 numberZero = 17
 
+-- document 02, ticket 7: "It refuses with 20, after 1, a number that isn't cancelled."
+abbrev pub notCancelled : ℕ
+notCancelled = 20
+
 -- both lists
 abbrev pub refusals : List ℕ
 refusals =
     invalid ∷ unfit ∷ wrongLength ∷ badSymbol ∷ badStarts ∷ uncovered ∷ noPattern ∷ valueTooLarge ∷ disagrees ∷ badPayload ∷ badRecord
-    ∷ jobCancelled ∷ alreadyOpen ∷ notOpen ∷ tableFull ∷ numberZero ∷ []
+    ∷ jobCancelled ∷ alreadyOpen ∷ notOpen ∷ tableFull ∷ numberZero ∷ notCancelled ∷ []
 
 -- An order of refusals, "1 2 3 ..", reads downward: where a test fails the outcome is `else`, and otherwise the next test decides.
 abbrev pub must : {A : Type 0} → Bool → A → A → A

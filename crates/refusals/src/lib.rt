@@ -1,6 +1,6 @@
 // The refusal numbers of documents 01 and 02, one name each. Assumes nothing.
 ghost use mathlib.Core.Path.{_≡_};
-ghost use Rattle.refusals.specs.Refusals.{served, invalid, unfit, wrongLength, badSymbol, badStarts, uncovered, noPattern, valueTooLarge, disagrees, badPayload, badRecord, jobCancelled, alreadyOpen, notOpen, tableFull, numberZero, refusals};
+ghost use Rattle.refusals.specs.Refusals.{served, invalid, unfit, wrongLength, badSymbol, badStarts, uncovered, noPattern, valueTooLarge, disagrees, badPayload, badRecord, jobCancelled, alreadyOpen, notOpen, tableFull, numberZero, notCancelled, refusals};
 
 // The numbers stand under this name; 0 stands for an accepted call.
 pub struct Refusal {}
@@ -42,8 +42,10 @@ impl Refusal {
 
     pub const NUMBER_ZERO: u8 = 17;
 
-    // Both lists, in document 01's order, with document 02's number behind. Its contract ties each name here to that of specs/.
-    pub fn all() -> [u8; 16]
+    pub const NOT_CANCELLED: u8 = 20;
+
+    // Both lists, in document 01's order, with document 02's numbers behind. Its contract ties each name here to that of specs/.
+    pub fn all() -> [u8; 17]
         ensures list { λ r. ⌜ r ≡ refusals ⌝ }
         ensures { λ _. do ⌜ (← ⟦Refusal::NONE⟧ .entry) ≡ served ⌝ }
         ensures { λ _. do ⌜ (← ⟦Refusal::INVALID⟧ .entry) ≡ invalid ⌝ }
@@ -62,6 +64,7 @@ impl Refusal {
         ensures { λ _. do ⌜ (← ⟦Refusal::NOT_OPEN⟧ .entry) ≡ notOpen ⌝ }
         ensures { λ _. do ⌜ (← ⟦Refusal::FULL⟧ .entry) ≡ tableFull ⌝ }
         ensures { λ _. do ⌜ (← ⟦Refusal::NUMBER_ZERO⟧ .entry) ≡ numberZero ⌝ }
+        ensures { λ _. do ⌜ (← ⟦Refusal::NOT_CANCELLED⟧ .entry) ≡ notCancelled ⌝ }
     {
         [
             Refusal::INVALID,
@@ -80,6 +83,7 @@ impl Refusal {
             Refusal::NOT_OPEN,
             Refusal::FULL,
             Refusal::NUMBER_ZERO,
+            Refusal::NOT_CANCELLED,
         ]
     }
 }

@@ -77,8 +77,8 @@ fn patterns(judge: &mut Judge, rng: &mut Rng, long: bool) {
 
 fn finish(judge: &Judge, seed: u64, begun: Instant) -> ExitCode {
     println!("calls by kind, with each answer and how often both sides gave it (seed {seed}):");
-    let complete = judge.summary();
-    let (words, seconds) = (judge.words(), begun.elapsed().as_secs_f64());
+    let complete = judge.tally.summary();
+    let (words, seconds) = (judge.tally.words(), begun.elapsed().as_secs_f64());
     let enough = words >= GATE_WORDS;
     println!(
         "agree: {words} words, {} differences, {seconds:.1} s",

@@ -6,13 +6,13 @@ use borrow.Author.Needs.{needs}
 use borrow.Author.Tests.{not-true, not-false}
 use lib.ListN.{length, drop}
 use Rattle.combinatorics.specs.Lists.{all}
-use Rattle.jobs.specs.Replay.{isLetter}
+use Rattle.jobs.specs.Replay.{isListLetter}
 use Rattle.jobs.proofs.Turns.{all-fails, all-later, all-end}
 use Rattle.jobs.proofs.all_letters.Statement.{statement}
 use Rattle.jobs.proofs.all_letters.Tie as tie
 
 abbrev Inv-loop : tie.InvT-loop
-Inv-loop letters i₀ i = all isLetter (drop i letters) ≡ all isLetter letters
+Inv-loop letters i₀ i = all isListLetter (drop i letters) ≡ all isListLetter letters
 
 abbrev μ-loop : tie.MeasureT-loop
 μ-loop letters i₀ i = length letters - i
@@ -20,16 +20,16 @@ abbrev μ-loop : tie.MeasureT-loop
 loop-holds : tie.Need-loop-holds Inv-loop μ-loop
 loop-holds c = search needs
 
-shared-slice-read-is-letter : tie.Need-shared-slice-read-is-letter Inv-loop μ-loop
-shared-slice-read-is-letter c = search needs
+shared-slice-read-is-list-letter : tie.Need-shared-slice-read-is-list-letter Inv-loop μ-loop
+shared-slice-read-is-list-letter c = search needs
 
-is-letter-requires : tie.Need-is-letter-requires Inv-loop μ-loop
-is-letter-requires c κs = search needs
+is-list-letter-requires : tie.Need-is-list-letter-requires Inv-loop μ-loop
+is-list-letter-requires c κs = search needs
 
 returns : tie.Need-returns Inv-loop μ-loop
 returns c =
     let l = c .before .before .before .before in
-    sym (all-fails isLetter (l .before .before .args .letters .now) (l .loop .i) (omega arith) (sym (c .before .is-letter .ensures) ∙ not-true _ (c .if1 .taken))) ∙ l .loop .inv
+    sym (all-fails isListLetter (l .before .before .args .letters .now) (l .loop .i) (omega arith) (sym (c .before .is-list-letter .ensures) ∙ not-true _ (c .if1 .taken))) ∙ l .loop .inv
 
 add-i : tie.Need-add-i Inv-loop μ-loop
 add-i c = search needs
@@ -40,12 +40,12 @@ loop-less c = search needs
 loop-again : tie.Need-loop-again Inv-loop μ-loop
 loop-again c =
     let l = c .before .before .before .before in
-    sym (all-later isLetter (l .before .before .args .letters .now) (l .loop .i) (omega arith) (sym (c .before .is-letter .ensures) ∙ not-false _ (c .if1 .left))) ∙ l .loop .inv
+    sym (all-later isListLetter (l .before .before .args .letters .now) (l .loop .i) (omega arith) (sym (c .before .is-list-letter .ensures) ∙ not-false _ (c .if1 .left))) ∙ l .loop .inv
 
 returns-2 : tie.Need-returns-2 Inv-loop μ-loop
 returns-2 c =
     let l = c .before in
-    sym (all-end isLetter (l .before .before .args .letters .now) (l .loop .i) (omega arith)) ∙ l .loop .inv
+    sym (all-end isListLetter (l .before .before .args .letters .now) (l .loop .i) (omega arith)) ∙ l .loop .inv
 
 pub all-letters-spec : {M : Type 1} → statement M
 all-letters-spec =
@@ -54,8 +54,8 @@ all-letters-spec =
     Inv-loop
     μ-loop
     loop-holds
-    shared-slice-read-is-letter
-    is-letter-requires
+    shared-slice-read-is-list-letter
+    is-list-letter-requires
     returns
     add-i
     loop-less

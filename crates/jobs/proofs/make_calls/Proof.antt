@@ -20,17 +20,17 @@ loop-holds c =
     let s = c .before .before .before in
     none-made (s .args .letters .now) (s .args .numbers .now) (s .args .answers .now) (entries (s .args .start)) (s .pre)
 
-shared-slice-read-call : tie.Need-shared-slice-read-call Inv-loop μ-loop
-shared-slice-read-call c = search needs
+shared-slice-read-list-call : tie.Need-shared-slice-read-list-call Inv-loop μ-loop
+shared-slice-read-list-call c = search needs
 
-mul-call : tie.Need-mul-call Inv-loop μ-loop
-mul-call c = search needs
+mul-list-call : tie.Need-mul-list-call Inv-loop μ-loop
+mul-list-call c = search needs
 
-shared-slice-read-call-2 : tie.Need-shared-slice-read-call-2 Inv-loop μ-loop
-shared-slice-read-call-2 c = search needs
+shared-slice-read-list-call-2 : tie.Need-shared-slice-read-list-call-2 Inv-loop μ-loop
+shared-slice-read-list-call-2 c = search needs
 
-call-requires : tie.Need-call-requires Inv-loop μ-loop
-call-requires c κs = search needs
+list-call-requires : tie.Need-list-call-requires Inv-loop μ-loop
+list-call-requires c κs = search needs
 
 slice-write-answers : tie.Need-slice-write-answers Inv-loop μ-loop
 slice-write-answers c = search needs
@@ -47,7 +47,7 @@ loop-again c =
     let s = l .before .before .before .before in
     call-made (entries (s .args .start)) (s .args .letters .now) (s .args .numbers .now) (l .loop .answers) (entries (l .loop .table)) (l .loop .i)
     (l .loop .inv) (omega arith) (s .pre .numbers-fit)
-    (c .before .call .result) (c .before .call .ensures)
+    (c .before .list-call .result) (c .before .list-call .ensures)
 
 same-length : tie.Need-same-length Inv-loop μ-loop
 same-length c = search needs
@@ -66,10 +66,10 @@ make-calls-spec =
     Inv-loop
     μ-loop
     loop-holds
-    shared-slice-read-call
-    mul-call
-    shared-slice-read-call-2
-    call-requires
+    shared-slice-read-list-call
+    mul-list-call
+    shared-slice-read-list-call-2
+    list-call-requires
     slice-write-answers
     add-i
     loop-less

@@ -1,16 +1,21 @@
 -- `entry_of` meets its contract. Assumes nothing.
-use Rattle.exports.proofs.TableLaws.{entry-open, entry-cancelled, entry-free}
+use Rattle.exports.proofs.TableLaws.{entry-free}
 use Rattle.exports.proofs.table.entry_of.Statement.{statement}
 use Rattle.exports.proofs.table.entry_of.Tie as tie
 
 returns : tie.Need-returns
-returns c = let a = c .before .args in entry-open (a .state) (a .number) (c .if1 .taken)
+returns c = rw (c .match .keys1)
 
 returns-2 : tie.Need-returns-2
-returns-2 c = let a = c .before .before .args in entry-cancelled (a .state) (a .number) (c .before .if1 .left) (c .if2 .taken)
+returns-2 c = rw (c .match .keys2)
 
 returns-3 : tie.Need-returns-3
-returns-3 c = let a = c .before .before .args in entry-free (a .state) (a .number) (c .before .if1 .left) (c .if2 .left)
+returns-3 c = rw (c .match .keys3)
+
+returns-4 : tie.Need-returns-4
+returns-4 c =
+    let other = c .match .rest in
+    entry-free (c .before .args .state) (c .before .args .number) (other .0 .0 .1) (other .0 .1) (other .1)
 
 pub entry-of-spec : {M : Type 1} → statement M
-entry-of-spec = tie.close (tie.spec returns returns-2 returns-3)
+entry-of-spec = tie.close (tie.spec returns returns-2 returns-3 returns-4)

@@ -1,7 +1,8 @@
 -- `put_entry` meets its contract. Assumes nothing.
 use mathlib.Core.Path.{sym, ap, _∙_}
+use Prim.Native.Nat.{ℕ}
 use borrow.Author.Needs.{needs}
-use Rattle.exports.specs.Table.{entryBytes}
+use Rattle.exports.specs.Table.{slotBytes, entryBytes}
 use Rattle.exports.proofs.table.put_entry.Statement.{statement}
 use Rattle.exports.proofs.table.put_entry.Tie as tie
 
@@ -19,6 +20,9 @@ put-slot-requires-2 c κs = search needs
 
 enum-known-entry-2 : tie.Need-enum-known-entry-2
 enum-known-entry-2 c = search needs
+
+cancelled-state-requires : tie.Need-cancelled-state-requires
+cancelled-state-requires c κs = search needs
 
 put-slot-requires-3 : tie.Need-put-slot-requires-3
 put-slot-requires-3 c κs = search needs
@@ -39,7 +43,12 @@ same-length-3 : tie.Need-same-length-3
 same-length-3 c = search needs
 
 returns-3 : tie.Need-returns-3
-returns-3 c = c .before .before .put-slot3 .ensures ∙ sym (ap entryBytes (c .before .before .before .before .before .entry2 .given .1))
+returns-3 c =
+    let made = c .before .before .before .before in
+    let told = made .before .before .entry2 .given in
+    c .before .before .put-slot3 .ensures
+    ∙ ap (λ (state : ℕ). slotBytes state (told .0 .0)) (made .cancelled-state .ensures)
+    ∙ sym (ap entryBytes (told .1))
 
 pub put-entry-spec : {M : Type 1} → statement M
 put-entry-spec =
@@ -50,6 +59,7 @@ put-entry-spec =
     enum-known-entry
     put-slot-requires-2
     enum-known-entry-2
+    cancelled-state-requires
     put-slot-requires-3
     same-length
     returns

@@ -3,6 +3,7 @@ use mathlib.Core.Path.{refl, _∙_}
 use borrow.Author.Needs.{needs}
 use borrow.Author.Tests.{not-true, not-false}
 use Rattle.jobs.specs.declared.Entry.the-variants.{Cancelled}
+use Rattle.jobs.specs.declared.Before.the-variants.{WasOpen}
 use Rattle.jobs.specs.Table.{cancelAt}
 use Rattle.jobs.specs.Slots.{entries}
 use Rattle.jobs.proofs.Decisions.{Decided, twice-refused, entry-decides, zero-not-cancelled, job-cancelled, put-held}
@@ -68,7 +69,7 @@ returns-4 : tie.Need-returns-4
 returns-4 c =
     let l = c .before .before .before in
     let a = l .before .before .before .args in
-    c .put .ensures ∙ put-held (entries (a .self)) (a .number) (Cancelled (a .number)) (l .lookup .ensures) (c .before .enum-told2 .given .1) refl ∙ decided l _ (c .before .enum-told2 .given .1)
+    c .put .ensures ∙ put-held (entries (a .self)) (a .number) (Cancelled (a .number) WasOpen) (l .lookup .ensures) (c .before .enum-told2 .given .1) refl ∙ decided l _ (c .before .enum-told2 .given .1)
 
 returns-5 : tie.Need-returns-5
 returns-5 c =

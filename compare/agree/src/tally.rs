@@ -1,0 +1,91 @@
+//! What was seen so far: every answer of each kind of call, and the accepted words.
+
+use second::blocks::Layout;
+use second::figures::MAX_RUNS;
+use second::Figures;
+
+use crate::judge::{Op, OPS};
+use crate::sides::Numbers;
+
+pub struct Tally {
+    /// Answers by kind of call.
+    seen: [[u64; 256]; OPS.len()],
+    /// Accepted words, by m and by how many parts have no block that looks F.
+    accepted: [[u64; 3]; MAX_RUNS + 1],
+}
+
+impl Default for Tally {
+    fn default() -> Tally {
+        Tally {
+            seen: [[0; 256]; OPS.len()],
+            accepted: Default::default(),
+        }
+    }
+}
+
+impl Tally {
+    pub fn count(&mut self, op: Op, number: u8) {
+        self.seen[op as usize][number as usize] += 1;
+    }
+
+    pub fn count_accepted(&mut self, f: Numbers, word: &[u8]) {
+        self.accepted[f.2 as usize][parts_without_fixed(f, word)] += 1;
+    }
+
+    /// How many words were written or read, or refused for more than their figures and lengths.
+    pub fn words(&self) -> u64 {
+        let words = [Op::Encode, Op::Decode, Op::JobWrite, Op::JobRead];
+        let judged = |&op: &Op| {
+            let seen = &self.seen[op as usize];
+            seen[0] + seen[4..].iter().sum::<u64>()
+        };
+        words.iter().map(judged).sum()
+    }
+
+    /// Prints a line for each kind of call, and tells whether every answer that it can give was seen.
+    pub fn summary(&self) -> bool {
+        let mut complete = true;
+        for (op, name, possible) in OPS {
+            let seen = &self.seen[op as usize];
+            let shown: Vec<String> = possible
+                .iter()
+                .map(|&number| format!("{number}: {}", seen[number as usize]))
+                .collect();
+            let total: u64 = seen.iter().sum();
+            println!("{name:>12} {total:>9}   {}", shown.join("  "));
+            for &number in possible
+                .iter()
+                .filter(|&&number| seen[number as usize] == 0)
+            {
+                println!("never seen: {name} answering {number}");
+                complete = false;
+            }
+        }
+        complete & self.accepted_summary()
+    }
+
+    /// Prints how often each kind of pattern was accepted, and tells whether all were.
+    fn accepted_summary(&self) -> bool {
+        let mut complete = true;
+        for (m, kinds) in self.accepted.iter().enumerate().skip(1) {
+            let [none, one, two] = kinds;
+            println!("accepted with m {m}, by parts without an F-block: none {none}, one {one}, two {two}");
+            complete &= *one > 0 && *two > 0 && (*none > 0 || m <= 2);
+        }
+        if !complete {
+            println!("never seen: some kind of pattern, accepted");
+        }
+        complete
+    }
+}
+
+/// How many parts of an accepted word have no block that starts with 0.
+fn parts_without_fixed((n, q, m, b): Numbers, word: &[u8]) -> usize {
+    let Ok(f) = Figures::new(n, q, m, b) else {
+        return 0;
+    };
+    let layout = Layout::new(&f);
+    let looks_fixed = |block: usize| word[layout.begin[block] as usize] == 0;
+    let without = |&part: &usize| !(part * f.m..(part + 1) * f.m).any(looks_fixed);
+    (0..f.p).filter(without).count()
+}

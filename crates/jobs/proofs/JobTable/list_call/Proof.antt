@@ -1,0 +1,26 @@
+-- `JobTable::list_call` meets its contract. Assumes nothing.
+use mathlib.Core.Path.{sym, ap, _∙_}
+use mathlib.Core.Option.{Option}
+use borrow.Author.Needs.{needs}
+use Rattle.jobs.specs.Jobs.{Kind}
+use Rattle.jobs.specs.Replay.{listKind, callBy}
+use Rattle.jobs.specs.Slots.{entries}
+use Rattle.jobs.proofs.Turns.{list-kind}
+use Rattle.jobs.proofs.JobTable.list_call.Statement.{statement}
+use Rattle.jobs.proofs.JobTable.list_call.Tie as tie
+
+reinstate-requires : tie.Need-reinstate-requires
+reinstate-requires c κs = search needs
+
+call-requires : tie.Need-call-requires
+call-requires c κs = search needs
+
+returns : tie.Need-returns
+unfolding listKind
+returns c = rw (c .before .match .keys1) (c .reinstate .ensures)
+
+returns-2 : tie.Need-returns-2
+returns-2 c = rw (list-kind _ (c .before .match .rest .1)) (c .call .ensures)
+
+pub list-call-spec : {M : Type 1} → statement M
+list-call-spec = tie.close (tie.spec reinstate-requires call-requires returns returns-2)

@@ -1,0 +1,146 @@
+-- What is left of a number's history once each cancellation followed by its reinstatement is struck out, and that it says what the number is.
+-- Assumes nothing.
+use mathlib.Core.Path.{_≡_, refl, sym, ap, _∙_}
+use mathlib.Core.Bool.{Bool, true, false, cond, _&&_, _||_, true≢false, false≢true}
+use mathlib.Core.List.{List, [], _∷_, _++_}
+use Rattle.combinatorics.specs.Lists.{all}
+use Rattle.combinatorics.proofs.Cases.{by-bool}
+use Rattle.combinatorics.proofs.Lists.{both}
+use Rattle.jobs.specs.Jobs.{Kind, opening, cancelling, finishing, reinstating, Status, unknown, opened, cancelled, needsOpen}
+use Rattle.jobs.specs.Ledger.{after, statusOf, takesBack, strike, whatIsLeft, hasPair, StrikesPairs, newestOf, answerAfter, accepts, lawful, LeftDecides}
+
+-- ---- In any order
+
+-- what can be taken back takes nothing back
+taken-plain : (k j i : Kind) → takesBack k j ≡ true → takesBack j i ≡ false
+taken-plain reinstating cancelling i t = refl
+taken-plain reinstating opening i t = absurd (false≢true t)
+taken-plain reinstating finishing i t = absurd (false≢true t)
+taken-plain reinstating reinstating i t = absurd (false≢true t)
+taken-plain opening j i t = absurd (false≢true t)
+taken-plain cancelling j i t = absurd (false≢true t)
+taken-plain finishing j i t = absurd (false≢true t)
+
+struck : (k j : Kind) (ks : List Kind) → takesBack k j ≡ true → strike k (strike j ks) ≡ ks
+struck k j [] t = rw t
+struck k j (i ∷ ks) t = rw (taken-plain k j i t, t)
+
+any-pair : (newer older : List Kind) (k j : Kind) → takesBack k j ≡ true → whatIsLeft (newer ++ k ∷ j ∷ older) ≡ whatIsLeft (newer ++ older)
+unfolding whatIsLeft
+any-pair [] older k j t = struck k j (whatIsLeft older) t
+any-pair (i ∷ newer) older k j t = ap (strike i) (any-pair newer older k j t)
+
+neither : (a b : Bool) → (a || b) ≡ false → (a ≡ false) × (b ≡ false)
+neither true b p = absurd (true≢false p)
+neither false b p = (refl, p)
+
+no-pair : (ks : List Kind) → hasPair ks ≡ false → whatIsLeft ks ≡ ks
+unfolding whatIsLeft hasPair
+no-pair [] p = refl
+no-pair (k ∷ []) p = refl
+no-pair (k ∷ j ∷ ks) p =
+    let n = neither (takesBack k j) (hasPair (j ∷ ks)) p in
+    ap (strike k) (no-pair (j ∷ ks) (n .1)) ∙ rw (n .0)
+
+rest-pairless : (k : Kind) (ks : List Kind) → hasPair (k ∷ ks) ≡ false → hasPair ks ≡ false
+unfolding hasPair
+rest-pairless k [] p = refl
+rest-pairless k (j ∷ ks) p = neither (takesBack k j) (hasPair (j ∷ ks)) p .1
+
+strike-pairless : (k : Kind) (ks : List Kind) → hasPair ks ≡ false → hasPair (strike k ks) ≡ false
+unfolding hasPair
+strike-pairless k [] p = refl
+strike-pairless k (j ∷ ks) p = by-bool (takesBack k j) (λ t. rw t (rest-pairless j ks p)) (λ t. rw (t, t, p))
+
+none-left : (ks : List Kind) → hasPair (whatIsLeft ks) ≡ false
+unfolding whatIsLeft
+none-left [] = unfold hasPair in refl
+none-left (k ∷ ks) = strike-pairless k (whatIsLeft ks) (none-left ks)
+
+pub strikes-pairs : StrikesPairs
+strikes-pairs = record { any-pair = any-pair; no-pair = no-pair; none-left = none-left }
+
+-- ---- What is left says what the number is
+
+-- a call that takes nothing back
+abbrev plain : Kind → Bool
+plain opening = true
+plain cancelling = true
+plain finishing = true
+plain reinstating = false
+
+-- what is left of the history `ks`
+record Left (ks left : List Kind) : Type 0 where
+  pub plainly : all plain left ≡ true
+  pub accepted : lawful left ≡ true
+  pub same : statusOf left ≡ statusOf ks
+
+-- a call that takes nothing back stays
+kept : (k : Kind) (ks left : List Kind) → plain k ≡ true → accepts k (statusOf ks) ≡ true → strike k left ≡ k ∷ left → Left ks left
+    → Left (k ∷ ks) (strike k left)
+unfolding all lawful statusOf
+kept k ks left p a e l = rw e (record { plainly = rw (p, l .plainly); accepted = rw (l .accepted, l .same, a); same = ap (after k) (l .same) })
+
+-- what a cancelled number was before
+abbrev before : Status → Status
+before (cancelled s) = s
+before unknown = unknown
+before opened = unknown
+
+abbrev isCancelled : Status → Bool
+isCancelled (cancelled s) = true
+isCancelled unknown = false
+isCancelled opened = false
+
+-- a reinstatement goes with the cancellation that is the last of what is left
+reinstated : (ks left : List Kind) (s : Status) → statusOf ks ≡ cancelled s → Left ks left → Left (reinstating ∷ ks) (strike reinstating left)
+unfolding all lawful statusOf
+reinstated ks [] s e l = absurd (false≢true (ap isCancelled (l .same ∙ e)))
+reinstated ks (opening ∷ left) s e l = absurd (false≢true (ap isCancelled (l .same ∙ e)))
+reinstated ks (finishing ∷ left) s e l = absurd (false≢true (ap isCancelled (l .same ∙ e)))
+reinstated ks (reinstating ∷ left) s e l = absurd (false≢true (l .plainly))
+reinstated ks (cancelling ∷ left) s e l =
+    record {
+      plainly = l .plainly;
+      accepted = both (accepts cancelling (statusOf left)) (lawful left) (l .accepted) .1;
+      same = rw e (ap before (l .same ∙ e));
+    }
+
+strike-plain : (k : Kind) (left : List Kind) → plain k ≡ true → strike k left ≡ k ∷ left
+strike-plain k [] p = refl
+strike-plain opening (j ∷ left) p = refl
+strike-plain cancelling (j ∷ left) p = refl
+strike-plain finishing (j ∷ left) p = refl
+strike-plain reinstating (j ∷ left) p = absurd (false≢true p)
+
+by-status : (ks left : List Kind) (s : Status) → statusOf ks ≡ s → accepts reinstating s ≡ true → Left ks left
+    → Left (reinstating ∷ ks) (strike reinstating left)
+by-status ks left (cancelled s) e a l = reinstated ks left s e l
+by-status ks left unknown e a l = absurd (false≢true a)
+by-status ks left opened e a l = absurd (false≢true a)
+
+is-left : (ks : List Kind) → lawful ks ≡ true → Left ks (whatIsLeft ks)
+unfolding whatIsLeft lawful
+is-left [] a = record { plainly = unfold all in refl; accepted = refl; same = refl }
+is-left (k ∷ ks) a =
+    let b = both (accepts k (statusOf ks)) (lawful ks) a in
+    by-kind k (b .0) (is-left ks (b .1))
+  where
+    by-kind : (k : Kind) → accepts k (statusOf ks) ≡ true → Left ks (whatIsLeft ks) → Left (k ∷ ks) (strike k (whatIsLeft ks))
+    by-kind opening a l = kept opening ks (whatIsLeft ks) refl a (strike-plain opening (whatIsLeft ks) refl) l
+    by-kind cancelling a l = kept cancelling ks (whatIsLeft ks) refl a (strike-plain cancelling (whatIsLeft ks) refl) l
+    by-kind finishing a l = kept finishing ks (whatIsLeft ks) refl a (strike-plain finishing (whatIsLeft ks) refl) l
+    by-kind reinstating a l = by-status ks (whatIsLeft ks) (statusOf ks) refl a l
+
+last-answers : (left : List Kind) → all plain left ≡ true → needsOpen (statusOf left) ≡ answerAfter (newestOf left)
+unfolding all statusOf
+last-answers [] p = refl
+last-answers (opening ∷ left) p = refl
+last-answers (cancelling ∷ left) p = refl
+last-answers (finishing ∷ left) p = refl
+last-answers (reinstating ∷ left) p = absurd (false≢true p)
+
+pub left-decides : LeftDecides
+left-decides ks a =
+    let l = is-left ks a in
+    record { accepted = l .accepted; same = l .same; answers = ap needsOpen (sym (l .same)) ∙ last-answers (whatIsLeft ks) (l .plainly) }

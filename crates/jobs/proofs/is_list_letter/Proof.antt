@@ -1,0 +1,20 @@
+-- `is_list_letter` meets its contract. Assumes nothing.
+use mathlib.Core.Path.{sym, ap, _∙_}
+use borrow.Author.Needs.{needs}
+use Rattle.jobs.specs.Replay.{listKind, known}
+use Rattle.jobs.proofs.Turns.{list-kind}
+use Rattle.jobs.proofs.is_list_letter.Statement.{statement}
+use Rattle.jobs.proofs.is_list_letter.Tie as tie
+
+is-letter-requires : tie.Need-is-letter-requires
+is-letter-requires c κs = search needs
+
+returns : tie.Need-returns
+unfolding listKind
+returns c = rw (c .match .keys1)
+
+returns-2 : tie.Need-returns-2
+returns-2 c = c .is-letter .ensures ∙ sym (ap known (list-kind _ (c .before .match .rest .1)))
+
+pub is-list-letter-spec : {M : Type 1} → statement M
+is-list-letter-spec = tie.close (tie.spec is-letter-requires returns returns-2)
