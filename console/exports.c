@@ -190,6 +190,25 @@ static void calls(void)
     CALL("2 reinstated: open", 'I', 2, BURGZEMI_SERVED);
     CALL("2 reinstated again", 'I', 2, BURGZEMI_NOT_CANCELLED);
     CALL("2 opened, which is open again", 'O', 2, BURGZEMI_ALREADY_OPEN);
+    CALL("2 released, which is open", 'U', 2, BURGZEMI_NOT_HELD);
+    CALL("66 held, which is unknown", 'H', 66, BURGZEMI_NOT_OPEN);
+    CALL("66 released, which is unknown", 'U', 66, BURGZEMI_NOT_HELD);
+    set_slot(expected, 1, 4, 2);
+    CALL("2 held", 'H', 2, BURGZEMI_SERVED);
+    CALL("2 held again", 'H', 2, BURGZEMI_HELD);
+    CALL("2 finished, which is on hold", 'F', 2, BURGZEMI_HELD);
+    CALL("2 opened, which is on hold", 'O', 2, BURGZEMI_ALREADY_OPEN);
+    CALL("2 reinstated, which is on hold", 'I', 2, BURGZEMI_NOT_CANCELLED);
+    CALL("66 opened, with 63 open and one on hold", 'O', 66, BURGZEMI_FULL);
+    set_slot(expected, 1, 5, 2);
+    CALL("2 cancelled, which is on hold", 'C', 2, BURGZEMI_SERVED);
+    CALL("2 held, which is cancelled", 'H', 2, BURGZEMI_CANCELLED);
+    CALL("2 released, which is cancelled", 'U', 2, BURGZEMI_CANCELLED);
+    set_slot(expected, 1, 4, 2);
+    CALL("2 reinstated: on hold", 'I', 2, BURGZEMI_SERVED);
+    set_slot(expected, 1, 1, 2);
+    CALL("2 released: open", 'U', 2, BURGZEMI_SERVED);
+    CALL("2 released again", 'U', 2, BURGZEMI_NOT_HELD);
 
     memset(table, 0, sizeof table);
     memset(expected, 0, sizeof expected);
@@ -208,17 +227,19 @@ static void calls(void)
     set_slot(expected, 63, 1, 9);
     CALL("9 in two slots", 'O', 10, BURGZEMI_INVALID);
     CALL("9 in two slots", 'I', 10, BURGZEMI_INVALID);
-    set_slot(table, 63, 4, 10);
-    set_slot(expected, 63, 4, 10);
-    CALL("a state of 4", 'O', 10, BURGZEMI_INVALID);
-    CALL("a state of 4", 'I', 10, BURGZEMI_INVALID);
-    CALL("a state of 4 and no letter", 'X', 10, BURGZEMI_RECORD);
+    CALL("9 in two slots", 'H', 10, BURGZEMI_INVALID);
+    CALL("9 in two slots", 'U', 10, BURGZEMI_INVALID);
+    set_slot(table, 63, 6, 10);
+    set_slot(expected, 63, 6, 10);
+    CALL("a state of 6", 'O', 10, BURGZEMI_INVALID);
+    CALL("a state of 6", 'I', 10, BURGZEMI_INVALID);
+    CALL("a state of 6 and no letter", 'X', 10, BURGZEMI_RECORD);
 #undef CALL
     see("a byte short", burgzemi_call(table, sizeof table - 1, 'X', 10), BURGZEMI_LENGTH, table, expected, sizeof table);
     see("no table", burgzemi_call(table, 0, 'O', 10), BURGZEMI_LENGTH, table, expected, sizeof table);
 }
 
-/* Number 0 alone, in the first slot, two between and the last: open, cancelled, finished, reinstated; and what is read and written of it. */
+/* Number 0 alone, in the first slot, two between and the last: open, cancelled, finished, reinstated, held; and what is read and written of it. */
 static void number_zero(void)
 {
     static const uint8_t payload0[11] = {0, 0, 0, 0, 0x41}, starts[2] = {0, 6};
@@ -238,6 +259,8 @@ static void number_zero(void)
         CALL("an unknown 0 cancelled", 'C', BURGZEMI_NUMBER_ZERO);
         CALL("an unknown 0 finished", 'F', BURGZEMI_NOT_OPEN);
         CALL("an unknown 0 reinstated", 'I', BURGZEMI_NOT_CANCELLED);
+        CALL("an unknown 0 held", 'H', BURGZEMI_NOT_OPEN);
+        CALL("an unknown 0 released", 'U', BURGZEMI_NOT_HELD);
         set_slot(table, at, 2, 0);
         set_slot(expected, at, 2, 0);
         WRITE("a cancelled 0 written", BURGZEMI_NUMBER_ZERO);
@@ -253,6 +276,19 @@ static void number_zero(void)
         WRITE("an open 0 written", BURGZEMI_NUMBER_ZERO);
         READ("an open 0 read", BURGZEMI_SERVED, payload0);
         CALL("an open 0 opened", 'O', BURGZEMI_NUMBER_ZERO);
+        memcpy(payload, untouched, sizeof payload);
+        set_slot(expected, at, 4, 0);
+        CALL("an open 0 held", 'H', BURGZEMI_SERVED);
+        WRITE("a 0 on hold written", BURGZEMI_NUMBER_ZERO);
+        READ("a 0 on hold read", BURGZEMI_HELD, untouched);
+        CALL("a 0 on hold opened", 'O', BURGZEMI_NUMBER_ZERO);
+        CALL("a 0 on hold finished", 'F', BURGZEMI_HELD);
+        set_slot(expected, at, 5, 0);
+        CALL("a 0 on hold cancelled", 'C', BURGZEMI_SERVED);
+        set_slot(expected, at, 4, 0);
+        CALL("a 0 reinstated that was on hold", 'I', BURGZEMI_SERVED);
+        set_slot(expected, at, 1, 0);
+        CALL("a 0 released", 'U', BURGZEMI_SERVED);
         memcpy(expected, none, sizeof none);
         CALL("an open 0 finished", 'F', BURGZEMI_SERVED);
         set_slot(table, at, 3, 0);
@@ -315,12 +351,12 @@ static void transfer_example(void)
     memset(word, 1, sizeof word);
     read7("no pattern", BURGZEMI_PATTERN, 256, 2, empty, len, word, 15, 11);
 
-    /* A state of 4 is 1, but not in a table of another length. */
+    /* A state of 6 is 1, but not in a table of another length. */
     uint8_t unknown[BURGZEMI_TABLE_LEN];
     memcpy(unknown, table, len);
-    unknown[315] = 4;
-    write7("a state of 4, written", BURGZEMI_INVALID, 256, 9, unknown, len, 14, 1, 4, 14);
-    read7("a state of 4, read", BURGZEMI_INVALID, 256, 9, unknown, len, word, 14, 10);
+    unknown[315] = 6;
+    write7("a state of 6, written", BURGZEMI_INVALID, 256, 9, unknown, len, 14, 1, 4, 14);
+    read7("a state of 6, read", BURGZEMI_INVALID, 256, 9, unknown, len, word, 14, 10);
     memcpy(unknown, table, len);
     set_slot(unknown, 40, 2, 7);
     write7("7 in two slots, written", BURGZEMI_INVALID, 256, 9, unknown, len, 14, 1, 4, 14);
@@ -338,6 +374,14 @@ static void transfer_example(void)
         wrong = 1;
     write7("job 7 reinstated, written", BURGZEMI_SERVED, 256, 2, table, len, 6, 2, 11, 15);
     read7("job 7 reinstated, read", BURGZEMI_SERVED, 256, 2, table, len, found7, 15, 11);
+    if (burgzemi_call(table, len, 'H', 7) != BURGZEMI_SERVED)
+        wrong = 1;
+    write7("job 7 on hold, written", BURGZEMI_HELD, 256, 2, table, len, 6, 2, 11, 15);
+    read7("job 7 on hold, read", BURGZEMI_HELD, 256, 2, table, len, found7, 15, 11);
+    if (burgzemi_call(table, len, 'U', 7) != BURGZEMI_SERVED)
+        wrong = 1;
+    write7("job 7 released, written", BURGZEMI_SERVED, 256, 2, table, len, 6, 2, 11, 15);
+    read7("job 7 released, read", BURGZEMI_SERVED, 256, 2, table, len, found7, 15, 11);
     set_slot(table, 0, 3, 7);
     write7("job 7 cancelled and never open, written", BURGZEMI_CANCELLED, 256, 2, table, len, 6, 2, 11, 15);
     read7("job 7 cancelled and never open, read", BURGZEMI_CANCELLED, 256, 2, table, len, found7, 15, 11);

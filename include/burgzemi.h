@@ -26,14 +26,16 @@ enum burgzemi_answer {
     BURGZEMI_VALUE = 8,        /* the value at the heads of the index blocks is no rank */
     BURGZEMI_DISAGREES = 9,    /* the placement of that rank has other index blocks, or a fixed block that doesn't start with 0 */
     BURGZEMI_PAYLOAD = 10,     /* no room for a job, a byte's symbols that spell 256 or more, or a leftover symbol other than 0 */
-    BURGZEMI_RECORD = 11,      /* a record unreadable or one too many, or a call's letter that is none of O, C, F, I */
+    BURGZEMI_RECORD = 11,      /* a record unreadable or one too many, or a call's letter that is none of O, C, F, I, H, U */
     /* from the state of the job table */
     BURGZEMI_CANCELLED = 12,   /* the job number is cancelled */
     BURGZEMI_ALREADY_OPEN = 13,
     BURGZEMI_NOT_OPEN = 14,
     BURGZEMI_FULL = 15,        /* 64 numbers are held and a new one is needed */
     BURGZEMI_NUMBER_ZERO = 17, /* job number 0 is no job: opened, written, or cancelled where the table doesn't hold it */
-    BURGZEMI_NOT_CANCELLED = 20 /* the job number that is reinstated is not cancelled */
+    BURGZEMI_NOT_CANCELLED = 20, /* the job number that is reinstated is not cancelled */
+    BURGZEMI_HELD = 23,        /* the job is on hold: not read, written, finished or held again before it is released */
+    BURGZEMI_NOT_HELD = 24     /* the job number that is released is not on hold */
 };
 
 /*
@@ -49,8 +51,8 @@ enum burgzemi_answer {
 
 /*
  * The bytes of a job table: 64 slots of 5, a state and the job number, high byte first. The states: 0 free, 1 open, 2 cancelled and before that open,
- * 3 cancelled and before that not in the table. All 0 is the empty table. A table kept from before there was a 3 has 2 for every cancelled number: each of
- * them counts as one that was open.
+ * 3 cancelled and before that not in the table, 4 on hold, 5 cancelled and before that on hold. All 0 is the empty table. A table kept from before there was
+ * a 3 has 2 for every cancelled number: each of them counts as one that was open.
  */
 #define BURGZEMI_TABLE_SLOTS 64
 #define BURGZEMI_TABLE_LEN 320
@@ -111,13 +113,15 @@ uint8_t burgzemi_cover(uint32_t n, uint32_t q, uint32_t m, uint32_t b,
 
 /*
  * Makes a call on the job table, which then holds what it has afterwards: letter 'O' opens the number, 'C' cancels it, 'F' finishes it, 'I' reinstates
- * it: a cancelled number is again what it was before its cancellation, open, or not in the table and its slot free. An accepted call leaves 0 in the
- * number bytes of every free slot. Number 0 is no job. A table from before that rule may hold it, open or cancelled: it can then be finished, cancelled
- * or reinstated as any other.
+ * it, 'H' puts it on hold, 'U' releases it. A reinstated number is again what it was before its cancellation: open, on hold, or not in the table and its
+ * slot free. A number on hold takes its slot as an open one does, and is open again once it is released. An accepted call leaves 0 in the number bytes of
+ * every free slot. Number 0 is no job. A table from before that rule may hold it, open or cancelled: it can then be finished, cancelled, reinstated, held
+ * or released as any other.
  *
- * Refusals: 3 where table_len is not BURGZEMI_TABLE_LEN; 11 for another letter; 1 for a state above 3 or one number in two slots that aren't free; then
- * 17 12 13 15 for opening, where 17 is for every opening of 0; 17 12 15 for cancelling, where 17 is for a 0 that the table doesn't hold; 12 14 for
- * finishing; 20 for reinstating a number that is not cancelled.
+ * Refusals: 3 where table_len is not BURGZEMI_TABLE_LEN; 11 for another letter; 1 for a state above 5 or one number in two slots that aren't free; then
+ * 17 12 13 15 for opening, where 17 is for every opening of 0 and 13 for a number on hold too; 17 12 15 for cancelling, where 17 is for a 0 that the table
+ * doesn't hold; 12 23 14 for finishing; 20 for reinstating a number that is not cancelled; 12 23 14 for holding; 12 24 for releasing, where 24 is for an
+ * open number and for one that the table doesn't hold.
  */
 uint8_t burgzemi_call(uint8_t *table, size_t table_len, uint8_t letter, uint32_t number);
 
@@ -127,7 +131,7 @@ uint8_t burgzemi_call(uint8_t *table, size_t table_len, uint8_t letter, uint32_t
  *
  * Refusals: 1 for the figures and for the slots of a table of BURGZEMI_TABLE_LEN bytes, as above; 2 for the figures; 10 where K is below 5; 3 where
  * table_len is not BURGZEMI_TABLE_LEN, starts_len not 2 * m, payload_len not K or word_len not n; 5 for the starts; 17 for
- * number 0, open or not; 12 and 14 for the job.
+ * number 0, open or not; 12, 23 and 14 for the job.
  */
 uint8_t burgzemi_job_write(uint32_t n, uint32_t q, uint32_t m, uint32_t b,
                            const uint8_t *table, size_t table_len,
@@ -140,7 +144,7 @@ uint8_t burgzemi_job_write(uint32_t n, uint32_t q, uint32_t m, uint32_t b,
  * read too.
  *
  * Refusals: 1, 2 and 10 as for writing; 3 where table_len is not BURGZEMI_TABLE_LEN, word_len not n or payload_len not K; 4 7 8 9 for the word; 10 for
- * a message that spells no payload; 12 and 14 for the job.
+ * a message that spells no payload; 12, 23 and 14 for the job.
  */
 uint8_t burgzemi_job_read(uint32_t n, uint32_t q, uint32_t m, uint32_t b,
                           const uint8_t *table, size_t table_len,

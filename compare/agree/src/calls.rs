@@ -6,9 +6,9 @@ use crate::rng::Rng;
 pub const TABLE: usize = 320;
 const SLOT: usize = 5;
 /// The largest state of a slot.
-const STATES: u64 = 3;
+const STATES: u64 = 5;
 /// The letters of the calls.
-const LETTERS: &[u8] = b"OCFI";
+const LETTERS: &[u8] = b"OCFIHU";
 
 /// A number from a pool that makes repeated numbers likely.
 pub fn number(rng: &mut Rng, pool: u64) -> u32 {
@@ -18,7 +18,7 @@ pub fn number(rng: &mut Rng, pool: u64) -> u32 {
     }
 }
 
-/// A table that is a book: places free or taken at will, with bytes left behind in free places.
+/// A table that is a book: places free or taken at will, many of these open, with bytes left behind in free places.
 pub fn table(rng: &mut Rng) -> Vec<u8> {
     let mut table = vec![0; TABLE];
     let taken = rng.pick(&[0, 1, 5, 32, 60, 63, 64, 64]);
@@ -26,7 +26,7 @@ pub fn table(rng: &mut Rng) -> Vec<u8> {
     let shift = rng.index(64);
     for (i, slot) in table.chunks_exact_mut(SLOT).enumerate() {
         if rng.below(64) < taken {
-            slot[0] = rng.between(1, STATES) as u8;
+            slot[0] = rng.pick(&[1, 1, 1, 2, 3, 4, 4, 5]);
             slot[1..].copy_from_slice(&((i + shift) as u32 % 64 * step).to_be_bytes());
         } else if rng.once_in(4) {
             slot[1..].copy_from_slice(&number(rng, 64).to_be_bytes());
@@ -56,17 +56,17 @@ pub fn bad_table(rng: &mut Rng) -> Vec<u8> {
 }
 
 fn letter(rng: &mut Rng) -> u8 {
-    rng.pick(b"OOOOCCFFFII")
+    rng.pick(b"OOOOOOCCFFIIHHHUU")
 }
 
-/// The tables that demand 3's list starts from: the empty one, or 0 alone in any slot, open or cancelled.
+/// The tables that demand 3's list starts from: the empty one, or 0 alone in any slot, open or cancelled; here held too.
 pub fn start(rng: &mut Rng) -> Vec<u8> {
     let mut table = vec![0; TABLE];
     table[rng.index(64) * SLOT] = rng.between(0, STATES) as u8;
     table
 }
 
-/// A list of calls on one table, from each kind of start, and from a table made at will.
+/// A list of calls of every kind on one table, from each kind of start, and from a table made at will.
 pub fn list(judge: &mut Judge, rng: &mut Rng) {
     let mut table = if rng.once_in(4) {
         table(rng)
@@ -78,19 +78,22 @@ pub fn list(judge: &mut Judge, rng: &mut Rng) {
         let number = number(rng, pool);
         let letter = letter(rng);
         let after = judge.call(&table, letter, number);
-        if letter == b'C' && after.number == 0 {
-            there_and_back(judge, &table, &after.out, number);
+        match letter {
+            b'C' if after.number == 0 => back(judge, b'I', &table, &after.out, number),
+            b'H' if after.number == 0 => back(judge, b'U', &table, &after.out, number),
+            _ => {}
         }
         table = after.out;
     }
 }
 
-/// Reinstating what was just cancelled gives the table before, but for the bytes left behind in free slots.
-fn there_and_back(judge: &mut Judge, before: &[u8], cancelled: &[u8], number: u32) {
-    let back = judge.call(cancelled, b'I', number);
-    let right = back.number == 0 && back.out == tidy(before);
-    let inputs = || format!("table {} number {number}", hex(before));
-    judge.expect(Op::Reinstate, right, &inputs, "not the table before");
+/// Reinstating what was just cancelled, or releasing what was just held, gives the table before, but for the bytes left behind in free slots.
+fn back(judge: &mut Judge, letter: u8, before: &[u8], table: &[u8], number: u32) {
+    let after = judge.call(table, letter, number);
+    let right = after.number == 0 && after.out == tidy(before);
+    let inputs = || format!("table {} letter {letter} number {number}", hex(before));
+    let op = Op::of_letter(letter);
+    judge.expect(op, right, &inputs, "not the table before");
 }
 
 /// A table with 0 in the number bytes of every free slot.

@@ -87,7 +87,8 @@ fn zero(judge: &mut Judge, rng: &mut Rng, f: &Figures, starts: &[u16]) {
     let read = judge.job_read(numbers(f), &table, &word, payload.len());
     let right = match table.chunks_exact(5).map(|slot| slot[0]).max() {
         Some(1) => read.number == 0 && read.out == payload,
-        Some(2 | 3) => read.number == 12,
+        Some(2 | 3 | 5) => read.number == 12,
+        Some(4) => read.number == 23,
         _ => read.number == 14,
     };
     judge.expect(Op::JobRead, right, &inputs, "not what the table says of 0");

@@ -19,27 +19,50 @@ pub enum Op {
     Cancel,
     Finish,
     Reinstate,
+    Hold,
+    Release,
     OtherLetter,
     JobWrite,
     JobRead,
 }
 
+impl Op {
+    /// The call on a table that a letter asks for.
+    pub fn of_letter(letter: u8) -> Op {
+        match letter {
+            b'O' => Op::Open,
+            b'C' => Op::Cancel,
+            b'F' => Op::Finish,
+            b'I' => Op::Reinstate,
+            b'H' => Op::Hold,
+            b'U' => Op::Release,
+            _ => Op::OtherLetter,
+        }
+    }
+}
+
 /// Each kind of call, its name, and the answers that it can give, each of which a gate run must see.
-pub const OPS: [(Op, &str, &[u8]); 11] = [
+pub const OPS: [(Op, &str, &[u8]); 13] = [
     (Op::Figures, "figures", &[0, 1, 2]),
     (Op::Encode, "word write", &[0, 1, 2, 3, 4, 5]),
     (Op::Decode, "word read", &[0, 1, 2, 3, 4, 7, 8, 9]),
     (Op::Cover, "covering", &[0, 1, 2, 3, 4, 6]),
     (Op::Open, "open", &[0, 1, 3, 12, 13, 15, 17]),
     (Op::Cancel, "cancel", &[0, 1, 3, 12, 15, 17]),
-    (Op::Finish, "finish", &[0, 1, 3, 12, 14]),
+    (Op::Finish, "finish", &[0, 1, 3, 12, 14, 23]),
     (Op::Reinstate, "reinstate", &[0, 1, 3, 20]),
+    (Op::Hold, "hold", &[0, 1, 3, 12, 14, 23]),
+    (Op::Release, "release", &[0, 1, 3, 12, 24]),
     (Op::OtherLetter, "other letter", &[3, 11]),
-    (Op::JobWrite, "job write", &[0, 1, 2, 3, 5, 10, 12, 14, 17]),
+    (
+        Op::JobWrite,
+        "job write",
+        &[0, 1, 2, 3, 5, 10, 12, 14, 17, 23],
+    ),
     (
         Op::JobRead,
         "job read",
-        &[0, 1, 2, 3, 4, 7, 8, 9, 10, 12, 14],
+        &[0, 1, 2, 3, 4, 7, 8, 9, 10, 12, 14, 23],
     ),
 ];
 
@@ -181,16 +204,9 @@ impl Judge {
 
     /// The table afterwards comes as `out`.
     pub fn call(&mut self, table: &[u8], letter: u8, number: u32) -> Answer {
-        let op = match letter {
-            b'O' => Op::Open,
-            b'C' => Op::Cancel,
-            b'F' => Op::Finish,
-            b'I' => Op::Reinstate,
-            _ => Op::OtherLetter,
-        };
         let inputs = || format!("table {} letter {letter} number {number}", hex(table));
         self.both(
-            op,
+            Op::of_letter(letter),
             Lent::holding(table),
             Lent::new(0),
             &inputs,

@@ -1,5 +1,5 @@
 //! Document 01's bench strips that aren't starred, with the answers that the paper gives, figures at the limits of
-//! document 02's change request 11, and calls on number 0, its change requests 3 and 7.
+//! document 02's change request 11, and calls on number 0, its change requests 3, 7 and 10.
 
 use crate::judge::{Judge, Op};
 use crate::sides::Numbers;
@@ -131,22 +131,24 @@ fn zero(judge: &mut Judge) {
     for (i, slot) in full.chunks_exact_mut(5).enumerate() {
         slot.copy_from_slice(&[1, 0, 0, 0, i as u8 + 1]);
     }
-    let mut answers = |table: &[u8], wanted: [u8; 4]| {
-        for (letter, number) in b"OCFI".iter().zip(wanted) {
+    let mut answers = |table: &[u8], wanted: [u8; 6]| {
+        for (letter, number) in b"OCFIHU".iter().zip(wanted) {
             let answer = judge.call(table, *letter, 0).number;
             let what = format!("letter {letter} on number 0 is {number}");
             is(judge, Op::Open, &what, answer == number);
         }
     };
-    answers(&[0; 320], [17, 17, 14, 20]);
-    answers(&full, [17, 17, 14, 20]);
+    answers(&[0; 320], [17, 17, 14, 20, 14, 24]);
+    answers(&full, [17, 17, 14, 20, 14, 24]);
     for slot in 0..64 {
         let mut alone = [0; 320];
         alone[5 * slot] = 1;
-        answers(&alone, [17, 0, 0, 20]);
-        for cancelled in [2, 3] {
+        answers(&alone, [17, 0, 0, 20, 0, 24]);
+        for cancelled in [2, 3, 5] {
             alone[5 * slot] = cancelled;
-            answers(&alone, [17, 12, 12, 0]);
+            answers(&alone, [17, 12, 12, 0, 12, 12]);
         }
+        alone[5 * slot] = 4;
+        answers(&alone, [17, 0, 23, 20, 23, 0]);
     }
 }

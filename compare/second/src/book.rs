@@ -1,4 +1,4 @@
-//! The book of 64 places, each free or holding a job number that is open or cancelled. A cancelled one remembers what it was, for its reinstatement.
+//! The book of 64 places, each free or with a job number that is open, held or cancelled. A cancelled one remembers what it was, for its reinstatement.
 //! Number 0 is no job: it can't be opened or written, and it is in a book only where it was opened or cancelled before that rule.
 
 pub const PLACES: usize = 64;
@@ -11,12 +11,14 @@ const NO_JOB: u32 = 0;
 pub enum Former {
     Absent,
     Open,
+    Held,
 }
 
 #[derive(Clone, Copy, Debug, PartialEq, Eq)]
 pub enum Place {
     Free,
     Open(u32),
+    Held(u32),
     Cancelled(u32, Former),
 }
 
@@ -24,7 +26,7 @@ impl Place {
     fn number(self) -> Option<u32> {
         match self {
             Place::Free => None,
-            Place::Open(number) | Place::Cancelled(number, _) => Some(number),
+            Place::Open(number) | Place::Held(number) | Place::Cancelled(number, _) => Some(number),
         }
     }
 }
@@ -99,26 +101,53 @@ impl Book {
 
     /// Refusals 17, for a 0 that isn't here, 12 15.
     pub fn cancel(&mut self, number: u32) -> u8 {
-        match self.find_mut(number) {
-            None if number == NO_JOB => 17,
-            Some(Place::Cancelled(..)) => 12,
-            Some(place) => {
-                *place = Place::Cancelled(number, Former::Open);
-                0
-            }
-            None => self.add(Place::Cancelled(number, Former::Absent)),
-        }
+        let Some(place) = self.find_mut(number) else {
+            return match number {
+                NO_JOB => 17,
+                _ => self.add(Place::Cancelled(number, Former::Absent)),
+            };
+        };
+        let former = match place {
+            Place::Cancelled(..) => return 12,
+            Place::Held(_) => Former::Held,
+            _ => Former::Open,
+        };
+        *place = Place::Cancelled(number, former);
+        0
     }
 
-    /// Refusals 12 14, for 0 too.
+    /// Refusals 12 23 14, for 0 too.
     pub fn finish(&mut self, number: u32) -> u8 {
+        self.leave_open(number, Place::Free)
+    }
+
+    /// Refusals 12 23 14, for 0 too.
+    pub fn hold(&mut self, number: u32) -> u8 {
+        self.leave_open(number, Place::Held(number))
+    }
+
+    /// Makes an open number's place another. Refusals 12 23 14.
+    fn leave_open(&mut self, number: u32, after: Place) -> u8 {
         match self.find_mut(number) {
             Some(Place::Cancelled(..)) => 12,
+            Some(Place::Held(_)) => 23,
             Some(place) => {
-                *place = Place::Free;
+                *place = after;
                 0
             }
             None => 14,
+        }
+    }
+
+    /// Makes a held number open again. Refusals 12 24, for 0 too.
+    pub fn release(&mut self, number: u32) -> u8 {
+        match self.find_mut(number) {
+            Some(Place::Cancelled(..)) => 12,
+            Some(place @ Place::Held(_)) => {
+                *place = Place::Open(number);
+                0
+            }
+            _ => 24,
         }
     }
 
@@ -133,6 +162,7 @@ impl Book {
         *place = match former {
             Former::Absent => Place::Free,
             Former::Open => Place::Open(number),
+            Former::Held => Place::Held(number),
         };
         0
     }
@@ -145,11 +175,12 @@ impl Book {
         self.require_open(number)
     }
 
-    /// What reading a job asks: 12 where it is cancelled, 14 where it isn't open.
+    /// What reading a job asks: 12 where it is cancelled, 23 where it is held, 14 where it isn't open.
     pub fn require_open(&self, number: u32) -> Result<(), u8> {
         match self.find(number) {
             Some(Place::Open(_)) => Ok(()),
             Some(Place::Cancelled(..)) => Err(12),
+            Some(Place::Held(_)) => Err(23),
             _ => Err(14),
         }
     }

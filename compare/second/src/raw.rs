@@ -1,6 +1,6 @@
 //! The same calls on plain numbers and bytes, as a C program makes them: starts are 2 bytes each, high byte first, and a
 //! book is a table of 64 slots of 5 bytes, the state and the number, high byte first. States: 0 free, 1 open, 2 cancelled and
-//! was open, 3 cancelled and was absent.
+//! was open, 3 cancelled and was absent, 4 held, 5 cancelled and was held.
 
 use crate::book::{Book, Former, Place, PLACES};
 use crate::figures::{Figures, MAX_RUNS};
@@ -45,6 +45,8 @@ fn book_of(table: &[u8]) -> Option<Result<Book, u8>> {
             1 => Place::Open(number),
             2 => Place::Cancelled(number, Former::Open),
             3 => Place::Cancelled(number, Former::Absent),
+            4 => Place::Held(number),
+            5 => Place::Cancelled(number, Former::Held),
             _ => return Some(Err(1)),
         };
     }
@@ -58,6 +60,8 @@ fn put_book(book: &Book, table: &mut [u8]) {
             Place::Open(number) => (1, number),
             Place::Cancelled(number, Former::Open) => (2, number),
             Place::Cancelled(number, Former::Absent) => (3, number),
+            Place::Held(number) => (4, number),
+            Place::Cancelled(number, Former::Held) => (5, number),
         };
         slot[0] = state;
         slot[1..].copy_from_slice(&number.to_be_bytes());
@@ -116,7 +120,8 @@ pub fn cover(numbers: Numbers, map: &[u8], starts: &mut [u8]) -> u8 {
     }
 }
 
-/// Opens (O), cancels (C), finishes (F) or reinstates (I) a number. Refusals 3, 11 for another letter, 1, then the call's own.
+/// Opens (O), cancels (C), finishes (F), reinstates (I), holds (H) or releases (U) a number. Refusals 3, 11 for another letter,
+/// 1, then the call's own.
 pub fn call(table: &mut [u8], letter: u8, number: u32) -> u8 {
     let Some(judged) = book_of(table) else {
         return 3;
@@ -126,6 +131,8 @@ pub fn call(table: &mut [u8], letter: u8, number: u32) -> u8 {
         b'C' => Book::cancel,
         b'F' => Book::finish,
         b'I' => Book::reinstate,
+        b'H' => Book::hold,
+        b'U' => Book::release,
         _ => return 11,
     };
     let mut book = match judged {

@@ -59,6 +59,8 @@ fn a_zero_is_counted() {
         Place::Open(0),
         Place::Cancelled(0, Former::Open),
         Place::Cancelled(0, Former::Absent),
+        Place::Cancelled(0, Former::Held),
+        Place::Held(0),
     ] {
         let mut book = alone(40, zero);
         assert!((1..=63).all(|number| book.open(number) == 0));

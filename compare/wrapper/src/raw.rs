@@ -82,7 +82,7 @@ pub fn cover((n, q, m, b): Numbers, map: &[u8], starts: &mut [u8]) -> u8 {
     unsafe { c::burgzemi_cover(n, q, m, b, map.as_ptr(), map.len(), s, t) }
 }
 
-/// Opens (O), cancels (C), finishes (F) or reinstates (I) a number in a table.
+/// Opens (O), cancels (C), finishes (F), reinstates (I), holds (H) or releases (U) a number in a table.
 pub fn call(table: &mut [u8], letter: u8, number: u32) -> u8 {
     // SAFETY: the pointer is the slice's own, never null, with its length, and lent alone.
     unsafe { c::burgzemi_call(table.as_mut_ptr(), table.len(), letter, number) }

@@ -2,11 +2,11 @@
 
 use std::fmt;
 
-/// The number of a refusal: 1 to 15, 17 or 20.
+/// The number of a refusal: 1 to 15, 17, 20, 23 or 24.
 #[derive(Clone, Copy, PartialEq, Eq, Hash, Debug)]
 pub struct Refusal(u8);
 
-const TEXTS: [(u8, &str); 17] = [
+const TEXTS: [(u8, &str); 19] = [
     (
         1,
         "a figure is out of range, or a job table has an unknown state or one number twice",
@@ -30,6 +30,8 @@ const TEXTS: [(u8, &str); 17] = [
     (15, "64 job numbers are held and a new one is needed"),
     (17, "job number 0 is no job"),
     (20, "the job number is not cancelled"),
+    (23, "the job number is on hold"),
+    (24, "the job number is not on hold"),
 ];
 
 impl Refusal {
@@ -50,6 +52,8 @@ impl Refusal {
     pub const FULL: Refusal = Refusal(15);
     pub const NUMBER_ZERO: Refusal = Refusal(17);
     pub const NOT_CANCELLED: Refusal = Refusal(20);
+    pub const ON_HOLD: Refusal = Refusal(23);
+    pub const NOT_ON_HOLD: Refusal = Refusal(24);
 
     /// The outcome that a C call's answer stands for.
     pub(crate) fn of(answer: u8) -> Result<(), Refusal> {

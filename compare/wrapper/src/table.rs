@@ -3,7 +3,8 @@
 use crate::raw;
 use crate::refusal::Refusal;
 
-/// 64 places of 5 bytes: a state (0 free, 1 open, 2 cancelled and was open, 3 cancelled and was absent) and a number, high byte first.
+/// 64 places of 5 bytes: a state and a number, high byte first. States: 0 free, 1 open, 2 cancelled and was open, 3 cancelled and was absent,
+/// 4 on hold, 5 cancelled and was on hold.
 #[derive(Clone, PartialEq, Eq, Debug)]
 pub struct Table {
     bytes: [u8; Table::LEN],
@@ -42,9 +43,19 @@ impl Table {
         Refusal::of(raw::call(&mut self.bytes, b'F', number))
     }
 
-    /// Takes a cancellation back: the number is open again, or absent where it was. A cancelled 0 too.
+    /// Takes a cancellation back: the number is open or on hold again, or absent where it was. A cancelled 0 too.
     pub fn reinstate(&mut self, number: u32) -> Result<(), Refusal> {
         Refusal::of(raw::call(&mut self.bytes, b'I', number))
+    }
+
+    /// Puts an open number on hold: until it is released, it is neither read, written nor finished. An open 0 too.
+    pub fn hold(&mut self, number: u32) -> Result<(), Refusal> {
+        Refusal::of(raw::call(&mut self.bytes, b'H', number))
+    }
+
+    /// Makes a number on hold open again.
+    pub fn release(&mut self, number: u32) -> Result<(), Refusal> {
+        Refusal::of(raw::call(&mut self.bytes, b'U', number))
     }
 }
 

@@ -7,7 +7,7 @@ use mathlib.Core.Option.{Option, none, some}
 use Prim.Native.Nat.{ℕ, _*_}
 use lib.Dec.{eqb, ltb}
 use lib.ListN.{length, take, drop, replicate}
-use Rattle.refusals.specs.Refusals.{must, served, invalid, unfit, wrongLength, noPattern, valueTooLarge, disagrees, badRecord, jobCancelled, notOpen}
+use Rattle.refusals.specs.Refusals.{must, served, invalid, unfit, wrongLength, noPattern, valueTooLarge, disagrees, badRecord, jobCancelled, jobHeld, notOpen}
 use Rattle.combinatorics.specs.Lists.{all, any, allBelow}
 use Rattle.combinatorics.specs.Bursts.{apart, coverRank}
 use Rattle.combinatorics.proofs.Cases.{by-bool, by-eq, eqb-true, eqb-other}
@@ -23,10 +23,10 @@ use Rattle.construction_a.proofs.Figures.{serve}
 use Rattle.construction_a.proofs.Ranking.{covers-least}
 use Rattle.jobs.proofs.Simulates.{simulation}
 use Rattle.jobs.specs.declared.Entry.{Entry}
-use Rattle.jobs.specs.declared.Entry.the-variants.{Free, Open, Cancelled}
-use Rattle.jobs.specs.Jobs.{Kind, opening, cancelling, finishing, reinstating, isJob, Status, unknown, opened, cancelled}
+use Rattle.jobs.specs.declared.Entry.the-variants.{Free, Open, OnHold, Cancelled}
+use Rattle.jobs.specs.Jobs.{Kind, opening, cancelling, finishing, reinstating, holding, releasing, isJob, Status, unknown, opened, onHold, cancelled}
 use Rattle.jobs.specs.Replay.{kindOf, listKind, known, callBy, isLetter, isListLetter, lengthsFit, ReplayOut, replayOut}
-use Rattle.jobs.specs.Table.{isFree, lookup, TableOut, put, twice, decide, openJob, openAt, cancelAt, finishAt, reinstateAt, openOut, cancelOut, finishOut, reinstateOut, callAs}
+use Rattle.jobs.specs.Table.{isFree, lookup, TableOut, put, twice, decide, openJob, openAt, cancelAt, finishAt, reinstateAt, holdAt, releaseAt, openOut, cancelOut, finishOut, reinstateOut, holdOut, releaseOut, callAs}
 use Rattle.payloads.specs.Payload.{carriesJob, payloadIn, spellsPayload, jobNumber}
 use Rattle.decoder.specs.Exported.{Exported, answered, exportedOut}
 use Rattle.jobcodec.specs.DemandThree.{isRefusal}
@@ -59,11 +59,13 @@ module _ {O : Type 0} (P : O → Type 0) where
   tested true p r = r
   tested false p r = p
 
-  -- "12 14"
-  where-open : (refuse : ℕ → O) (s : Status) {rest : O} → P (refuse jobCancelled) → P (refuse notOpen) → P rest → P (whereOpen s refuse rest)
-  where-open refuse (cancelled s) p q r = p
-  where-open refuse unknown p q r = q
-  where-open refuse opened p q r = r
+  -- "12 14", and 23 between them
+  where-open : (refuse : ℕ → O) (s : Status) {rest : O}
+      → P (refuse jobCancelled) → P (refuse jobHeld) → P (refuse notOpen) → P rest → P (whereOpen s refuse rest)
+  where-open refuse (cancelled s) p h q r = p
+  where-open refuse onHold p h q r = h
+  where-open refuse unknown p h q r = q
+  where-open refuse opened p h q r = r
 
 -- ---- Words
 
@@ -138,6 +140,7 @@ module _ (es : List Entry) where
   unfolding put isRefusal all any
   open-entry (Cancelled x was) n = keep refl refl
   open-entry (Open x) n = keep refl refl
+  open-entry (OnHold x) n = keep refl refl
   open-entry Free n = tested (Calls (call opening)) (any isFree es) (keep refl refl) (done refl)
 
   open-at : (e : Entry) (n : ℕ) → Calls (call opening) (openAt e n es)
@@ -148,12 +151,14 @@ module _ (es : List Entry) where
   unfolding put isRefusal all any
   cancel-at (Cancelled x was) n = keep refl refl
   cancel-at (Open x) n = done refl
+  cancel-at (OnHold x) n = done refl
   cancel-at Free n =
       tested (Calls (call cancelling)) (isJob n) (keep refl refl) (tested (Calls (call cancelling)) (any isFree es) (keep refl refl) (done refl))
 
   finish-at : (e : Entry) (n : ℕ) → Calls (call finishing) (finishAt e n es)
   unfolding isRefusal all any
   finish-at (Cancelled x was) n = keep refl refl
+  finish-at (OnHold x) n = keep refl refl
   finish-at (Open x) n = done refl
   finish-at Free n = keep refl refl
 
@@ -161,7 +166,22 @@ module _ (es : List Entry) where
   unfolding isRefusal all any
   reinstate-at (Cancelled x was) n = done refl
   reinstate-at (Open x) n = keep refl refl
+  reinstate-at (OnHold x) n = keep refl refl
   reinstate-at Free n = keep refl refl
+
+  hold-at : (e : Entry) (n : ℕ) → Calls (call holding) (holdAt e n es)
+  unfolding isRefusal all any
+  hold-at (Cancelled x was) n = keep refl refl
+  hold-at (OnHold x) n = keep refl refl
+  hold-at (Open x) n = done refl
+  hold-at Free n = keep refl refl
+
+  release-at : (e : Entry) (n : ℕ) → Calls (call releasing) (releaseAt e n es)
+  unfolding isRefusal all any
+  release-at (Cancelled x was) n = keep refl refl
+  release-at (OnHold x) n = done refl
+  release-at (Open x) n = keep refl refl
+  release-at Free n = keep refl refl
 
   open-job : (n : ℕ) → Calls (call opening) (openOut es n)
   unfolding decide isRefusal all any
@@ -179,11 +199,21 @@ module _ (es : List Entry) where
   unfolding decide isRefusal all any
   reinstate-job n = tested (Calls (call reinstating)) (not (twice es)) (keep refl refl) (reinstate-at (lookup es n) n)
 
+  hold-job : (n : ℕ) → Calls (call holding) (holdOut es n)
+  unfolding decide isRefusal all any
+  hold-job n = tested (Calls (call holding)) (not (twice es)) (keep refl refl) (hold-at (lookup es n) n)
+
+  release-job : (n : ℕ) → Calls (call releasing) (releaseOut es n)
+  unfolding decide isRefusal all any
+  release-job n = tested (Calls (call releasing)) (not (twice es)) (keep refl refl) (release-at (lookup es n) n)
+
   call-as : (k : Kind) (n : ℕ) → Calls (call k) (callAs k es n)
   call-as opening n = open-job n
   call-as cancelling n = cancel-job n
   call-as finishing n = finish-job n
   call-as reinstating n = reinstate-job n
+  call-as holding n = hold-job n
+  call-as releasing n = release-job n
 
   call-by : (k : Option Kind) (n : ℕ) → Calls (callByLetter k) (callBy k es n)
   unfolding isRefusal all any
@@ -214,7 +244,7 @@ job-write f es at payload out =
     (tested P (eqb (at .count) (f .m) && eqb (length payload) (payloadLen (f .q) k) && eqb (length out) (f .n)) (keep refl refl)
     (tested P (apart (f .b) (f .n) 0 (inUse at)) (keep refl refl)
     (tested P (isJob (jobNumber payload)) (keep refl refl)
-    (where-open P (unwritten out) (jobStatus es payload) (keep refl refl) (keep refl refl) (done refl)))))))
+    (where-open P (unwritten out) (jobStatus es payload) (keep refl refl) (keep refl refl) (keep refl refl) (done refl)))))))
 
 abbrev ReadsJob : List ℕ → JobRead → Type 0
 ReadsJob out o = AnswersBy jobRead (o .answer) out (o .payload)
@@ -232,7 +262,7 @@ job-read f es w out =
     (tested P (allBelow q w) (keep refl refl)
     (by-read f w (λ d. P (jobIn q k es out d)) (keep refl refl) (keep refl refl) (keep refl refl)
     (λ ss ms. tested P (spellsPayload q k ms) (keep refl refl)
-    (where-open P (withhold out) (jobStatus es (payloadIn q k ms)) (keep refl refl) (keep refl refl) (done refl))))))))
+    (where-open P (withhold out) (jobStatus es (payloadIn q k ms)) (keep refl refl) (keep refl refl) (keep refl refl) (done refl))))))))
 
 list-and-read : (f : Params) (es : List Entry) (letters numbers answers w out : List ℕ)
     → ListAnswers (listOut f es letters numbers answers w out .answer) answers out (listOut f es letters numbers answers w out)
@@ -335,6 +365,8 @@ module _ (table : List ℕ) where
       first cancelling = refl
       first finishing = refl
       first reinstating = refl
+      first holding = refl
+      first releasing = refl
 
   by-letter : (k : Option Kind) (number : ℕ)
       → CallsIn k (must (known k) (called badRecord table) (must (statesKnown table) (called invalid table) (calledAs table (callBy k (tableIn table) number))))
@@ -353,6 +385,8 @@ module _ (table : List ℕ) where
       other-length (some cancelling) = keep refl refl
       other-length (some finishing) = keep refl refl
       other-length (some reinstating) = keep refl refl
+      other-length (some holding) = keep refl refl
+      other-length (some releasing) = keep refl refl
 
 -- ---- The transfer program
 
@@ -445,6 +479,8 @@ demand-one =
       cancel-job = cancel-job;
       finish-job = finish-job;
       reinstate-job = reinstate-job;
+      hold-job = hold-job;
+      release-job = release-job;
       call-by = λ k es n. call-by es k n;
       replay = replay;
       job-write = job-write;

@@ -15,10 +15,10 @@ use Rattle.construction_a.specs.Ranking.{CoversLeast}
 use Rattle.construction_a.specs.Outcomes.{Held, held, figuresNumber, figuresOut, encodeOut, worn, coverOut, answerNumber, decodeOut}
 use Rattle.construction_a.specs.DemandTwo.{DemandTwo}
 use Rattle.jobs.specs.declared.Entry.{Entry}
-use Rattle.jobs.specs.Jobs.{Kind, opening, cancelling, finishing, reinstating}
+use Rattle.jobs.specs.Jobs.{Kind, opening, cancelling, finishing, reinstating, holding, releasing}
 use Rattle.jobs.specs.Replay.{listKind, callBy, replayOut}
 use Rattle.jobs.specs.Simulation.{Simulation}
-use Rattle.jobs.specs.Table.{openOut, cancelOut, finishOut, reinstateOut}
+use Rattle.jobs.specs.Table.{openOut, cancelOut, finishOut, reinstateOut, holdOut, releaseOut}
 use Rattle.decoder.specs.Exported.{exportedOut}
 use Rattle.jobcodec.specs.DemandThree.{isRefusal}
 use Rattle.jobcodec.specs.JobWrite.{jobWriteOut}
@@ -69,6 +69,8 @@ pub record DemandOne : Type 0 where
   pub cancel-job : (es : List Entry) (n : ℕ) → AnswersBy (call cancelling) (cancelOut es n .answer) es (cancelOut es n .table)
   pub finish-job : (es : List Entry) (n : ℕ) → AnswersBy (call finishing) (finishOut es n .answer) es (finishOut es n .table)
   pub reinstate-job : (es : List Entry) (n : ℕ) → AnswersBy (call reinstating) (reinstateOut es n .answer) es (reinstateOut es n .table)
+  pub hold-job : (es : List Entry) (n : ℕ) → AnswersBy (call holding) (holdOut es n .answer) es (holdOut es n .table)
+  pub release-job : (es : List Entry) (n : ℕ) → AnswersBy (call releasing) (releaseOut es n .answer) es (releaseOut es n .table)
   pub call-by : (k : Option Kind) (es : List Entry) (n : ℕ) → AnswersBy (callByLetter k) (callBy k es n .answer) es (callBy k es n .table)
   pub replay : (es : List Entry) (letters numbers answers : List ℕ)
       → AnswersBy {A = List Entry × List ℕ} listOfCalls (replayOut es letters numbers answers .answer) (es, answers)

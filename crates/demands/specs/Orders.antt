@@ -1,10 +1,11 @@
 -- "Orders: ..": the numbers that each call can refuse with, in document 01's order; document 02, ticket 3: 17, "itself a state refusal and ahead of the
--- others"; ticket 7: 20, "after 1". Where lent bytes add a refusal, it stands at its place. Assumes nothing.
+-- others"; ticket 7: 20, "after 1"; ticket 10: 23, "after 12 and before 14", and 24, "after 12". Where lent bytes add a refusal, it stands at its place.
+-- Assumes nothing.
 use mathlib.Core.List.{List, [], _∷_}
 use mathlib.Core.Option.{Option, none, some}
 use Prim.Native.Nat.{ℕ}
-use Rattle.refusals.specs.Refusals.{invalid, unfit, wrongLength, badSymbol, badStarts, uncovered, noPattern, valueTooLarge, disagrees, badPayload, badRecord, jobCancelled, alreadyOpen, notOpen, tableFull, numberZero, notCancelled}
-use Rattle.jobs.specs.Jobs.{Kind, opening, cancelling, finishing, reinstating}
+use Rattle.refusals.specs.Refusals.{invalid, unfit, wrongLength, badSymbol, badStarts, uncovered, noPattern, valueTooLarge, disagrees, badPayload, badRecord, jobCancelled, alreadyOpen, notOpen, tableFull, numberZero, notCancelled, jobHeld, notHeld}
+use Rattle.jobs.specs.Jobs.{Kind, opening, cancelling, finishing, reinstating, holding, releasing}
 
 -- "figures alone 1 2"
 abbrev pub figuresAlone : List ℕ
@@ -22,20 +23,24 @@ covering = invalid ∷ unfit ∷ wrongLength ∷ badSymbol ∷ uncovered ∷ []
 abbrev pub wordRead : List ℕ
 wordRead = invalid ∷ unfit ∷ wrongLength ∷ badSymbol ∷ noPattern ∷ valueTooLarge ∷ disagrees ∷ []
 
--- "job write 1 2 10 3 5 12 14", with 17 before 12
+-- "job write 1 2 10 3 5 12 14", with 17 before 12 and 23 before 14
 abbrev pub jobWrite : List ℕ
-jobWrite = invalid ∷ unfit ∷ badPayload ∷ wrongLength ∷ badStarts ∷ numberZero ∷ jobCancelled ∷ notOpen ∷ []
+jobWrite = invalid ∷ unfit ∷ badPayload ∷ wrongLength ∷ badStarts ∷ numberZero ∷ jobCancelled ∷ jobHeld ∷ notOpen ∷ []
 
--- "job read 1 2, 10 for K, 3 4 7 8 9, 10, 12 14"
+-- "job read 1 2, 10 for K, 3 4 7 8 9, 10, 12 14", with 23 before 14
 abbrev pub jobRead : List ℕ
-jobRead = invalid ∷ unfit ∷ badPayload ∷ wrongLength ∷ badSymbol ∷ noPattern ∷ valueTooLarge ∷ disagrees ∷ badPayload ∷ jobCancelled ∷ notOpen ∷ []
+jobRead =
+    invalid ∷ unfit ∷ badPayload ∷ wrongLength ∷ badSymbol ∷ noPattern ∷ valueTooLarge ∷ disagrees ∷ badPayload ∷ jobCancelled ∷ jobHeld ∷ notOpen ∷ []
 
--- "open 1 12 13 15; cancel 1 12 15; finish 1 12 14", with 17 before 12 in the first two; reinstate 1 20
+-- "open 1 12 13 15; cancel 1 12 15; finish 1 12 14", with 17 before 12 in the first two and 23 before 14 in the third; reinstate 1 20; hold 1 12 23 14;
+-- release 1 12 24
 abbrev pub call : Kind → List ℕ
 call opening = invalid ∷ numberZero ∷ jobCancelled ∷ alreadyOpen ∷ tableFull ∷ []
 call cancelling = invalid ∷ numberZero ∷ jobCancelled ∷ tableFull ∷ []
-call finishing = invalid ∷ jobCancelled ∷ notOpen ∷ []
+call finishing = invalid ∷ jobCancelled ∷ jobHeld ∷ notOpen ∷ []
 call reinstating = invalid ∷ notCancelled ∷ []
+call holding = invalid ∷ jobCancelled ∷ jobHeld ∷ notOpen ∷ []
+call releasing = invalid ∷ jobCancelled ∷ notHeld ∷ []
 
 -- a call by its letter: 11 for a letter that is no call's
 abbrev pub callByLetter : Option Kind → List ℕ

@@ -12,13 +12,13 @@ use Rattle.combinatorics.proofs.Cases.{by-eq, by-bool, eqb-same, eqb-other}
 use Rattle.combinatorics.proofs.Lists.{both}
 use Rattle.cells.specs.Bytes.{byteValues}
 use Rattle.jobs.specs.declared.Entry.{Entry}
-use Rattle.jobs.specs.declared.Entry.the-variants.{Free, Open, Cancelled}
+use Rattle.jobs.specs.declared.Entry.the-variants.{Free, Open, OnHold, Cancelled}
 use Rattle.jobs.specs.declared.Before.{Before}
-use Rattle.jobs.specs.declared.Before.the-variants.{WasAbsent, WasOpen}
-use Rattle.jobs.specs.Jobs.{Kind, opening, cancelling, finishing, reinstating, Call, isJob}
+use Rattle.jobs.specs.declared.Before.the-variants.{WasAbsent, WasOpen, WasOnHold}
+use Rattle.jobs.specs.Jobs.{Kind, opening, cancelling, finishing, reinstating, holding, releasing, Call, isJob}
 use Rattle.jobs.specs.Replay.{kindOf, listKind, callBy, isListLetter}
-use Rattle.jobs.specs.Table.{isFree, holds, lookup, emptyTable, TableOut, refuse, accept, replaceFirst, put, add, twice, decide, openJob, openAt, cancelAt, finishAt, restored, reinstateAt, callAs, callOut, answersFrom, tableFrom}
-use Rattle.jobs.specs.Simulation.{Start, empty, zero-open, zero-cancelled, zero-opened-cancelled}
+use Rattle.jobs.specs.Table.{isFree, holds, lookup, emptyTable, TableOut, refuse, accept, replaceFirst, put, add, twice, decide, openJob, openAt, cancelAt, finishAt, restored, reinstateAt, holdAt, releaseAt, callAs, callOut, answersFrom, tableFrom}
+use Rattle.jobs.specs.Simulation.{Start, empty, zero-open, zero-cancelled, zero-opened-cancelled, zero-on-hold-cancelled}
 use Rattle.jobs.proofs.Simulates.{simulation-from-start}
 use Rattle.exports.specs.Table.{hasRoom, IsTable, TableOf}
 use Rattle.exports.specs.Jobs.{CallLent, calledAs}
@@ -63,6 +63,7 @@ module _ (es : List Entry) (g : IsTable es) where
     open-job-sound : (e : Entry) → Sound es (openJob e n es)
     open-job-sound (Cancelled x was) = refused _
     open-job-sound (Open x) = refused _
+    open-job-sound (OnHold x) = refused _
     open-job-sound Free = stored isFree (Open n) h
 
     -- 17 or what comes after it
@@ -75,21 +76,37 @@ module _ (es : List Entry) (g : IsTable es) where
     cancel-sound : (e : Entry) → Sound es (cancelAt e n es)
     cancel-sound (Cancelled x was) = refused _
     cancel-sound (Open x) = accepted (holds n) (Cancelled n WasOpen) h
+    cancel-sound (OnHold x) = accepted (holds n) (Cancelled n WasOnHold) h
     cancel-sound Free = job-sound (add (Cancelled n WasAbsent) es) (stored isFree (Cancelled n WasAbsent) h)
 
     finish-sound : (e : Entry) → Sound es (finishAt e n es)
     finish-sound (Cancelled x was) = refused _
+    finish-sound (OnHold x) = refused _
     finish-sound (Open x) = accepted (holds n) Free refl
     finish-sound Free = refused _
 
     restored-room : (was : Before) → hasRoom (restored was n) ≡ true
     restored-room WasAbsent = refl
     restored-room WasOpen = h
+    restored-room WasOnHold = h
 
     reinstate-sound : (e : Entry) → Sound es (reinstateAt e n es)
     reinstate-sound (Cancelled x was) = accepted (holds n) (restored was n) (restored-room was)
     reinstate-sound (Open x) = refused _
+    reinstate-sound (OnHold x) = refused _
     reinstate-sound Free = refused _
+
+    hold-sound : (e : Entry) → Sound es (holdAt e n es)
+    hold-sound (Cancelled x was) = refused _
+    hold-sound (OnHold x) = refused _
+    hold-sound (Open x) = accepted (holds n) (OnHold n) h
+    hold-sound Free = refused _
+
+    release-sound : (e : Entry) → Sound es (releaseAt e n es)
+    release-sound (Cancelled x was) = refused _
+    release-sound (OnHold x) = accepted (holds n) (Open n) h
+    release-sound (Open x) = refused _
+    release-sound Free = refused _
 
     decided : (byEntry : Entry → ℕ → List Entry → TableOut) → Sound es (byEntry (lookup es n) n es) → Sound es (decide byEntry es n)
     unfolding decide
@@ -100,6 +117,8 @@ module _ (es : List Entry) (g : IsTable es) where
     call-sound cancelling = decided cancelAt (cancel-sound (lookup es n))
     call-sound finishing = decided finishAt (finish-sound (lookup es n))
     call-sound reinstating = decided reinstateAt (reinstate-sound (lookup es n))
+    call-sound holding = decided holdAt (hold-sound (lookup es n))
+    call-sound releasing = decided releaseAt (release-sound (lookup es n))
 
 -- ---- So a call on the bytes is one on the table
 
@@ -109,6 +128,8 @@ letter-call opening es n = refl
 letter-call cancelling es n = refl
 letter-call finishing es n = refl
 letter-call reinstating es n = refl
+letter-call holding es n = refl
+letter-call releasing es n = refl
 
 letter-known : (k : Kind) → isListLetter (letterOf k) ≡ true
 unfolding kindOf listKind
@@ -116,6 +137,8 @@ letter-known opening = refl
 letter-known cancelling = refl
 letter-known finishing = refl
 letter-known reinstating = refl
+letter-known holding = refl
+letter-known releasing = refl
 
 one-call : (bytes : List ℕ) (es : List Entry) → TableOf bytes es → (c : Call) → callOn bytes c ≡ calledAs bytes (callOut es c)
 one-call bytes es b c =
@@ -168,6 +191,7 @@ start-table es before empty = empty-table
 start-table es before (zero-open i l) = alone-table i (Open 0) refl
 start-table es before (zero-cancelled i l) = alone-table i (Cancelled 0 WasAbsent) refl
 start-table es before (zero-opened-cancelled i l) = alone-table i (Cancelled 0 WasOpen) refl
+start-table es before (zero-on-hold-cancelled i l) = alone-table i (Cancelled 0 WasOnHold) refl
 
 pub empty-bytes-hold : EmptyBytes
 empty-bytes-hold = subst (λ (bytes : List ℕ). TableOf bytes emptyTable) empty-bytes (table-back emptyTable empty-table)

@@ -15,8 +15,8 @@ use Rattle.cells.specs.Bytes.{byteValues}
 use Rattle.cells.specs.Digits.{plain, span, spell}
 use Rattle.cells.proofs.Digits.{length-spell, span-plain, value-front, value-spell}
 use Rattle.jobs.specs.declared.Entry.{Entry}
-use Rattle.jobs.specs.declared.Entry.the-variants.{Free, Open, Cancelled}
-use Rattle.jobs.specs.declared.Before.the-variants.{WasAbsent, WasOpen}
+use Rattle.jobs.specs.declared.Entry.the-variants.{Free, Open, OnHold, Cancelled}
+use Rattle.jobs.specs.declared.Before.the-variants.{WasAbsent, WasOpen, WasOnHold}
 use Rattle.jobs.specs.Table.{emptyTable}
 use Rattle.payloads.specs.Payload.{jobNumber}
 use Rattle.exports.specs.Table.{slotLen, tableLen, stateCount, entryOf, stateAt, entryAt, statesKnown, tableIn, entryBytes, tableBytes, hasRoom, IsTable, ReadsBack}
@@ -35,14 +35,18 @@ number-back number rest h =
 slot-back : (e : Entry) (rest : List ℕ) → hasRoom e ≡ true → entryOf (getD (entryBytes e ++ rest) 0 0) (jobNumber (drop 1 (entryBytes e ++ rest))) ≡ e
 slot-back Free rest h = refl
 slot-back (Open x) rest h = ap Open (number-back x rest (leb-true (suc x) (byteValues ^ 4) h))
+slot-back (OnHold x) rest h = ap OnHold (number-back x rest (leb-true (suc x) (byteValues ^ 4) h))
 slot-back (Cancelled x WasOpen) rest h = ap (λ (n : ℕ). Cancelled n WasOpen) (number-back x rest (leb-true (suc x) (byteValues ^ 4) h))
 slot-back (Cancelled x WasAbsent) rest h = ap (λ (n : ℕ). Cancelled n WasAbsent) (number-back x rest (leb-true (suc x) (byteValues ^ 4) h))
+slot-back (Cancelled x WasOnHold) rest h = ap (λ (n : ℕ). Cancelled n WasOnHold) (number-back x rest (leb-true (suc x) (byteValues ^ 4) h))
 
 state-back : (e : Entry) (rest : List ℕ) → ltb (getD (entryBytes e ++ rest) 0 0) stateCount ≡ true
 state-back Free rest = refl
 state-back (Open x) rest = refl
+state-back (OnHold x) rest = refl
 state-back (Cancelled x WasOpen) rest = refl
 state-back (Cancelled x WasAbsent) rest = refl
+state-back (Cancelled x WasOnHold) rest = refl
 
 -- ---- The slots from slot j on
 

@@ -19,7 +19,7 @@ use Rattle.cells.specs.Bytes.{byteValues}
 use Rattle.cells.specs.Digits.{plain, spell}
 use Rattle.cells.proofs.Walk.{rest-is}
 use Rattle.jobs.specs.declared.Entry.{Entry}
-use Rattle.jobs.specs.declared.Entry.the-variants.{Free, Open, Cancelled}
+use Rattle.jobs.specs.declared.Entry.the-variants.{Free, Open, OnHold, Cancelled}
 use Rattle.jobs.specs.declared.Slot.{Slot}
 use Rattle.jobs.specs.declared.JobTable.{JobTable}
 use Rattle.jobs.specs.Jobs.{slotCount}
@@ -32,8 +32,9 @@ use Rattle.exports.specs.Table.{slotLen, tableLen, stateCount, entryOf, 
 
 -- ---- One slot, read
 
-pub entry-free : (state number : ℕ) → state ≢ 1 → state ≢ 2 → state ≢ 3 → Free ≡ entryOf state number
-entry-free state number a b c = rw (eqb-other state 1 a, eqb-other state 2 b, eqb-other state 3 c)
+pub entry-free : (state number : ℕ) → state ≢ 1 → state ≢ 2 → state ≢ 3 → state ≢ 4 → state ≢ 5 → Free ≡ entryOf state number
+entry-free state number a b c d e =
+    rw (eqb-other state 1 a, eqb-other state 2 b, eqb-other state 3 c, eqb-other state 4 d, eqb-other state 5 e)
 
 -- ---- States, as a loop looks at them
 
@@ -51,10 +52,10 @@ module _ (bytes : List ℕ) where
     in-states : i < slotCount → i < length (states bytes)
     in-states h = omega (arith, length-tabulate slotCount 0 (stateAt bytes))
 
-    pub state-unknown : i < slotCount → 3 < stateAt bytes i → allBelow stateCount (drop i (states bytes)) ≡ false
+    pub state-unknown : i < slotCount → 5 < stateAt bytes i → allBelow stateCount (drop i (states bytes)) ≡ false
     state-unknown h k = all-fails (λ x. ltb x stateCount) (states bytes) i (in-states h) (rw (state-is h) (leb-fails (suc (stateAt bytes i)) stateCount (omega arith)))
 
-    pub state-known : i < slotCount → stateAt bytes i ≤ 3 → allBelow stateCount (drop i (states bytes)) ≡ allBelow stateCount (drop (i + 1) (states bytes))
+    pub state-known : i < slotCount → stateAt bytes i ≤ 5 → allBelow stateCount (drop i (states bytes)) ≡ allBelow stateCount (drop (i + 1) (states bytes))
     state-known h k = all-later (λ x. ltb x stateCount) (states bytes) i (in-states h) (rw (state-is h) (leb-holds (suc (stateAt bytes i)) stateCount (omega arith)))
 
     pub states-over : slotCount ≤ i → allBelow stateCount (drop i (states bytes)) ≡ true
@@ -129,6 +130,7 @@ slot-long state number = refl
 pub entry-long : (e : Entry) → length (entryBytes e) ≡ slotLen
 entry-long Free = slot-long 0 0
 entry-long (Open x) = slot-long 1 x
+entry-long (OnHold x) = slot-long 4 x
 entry-long (Cancelled x was) = slot-long (cancelledState was) x
 
 -- ---- The table, as a loop writes it

@@ -9,18 +9,20 @@ use lib.ListN.{replicate}
 use Rattle.combinatorics.specs.Lists.{all}
 use Rattle.cells.specs.Bytes.{byteValues}
 use Rattle.jobs.specs.declared.Entry.{Entry}
-use Rattle.jobs.specs.Jobs.{Kind, opening, cancelling, finishing, reinstating, Call}
+use Rattle.jobs.specs.Jobs.{Kind, opening, cancelling, finishing, reinstating, holding, releasing, Call}
 use Rattle.jobs.specs.Simulation.{Start, Follows}
 use Rattle.jobs.specs.Table.{emptyTable}
 use Rattle.exports.specs.Table.{tableLen, tableIn, TableOf}
 use Rattle.exports.specs.Jobs.{CallLent, callBytesOut}
 
--- "O (open), C (cancel), F (finish)", and I (reinstate)
+-- "O (open), C (cancel), F (finish)", and I (reinstate), H (hold), U (release)
 abbrev pub letterOf : Kind → ℕ
 letterOf opening = 79
 letterOf cancelling = 67
 letterOf finishing = 70
 letterOf reinstating = 73
+letterOf holding = 72
+letterOf releasing = 85
 
 abbrev pub callOn : List ℕ → Call → CallLent
 callOn bytes c = callBytesOut bytes (letterOf (c .kind)) (c .number)

@@ -17,7 +17,7 @@ use Rattle.exports.specs.Starts.{startsFrom}
 use Rattle.exports.specs.Table.{tableLen, statesKnown, tableIn, tableBytes}
 
 -- ---- A call: 3 for the table's length and 11 for the letter, before the table is looked at; then "open 1 12 13 15; cancel 1 12 15; finish 1 12 14", with
--- 17 before 12 in the first two, and reinstate 1 20, where 1 stands for an unknown state too
+-- 17 before 12 in the first two and 23 before 14 in the third, and reinstate 1 20, hold 1 12 23 14, release 1 12 24, where 1 stands for an unknown state too
 
 pub record CallLent : Type 0 where
   pub answer : ℕ
@@ -46,7 +46,7 @@ isWhole bytes = eqb (length bytes) tableLen
 abbrev pub slotsFit : List ℕ → Bool
 slotsFit bytes = must (isWhole bytes) true (statesKnown bytes && not (twice (tableIn bytes)))
 
--- "job write 1 2 10 3 5 12 14", with 17 before 12, where 3 stands for the bytes of the table and of the starts too
+-- "job write 1 2 10 3 5 12 14", with 17 before 12 and 23 before 14, where 3 stands for the bytes of the table and of the starts too
 unfoldable pub jobWriteBytesOut : Params → List ℕ → List ℕ → List ℕ → List ℕ → Encoded
 jobWriteBytesOut f table starts payload out =
     must (inRange f && slotsFit table) (unwritten out invalid)
@@ -55,7 +55,7 @@ jobWriteBytesOut f table starts payload out =
     (must (isWhole table && eqb (length starts) (2 * f .m)) (unwritten out wrongLength)
     (jobWriteOut f (tableIn table) (held (startsFrom starts)) payload out))))
 
--- "job read 1 2, 10 for K, 3 4 7 8 9, 10, 12 14", where 3 stands for the bytes of the table too
+-- "job read 1 2, 10 for K, 3 4 7 8 9, 10, 12 14", with 23 before 14, where 3 stands for the bytes of the table too
 unfoldable pub jobReadBytesOut : Params → List ℕ → List ℕ → List ℕ → JobRead
 jobReadBytesOut f table w out =
     must (inRange f && slotsFit table) (withhold out invalid)

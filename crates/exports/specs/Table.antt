@@ -10,9 +10,9 @@ use Rattle.combinatorics.specs.Stretch.{tabulate}
 use Rattle.cells.specs.Bytes.{byteValues}
 use Rattle.cells.specs.Digits.{plain, spell}
 use Rattle.jobs.specs.declared.Entry.{Entry}
-use Rattle.jobs.specs.declared.Entry.the-variants.{Free, Open, Cancelled}
+use Rattle.jobs.specs.declared.Entry.the-variants.{Free, Open, OnHold, Cancelled}
 use Rattle.jobs.specs.declared.Before.{Before}
-use Rattle.jobs.specs.declared.Before.the-variants.{WasAbsent, WasOpen}
+use Rattle.jobs.specs.declared.Before.the-variants.{WasAbsent, WasOpen, WasOnHold}
 use Rattle.jobs.specs.Jobs.{slotCount}
 use Rattle.payloads.specs.Payload.{jobNumber}
 
@@ -26,17 +26,19 @@ tableLen = slotCount * slotLen
 
 -- ---- Read
 
--- the states: 0 free, 1 open, 2 cancelled and before that open, 3 cancelled and before that absent. A table with any other is refused before its slots are
--- read.
+-- the states: 0 free, 1 open, 2 cancelled and before that open, 3 cancelled and before that absent, 4 on hold, 5 cancelled and before that on hold. A table
+-- with any other is refused before its slots are read.
 abbrev pub stateCount : ℕ
-stateCount = 4
+stateCount = 6
 
 abbrev pub entryOf : ℕ → ℕ → Entry
 entryOf state number =
     cond (eqb state 1) (Open number)
     (cond (eqb state 2) (Cancelled number WasOpen)
     (cond (eqb state 3) (Cancelled number WasAbsent)
-    Free))
+    (cond (eqb state 4) (OnHold number)
+    (cond (eqb state 5) (Cancelled number WasOnHold)
+    Free))))
 
 -- slot i; "job number, high byte first"
 abbrev pub stateAt : List ℕ → ℕ → ℕ
@@ -63,11 +65,13 @@ slotBytes state number = state ∷ spell byteValues (replicate 4 plain) number
 abbrev pub cancelledState : Before → ℕ
 cancelledState WasOpen = 2
 cancelledState WasAbsent = 3
+cancelledState WasOnHold = 5
 
 -- a free slot's number is 0
 abbrev pub entryBytes : Entry → List ℕ
 entryBytes Free = slotBytes 0 0
 entryBytes (Open x) = slotBytes 1 x
+entryBytes (OnHold x) = slotBytes 4 x
 entryBytes (Cancelled x was) = slotBytes (cancelledState was) x
 
 unfoldable pub tableBytes : List Entry → List ℕ
@@ -85,6 +89,7 @@ pub record TableOf (bytes : List ℕ) (es : List Entry) : Type 0 where
 abbrev pub hasRoom : Entry → Bool
 hasRoom Free = true
 hasRoom (Open x) = ltb x (byteValues ^ 4)
+hasRoom (OnHold x) = ltb x (byteValues ^ 4)
 hasRoom (Cancelled x was) = ltb x (byteValues ^ 4)
 
 pub record IsTable (es : List Entry) : Type 0 where

@@ -101,8 +101,9 @@ pub extern "C" fn burgzemi_cover(
     }
 }
 
-// A call on the job table: the letter O opens, C cancels, F finishes, I reinstates. Refusals: 3 for the table's length, 11 for another letter, 1 for a slot
-// with an unknown state; then the call's own: 1, then 17 12 13 15 for opening, 17 12 15 for cancelling, 12 14 for finishing, 20 for reinstating.
+// A call on the job table: the letter O opens, C cancels, F finishes, I reinstates, H holds, U releases. Refusals: 3 for the table's length, 11 for another
+// letter, 1 for a slot with an unknown state; then the call's own: 1, then 17 12 13 15 for opening, 17 12 15 for cancelling, 12 23 14 for finishing, 20 for
+// reinstating, 12 23 14 for holding, 12 24 for releasing.
 #[no_mangle]
 pub extern "C" fn burgzemi_call(table: &mut [u8], letter: u8, number: u32) -> u8
     ensures { λ r. ⌜ called r (now (table .exit)) ≡ callBytesOut (now (table .entry)) letter number ⌝ }
@@ -125,7 +126,7 @@ pub extern "C" fn burgzemi_call(table: &mut [u8], letter: u8, number: u32) -> u8
     Refusal::NONE
 }
 
-// Job write: the word of a placement and a payload whose job the table has open; number 0 is no job. Refusals: 1 2 10 3 5 17 12 14.
+// Job write: the word of a placement and a payload whose job the table has open; number 0 is no job. Refusals: 1 2 10 3 5 17 12 23 14.
 #[no_mangle]
 pub extern "C" fn burgzemi_job_write(
     n: u32,
@@ -151,7 +152,7 @@ pub extern "C" fn burgzemi_job_write(
     jobcodec::job_write(figures, held, at, payload, word)
 }
 
-// Job read: the payload of a found word whose job the table has open. Refusals: 1 2, 10 for K, 3 4 7 8 9, 10, 12 14.
+// Job read: the payload of a found word whose job the table has open. Refusals: 1 2, 10 for K, 3 4 7 8 9, 10, 12 23 14.
 #[no_mangle]
 pub extern "C" fn burgzemi_job_read(
     n: u32,

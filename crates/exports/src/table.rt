@@ -29,6 +29,10 @@ const CANCELLED_OPEN: u8 = 2;
 
 const CANCELLED_ABSENT: u8 = 3;
 
+const ON_HOLD: u8 = 4;
+
+const CANCELLED_ON_HOLD: u8 = 5;
+
 // What a job is refused with where the table has another length, so that no slot is looked at: 1 2 10, or else 3.
 pub fn without_table(figures: Params) -> u8
     ensures { λ r. ⌜ r ≡ withoutTable (given figures) ⌝ }
@@ -52,7 +56,7 @@ pub fn states_known(bytes: &[u8]) -> bool
 {
     let mut i: usize = 0;
     while i < JobTable::SLOTS {
-        if CANCELLED_ABSENT < bytes[i * SLOT_LEN] {
+        if CANCELLED_ON_HOLD < bytes[i * SLOT_LEN] {
             return false;
         }
         i += 1;
@@ -86,6 +90,8 @@ fn entry_of(state: u8, number: u32) -> Entry
         OPEN => Entry::Open(number),
         CANCELLED_OPEN => Entry::Cancelled(number, Before::WasOpen),
         CANCELLED_ABSENT => Entry::Cancelled(number, Before::WasAbsent),
+        ON_HOLD => Entry::OnHold(number),
+        CANCELLED_ON_HOLD => Entry::Cancelled(number, Before::WasOnHold),
         _ => Entry::Free,
     }
 }
@@ -113,6 +119,7 @@ fn put_entry(entry: Entry, bytes: &mut [u8])
     match entry {
         Entry::Free => put_slot(FREE, 0, bytes),
         Entry::Open(number) => put_slot(OPEN, number, bytes),
+        Entry::OnHold(number) => put_slot(ON_HOLD, number, bytes),
         Entry::Cancelled(number, before) => put_slot(cancelled_state(before), number, bytes),
     }
 }
@@ -123,6 +130,7 @@ fn cancelled_state(before: Before) -> u8
     match before {
         Before::WasOpen => CANCELLED_OPEN,
         Before::WasAbsent => CANCELLED_ABSENT,
+        Before::WasOnHold => CANCELLED_ON_HOLD,
     }
 }
 

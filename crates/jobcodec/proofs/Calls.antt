@@ -24,7 +24,7 @@ use Rattle.params.specs.declared.LayoutAnswer.the-variants.{Fit}
 use Rattle.params.specs.declared.Layout.{Layout}
 use Rattle.params.proofs.Answered.{Told, fit-learnt, Bounds, bounds}
 use Rattle.jobs.specs.declared.Entry.{Entry}
-use Rattle.jobs.specs.Jobs.{isJob, Status, unknown, opened, cancelled, needsOpen}
+use Rattle.jobs.specs.Jobs.{isJob, Status, unknown, opened, onHold, cancelled, needsOpen}
 use Rattle.jobs.specs.Replay.{ReplayOut, replayOut}
 use Rattle.jobs.specs.Table.{twice}
 use Rattle.payloads.specs.Payload.{carriesJob, jobNumber, messageOf, payloadIn, spellsPayload}
@@ -103,11 +103,11 @@ module _ (f : Params) (es : List Entry) (at : Held) (payload out : List ℕ) (r 
   abbrev pub done : Encoded
   done = record { answer = served; word = word f (inUse at) (messageOf (f .q) (messageLen f) payload) }
 
-  -- "17 12 14"
+  -- "17 12 23 14"
   abbrev pub from-number : Encoded
   from-number = must (isJob (jobNumber payload)) (unwritten out numberZero) (whereOpen (jobStatus es payload) (unwritten out) done)
 
-  -- "5 17 12 14"
+  -- "5 17 12 23 14"
   abbrev pub from-starts : Encoded
   from-starts = must (apart (f .b) (f .n) 0 (inUse at)) (unwritten out badStarts) from-number
 
@@ -139,13 +139,14 @@ module _ (f : Params) (es : List Entry) (at : Held) (payload out : List ℕ) (r 
         by-status : (s : Status) → whereOpen s (unwritten out) done .answer ≡ needsOpen s
         by-status unknown = refl
         by-status opened = refl
+        by-status onHold = refl
         by-status (cancelled s) = refl
 
         module _ (p : apart (f .b) (f .n) 0 (inUse at) ≡ true) where
           pub write-zero : isJob (jobNumber payload) ≡ false → jobWriteOut f es at payload out ≡ unwritten out numberZero
           write-zero z = past-lengths ∙ rw (p, z)
 
-          -- "12 14"
+          -- "12 23 14"
           pub write-status : isJob (jobNumber payload) ≡ true → jobWriteOut f es at payload out .answer ≡ needsOpen (jobStatus es payload)
           write-status j = rw (past-lengths, p, j) (by-status (jobStatus es payload))
 

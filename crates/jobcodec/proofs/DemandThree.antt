@@ -7,7 +7,7 @@ use Prim.Native.Nat.{ℕ, _≤_}
 use native.Mathlib.Omega.{arith}
 use lib.Dec.{eqb}
 use lib.ListN.{length}
-use Rattle.refusals.specs.Refusals.{served, invalid, unfit, wrongLength, badSymbol, jobCancelled, notOpen, badPayload}
+use Rattle.refusals.specs.Refusals.{served, invalid, unfit, wrongLength, badSymbol, jobCancelled, notOpen, jobHeld, badPayload}
 use Rattle.combinatorics.specs.Lists.{any, allBelow}
 use Rattle.combinatorics.proofs.Cases.{by-bool, eqb-same, eqb-true}
 use Rattle.combinatorics.proofs.Lists.{both}
@@ -19,7 +19,7 @@ use Rattle.construction_a.specs.DemandTwo.{constructionA, Listed, no-pattern, t
 use Rattle.construction_a.proofs.Figures.{ranged}
 use Rattle.construction_a.proofs.DemandTwo.{demand-two}
 use Rattle.jobs.specs.declared.Entry.{Entry}
-use Rattle.jobs.specs.Jobs.{Kind, opening, cancelling, finishing, reinstating, Call, needsOpen}
+use Rattle.jobs.specs.Jobs.{Kind, opening, cancelling, finishing, reinstating, holding, releasing, Call, needsOpen}
 use Rattle.jobs.specs.Table.{emptyTable, twice, answersFrom, tableFrom}
 use Rattle.jobs.specs.Ledger.{historyOf, lastLeft, answerAfter, status, ledgerFrom, acceptedBy}
 use Rattle.jobs.specs.Simulation.{Agrees, Follows, empty}
@@ -74,6 +74,7 @@ module _ (c : Codec) (h : List Call) (w out : List ℕ) where
         no-pair = λ _. (a, s, refl);
         after-cancelling = λ starts y u _. absurd (no-pair starts y (u .gives));
         after-finishing = λ starts y u _. absurd (no-pair starts y (u .gives));
+        after-holding = λ starts y u _. absurd (no-pair starts y (u .gives));
         none-accepted = λ starts y u _. absurd (no-pair starts y (u .gives));
       }
 
@@ -99,7 +100,9 @@ module _ (c : Codec) (h : List Call) (w out : List ℕ) where
     decided (some opening) e holds fails = holds (record { only = only; opened = e })
     decided (some cancelling) e holds fails = fails jobCancelled refl (by-last (some cancelling) e)
     decided (some finishing) e holds fails = fails notOpen refl (by-last (some finishing) e)
+    decided (some holding) e holds fails = fails jobHeld refl (by-last (some holding) e)
     decided (some reinstating) e holds fails = fails notOpen refl (by-last (some reinstating) e)
+    decided (some releasing) e holds fails = fails notOpen refl (by-last (some releasing) e)
 
     one-gives : HandsOut c h w out r
     one-gives =
@@ -114,6 +117,7 @@ module _ (c : Codec) (h : List Call) (w out : List ℕ) where
           otherwise = λ not-both. decided last refl (λ u. absurd (not-both starts y u)) (λ a i d. (a, i, d));
           after-cancelling = λ starts′ y′ u e. by-last (some cancelling) (same-last starts′ y′ (some cancelling) (u .gives) e);
           after-finishing = λ starts′ y′ u e. by-last (some finishing) (same-last starts′ y′ (some finishing) (u .gives) e);
+          after-holding = λ starts′ y′ u e. by-last (some holding) (same-last starts′ y′ (some holding) (u .gives) e);
           none-accepted = λ starts′ y′ u e. by-last none (same-last starts′ y′ none (u .gives) e);
         }
 

@@ -24,7 +24,7 @@ use Rattle.construction_a.specs.DemandTwo.{constructionA}
 use Rattle.jobs.specs.declared.Entry.{Entry}
 use Rattle.jobs.specs.declared.Entry.the-variants.{Free, Open, Cancelled}
 use Rattle.jobs.specs.declared.Before.the-variants.{WasOpen}
-use Rattle.jobs.specs.Jobs.{opening, cancelling, finishing, reinstating, Call, on}
+use Rattle.jobs.specs.Jobs.{opening, cancelling, finishing, reinstating, holding, releasing, Call, on}
 use Rattle.jobs.specs.Table.{firstEntry, replaceFirst, put, twice, decide, emptyTable, tableFrom}
 use Rattle.payloads.specs.Payload.{carriesJob, jobNumber, messageOf, payloadIn, spellsPayload}
 use Rattle.jobcodec.specs.JobWrite.{jobWriteOut}
@@ -62,6 +62,16 @@ reinstated = on opening 7 ∷ on cancelling 7 ∷ on reinstating 7 ∷ []
 abbrev never : List Call
 never = on cancelling 7 ∷ on reinstating 7 ∷ []
 
+abbrev onHold : List Call
+onHold = on opening 7 ∷ on holding 7 ∷ []
+
+-- a pair in a pair, then without its release
+abbrev released : List Call
+released = on opening 7 ∷ on holding 7 ∷ on cancelling 7 ∷ on reinstating 7 ∷ on releasing 7 ∷ []
+
+abbrev onHoldAgain : List Call
+onHoldAgain = on opening 7 ∷ on holding 7 ∷ on cancelling 7 ∷ on reinstating 7 ∷ []
+
 -- the answer, then the lent buffer
 abbrev writtenOut : Encoded → List ℕ
 writtenOut r = r .answer ∷ r .word
@@ -93,6 +103,11 @@ transfer =
     -- a cancellation taken back: open again, or unknown
     ∷ example (reads (after reinstated)) (0 ∷ payload)
     ∷ example (reads (after never)) (14 ∷ buffer)
+    -- "reading, writing .. a held job"; "reinstating gives back held"
+    ∷ example (reads (after onHold)) (23 ∷ buffer)
+    ∷ example (writes (after onHold)) (23 ∷ replicate 15 9)
+    ∷ example (reads (after onHoldAgain)) (23 ∷ buffer)
+    ∷ example (reads (after released)) (0 ∷ payload)
     -- "a book with one number twice"
     ∷ example (reads (Open 7 ∷ Cancelled 7 WasOpen ∷ replicate 62 Free)) (1 ∷ buffer)
     ∷ example (writes (Open 7 ∷ Cancelled 7 WasOpen ∷ replicate 62 Free)) (1 ∷ replicate 15 9)
@@ -125,7 +140,7 @@ spelling =
 
 -- ---- Each refusal where the next in its order holds too
 
--- "job write 1 2 10 3 5 12 14", with 17 before 12
+-- "job write 1 2 10 3 5 12 14", with 17 before 12 and 23 before 14
 abbrev writesAt : Held → List ℕ → List ℕ → List ℕ
 writesAt at y out = writtenOut (jobWriteOut figures emptyTable at y out)
 
@@ -146,7 +161,7 @@ writeOrder =
     ∷ example (readOut (jobReadOut figures (Open 0 ∷ replicate 63 Free) (word figures (6 ∷ []) (replicate 11 0)) (replicate 11 9))) (0 ∷ replicate 11 0)
     ∷ []
 
--- "job read 1 2, 10 for K, 3 4 7 8 9, 10, 12 14"
+-- "job read 1 2, 10 for K, 3 4 7 8 9, 10, 12 14", with 23 before 14
 unfoldable pub readOrder : List Example
 readOrder =
     example (readOut (jobReadOut (params 15 257 1 6) emptyTable [] [])) (1 ∷ [])

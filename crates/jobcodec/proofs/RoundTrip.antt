@@ -21,7 +21,7 @@ use Rattle.construction_a.specs.DemandTwo.{constructionA}
 use Rattle.construction_a.proofs.Figures.{ranged}
 use Rattle.construction_a.proofs.DemandTwo.{demand-two}
 use Rattle.jobs.specs.declared.Entry.{Entry}
-use Rattle.jobs.specs.Jobs.{isJob, Status, unknown, opened, cancelled}
+use Rattle.jobs.specs.Jobs.{isJob, Status, unknown, opened, onHold, cancelled}
 use Rattle.jobs.specs.Table.{twice}
 use Rattle.payloads.specs.Payload.{carriesJob, jobNumber, messageOf}
 use Rattle.jobcodec.specs.JobWrite.{jobStatus, whereOpen, jobWriteOut}
@@ -53,6 +53,7 @@ found-open : (s : Status) (out : List ℕ) (rest : Encoded) → whereOpen s (unw
 unfolding isRefusal any
 found-open unknown out rest e = not-served 14 refl e
 found-open opened out rest e = refl
+found-open onHold out rest e = not-served 23 refl e
 found-open (cancelled s) out rest e = not-served 12 refl e
 
 not-true : (b : Bool) → not b ≡ true → b ≡ false

@@ -9,14 +9,14 @@ use mathlib.Core.Option.{none, some}
 use Prim.Native.Nat.{ℕ}
 use lib.Dec.{eqb}
 use lib.ListN.{length}
-use Rattle.refusals.specs.Refusals.{served, invalid, unfit, wrongLength, badSymbol, noPattern, valueTooLarge, disagrees, badPayload, jobCancelled, notOpen, refusals}
+use Rattle.refusals.specs.Refusals.{served, invalid, unfit, wrongLength, badSymbol, noPattern, valueTooLarge, disagrees, badPayload, jobCancelled, notOpen, jobHeld, refusals}
 use Rattle.combinatorics.specs.Lists.{any}
 use Rattle.cells.specs.Bytes.{payloadLen}
 use Rattle.cells.specs.Codec.{Codec, Word, LeadsTo}
 use Rattle.construction_a.specs.Figures.{Params, inRange, fits}
 use Rattle.construction_a.specs.DemandTwo.{constructionA}
 use Rattle.jobs.specs.declared.Entry.{Entry}
-use Rattle.jobs.specs.Jobs.{opening, cancelling, finishing, Call}
+use Rattle.jobs.specs.Jobs.{opening, cancelling, finishing, holding, Call}
 use Rattle.jobs.specs.Table.{answersFrom, tableFrom}
 use Rattle.jobs.specs.Ledger.{lastLeft, verdictsFrom, acceptedBy}
 use Rattle.jobs.specs.Simulation.{Start}
@@ -38,7 +38,8 @@ pub record OnlyPair (c : Codec) (w starts payload : List ℕ) : Type 0 where
 
 -- ---- Both facts, by the accepted calls, newest first
 -- document 02, ticket 7: "once each cancellation followed by its reinstatement is struck out, the job's last accepted call is an opening; 12 and 14 go by
--- what is left"
+-- what is left"; ticket 10: "a hold followed by its release is struck from the number's history like a cancellation followed by its reinstatement, inner
+-- pairs first, and what is left must end in an opening"
 
 pub record BothFacts (c : Codec) (ledger : List Call) (w starts payload : List ℕ) : Type 0 where
   pub only : OnlyPair c w starts payload
@@ -71,6 +72,9 @@ pub record HandsOut (c : Codec) (ledger : List Call) (w out : List ℕ) (r : Job
       → r ≡ withhold out jobCancelled
   pub after-finishing : (starts payload : List ℕ) → OnlyPair c w starts payload → lastLeft ledger (jobNumber payload) ≡ some finishing
       → r ≡ withhold out notOpen
+  -- document 02, ticket 10: "It refuses with 23 .. reading .. a held job"
+  pub after-holding : (starts payload : List ℕ) → OnlyPair c w starts payload → lastLeft ledger (jobNumber payload) ≡ some holding
+      → r ≡ withhold out jobHeld
   pub none-accepted : (starts payload : List ℕ) → OnlyPair c w starts payload → lastLeft ledger (jobNumber payload) ≡ none
       → r ≡ withhold out notOpen
 

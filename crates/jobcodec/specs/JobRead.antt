@@ -29,7 +29,7 @@ withhold out a = record { answer = a; payload = out }
 
 -- ---- Under any codec with alphabet q and messages of k symbols
 
--- "The job reader goes on only with an accepted word": of its message 10, 12 and 14 are left to refuse with
+-- "The job reader goes on only with an accepted word": of its message 10, 12, 23 and 14 are left to refuse with
 abbrev pub jobOf : ℕ → ℕ → List Entry → List ℕ → List ℕ → JobRead
 jobOf q k es out ms =
     must (spellsPayload q k ms) (withhold out badPayload)
@@ -40,7 +40,7 @@ abbrev pub jobIn : ℕ → ℕ → List Entry → List ℕ → Reading → JobRe
 jobIn q k es out (refused a) = withhold out a
 jobIn q k es out (accepted ss ms) = jobOf q k es out ms
 
--- "10 for K, 3 4 7 8 9, 10, 12 14"
+-- "10 for K, 3 4 7 8 9, 10, 12 14"; document 02, ticket 10: "It refuses with 23, after 12 and before 14, reading .. a held job"
 unfoldable pub jobReading : Codec → List Entry → List ℕ → List ℕ → JobRead
 jobReading c es w out =
     let q = c .alphabet in
@@ -50,7 +50,7 @@ jobReading c es w out =
     (must (allBelow (c .foundBound) w) (withhold out badSymbol)
     (jobIn q k es out (c .decode w))))
 
--- ---- Under Construction A: "job read 1 2, 10 for K, 3 4 7 8 9, 10, 12 14"
+-- ---- Under Construction A: "job read 1 2, 10 for K, 3 4 7 8 9, 10, 12 14", with 23 before 14
 
 unfoldable pub jobReadOut : Params → List Entry → List ℕ → List ℕ → JobRead
 jobReadOut f es w out =

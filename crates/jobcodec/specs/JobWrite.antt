@@ -24,11 +24,12 @@ jobStatus es payload = standing (lookup es (jobNumber payload))
 abbrev pub unless : {A : Type 0} → ℕ → (ℕ → A) → A → A
 unless a refuse rest = must (eqb a served) (refuse a) rest
 
--- "Writing or reading a job requires it open and leaves the book unchanged": 12 and 14 are left to refuse with, and no table is handed back
+-- "Writing or reading a job requires it open and leaves the book unchanged": 12, 23 and 14 are left to refuse with, and no table is handed back
 abbrev pub whereOpen : {A : Type 0} → Status → (ℕ → A) → A → A
 whereOpen s refuse rest = unless (needsOpen s) refuse rest
 
--- "job write 1 2 10 3 5 12 14"; document 02, ticket 3: "It refuses with 17, itself a state refusal and ahead of the others, the .. writing of 0"
+-- "job write 1 2 10 3 5 12 14"; document 02, ticket 3: "It refuses with 17, itself a state refusal and ahead of the others, the .. writing of 0"; ticket 10:
+-- "It refuses with 23, after 12 and before 14, .. writing .. a held job"
 unfoldable pub jobWriteOut : Params → List Entry → Held → List ℕ → List ℕ → Encoded
 jobWriteOut f es at payload out =
     let k = messageLen f in

@@ -12,7 +12,7 @@ use Rattle.combinatorics.specs.Stretch.{bit}
 use Rattle.combinatorics.proofs.Cases.{by-bool, eqb-same, eqb-true, leb-holds}
 use Rattle.combinatorics.proofs.Stretch.{bit-le}
 use Rattle.jobs.specs.declared.Entry.{Entry}
-use Rattle.jobs.specs.declared.Entry.the-variants.{Free, Open, Cancelled}
+use Rattle.jobs.specs.declared.Entry.the-variants.{Free, Open, OnHold, Cancelled}
 use Rattle.jobs.specs.Jobs.{isHeld}
 use Rattle.jobs.specs.Table.{standing, isFree, holds, firstEntry, lookup, used, replaceFirst, again, twice}
 
@@ -21,23 +21,27 @@ use Rattle.jobs.specs.Table.{standing, isFree, holds, firstEntry, lookup
 pub free-is : (e : Entry) → isFree e ≡ true → e ≡ Free
 free-is Free t = refl
 free-is (Open x) t = absurd (false≢true t)
+free-is (OnHold x) t = absurd (false≢true t)
 free-is (Cancelled x was) t = absurd (false≢true t)
 
 holds-full : (e : Entry) (n : ℕ) → holds n e ≡ true → isFree e ≡ false
 holds-full Free n t = absurd (false≢true t)
 holds-full (Open x) n t = refl
+holds-full (OnHold x) n t = refl
 holds-full (Cancelled x was) n t = refl
 
 -- the entry of a number holds no other
 pub holds-only : (e : Entry) (n k : ℕ) → holds n e ≡ true → holds k e ≡ eqb n k
 holds-only Free n k t = absurd (false≢true t)
 holds-only (Open x) n k t = ap (λ (y : ℕ). eqb y k) (eqb-true x n t)
+holds-only (OnHold x) n k t = ap (λ (y : ℕ). eqb y k) (eqb-true x n t)
 holds-only (Cancelled x was) n k t = ap (λ (y : ℕ). eqb y k) (eqb-true x n t)
 
 -- an entry that is not free is held, and counts
 counted : (e : Entry) → bit (isHeld (standing e)) ≡ bit (not (isFree e))
 counted Free = refl
 counted (Open x) = refl
+counted (OnHold x) = refl
 counted (Cancelled x was) = refl
 
 -- ---- The entry of a number
@@ -95,6 +99,7 @@ once-rest e es o = neither (again es e) (twice es) o .1
 again-is : (e : Entry) (es : List Entry) (n : ℕ) → holds n e ≡ true → again es e ≡ any (holds n) es
 again-is Free es n t = absurd (false≢true t)
 again-is (Open x) es n t = ap (λ (k : ℕ). any (holds k) es) (eqb-true x n t)
+again-is (OnHold x) es n t = ap (λ (k : ℕ). any (holds k) es) (eqb-true x n t)
 again-is (Cancelled x was) es n t = ap (λ (k : ℕ). any (holds k) es) (eqb-true x n t)
 
 once-here : (e : Entry) (es : List Entry) (n : ℕ) → twice (e ∷ es) ≡ false → holds n e ≡ true → lookup es n ≡ Free
@@ -105,6 +110,7 @@ once-here e es n o t =
 never-again : (e : Entry) (es : List Entry) → ((n : ℕ) → holds n e ≡ true → lookup es n ≡ Free) → again es e ≡ false
 never-again Free es h = refl
 never-again (Open x) es h = rw (any-holds es x, h x (eqb-same x x refl))
+never-again (OnHold x) es h = rw (any-holds es x, h x (eqb-same x x refl))
 never-again (Cancelled x was) es h = rw (any-holds es x, h x (eqb-same x x refl))
 
 once-more : (e : Entry) (es : List Entry) → ((n : ℕ) → holds n e ≡ true → lookup es n ≡ Free) → twice es ≡ false → twice (e ∷ es) ≡ false

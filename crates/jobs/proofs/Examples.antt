@@ -1,5 +1,5 @@
--- Calls on number 0, and reinstatements, that tell each answer from its neighbours, of the table and of the ledger: rows that hold by computation. Cites
--- no law. Assumes nothing.
+-- Calls on number 0, reinstatements, holds and releases that tell each answer from its neighbours, of the table and of the ledger: rows that hold by
+-- computation. Cites no law. Assumes nothing.
 use mathlib.Core.Path.{_≡_, refl}
 use mathlib.Core.Bool.{true}
 use mathlib.Core.List.{List, [], _∷_}
@@ -9,9 +9,9 @@ use Rattle.combinatorics.specs.Examples.{Example, example, comesTrue}
 use Rattle.combinatorics.specs.Lists.{all, any, sameList}
 use Rattle.combinatorics.specs.Stretch.{tabulate}
 use Rattle.jobs.specs.declared.Entry.{Entry}
-use Rattle.jobs.specs.declared.Entry.the-variants.{Open, Cancelled}
-use Rattle.jobs.specs.declared.Before.the-variants.{WasAbsent, WasOpen}
-use Rattle.jobs.specs.Jobs.{slotCount, Kind, opening, cancelling, finishing, reinstating, on}
+use Rattle.jobs.specs.declared.Entry.the-variants.{Open, OnHold, Cancelled}
+use Rattle.jobs.specs.declared.Before.the-variants.{WasAbsent, WasOpen, WasOnHold}
+use Rattle.jobs.specs.Jobs.{slotCount, Kind, opening, cancelling, finishing, reinstating, holding, releasing, on}
 use Rattle.jobs.specs.Table.{firstEntry, replaceFirst, put, twice, decide, emptyTable, callAs}
 use Rattle.jobs.specs.Ledger.{historyOf, statusOf, status, held, verdict, enter, verdictsFrom}
 
@@ -55,6 +55,24 @@ calls =
     ∷ example (verdictsFrom [] (on cancelling 7 ∷ on reinstating 7 ∷ on finishing 7 ∷ on opening 7 ∷ [])) (0 ∷ 0 ∷ 14 ∷ 0 ∷ [])
     ∷ example (verdictsFrom (on cancelling 0 ∷ []) (on reinstating 0 ∷ on cancelling 0 ∷ [])) (0 ∷ 17 ∷ [])
     ∷ example (verdictsFrom (on cancelling 0 ∷ on opening 0 ∷ []) (on reinstating 0 ∷ on cancelling 0 ∷ [])) (0 ∷ 0 ∷ [])
+    -- "for an open 0 too"; opening a held 0 is 17; holding an unknown one 14, releasing it 24; 12 before 23, 14 and 24
+    ∷ example (answer holding (alone (Open 0))) (0 ∷ [])
+    ∷ example (answer releasing (alone (OnHold 0))) (0 ∷ [])
+    ∷ example (answer opening (alone (OnHold 0))) (17 ∷ [])
+    ∷ example (answer finishing (alone (OnHold 0))) (23 ∷ [])
+    ∷ example (answer holding (alone (OnHold 0))) (23 ∷ [])
+    ∷ example (answer reinstating (alone (OnHold 0))) (20 ∷ [])
+    ∷ example (answer holding emptyTable) (14 ∷ [])
+    ∷ example (answer releasing emptyTable) (24 ∷ [])
+    ∷ example (answer releasing (alone (Open 0))) (24 ∷ [])
+    ∷ example (answer holding (alone (Cancelled 0 WasOnHold))) (12 ∷ [])
+    ∷ example (answer finishing (alone (Cancelled 0 WasOnHold))) (12 ∷ [])
+    ∷ example (answer releasing (alone (Cancelled 0 WasOnHold))) (12 ∷ [])
+    -- "Opening a held number is 13."; cancelled while on hold, reinstated it is on hold; released it is open
+    ∷ example (verdictsFrom [] (on opening 7 ∷ on holding 7 ∷ on opening 7 ∷ on cancelling 7 ∷ on reinstating 7 ∷ on holding 7 ∷ []))
+    (0 ∷ 0 ∷ 13 ∷ 0 ∷ 0 ∷ 23 ∷ [])
+    ∷ example (verdictsFrom [] (on opening 7 ∷ on holding 7 ∷ on releasing 7 ∷ on releasing 7 ∷ on finishing 7 ∷ on holding 7 ∷ []))
+    (0 ∷ 0 ∷ 0 ∷ 24 ∷ 0 ∷ 14 ∷ [])
     ∷ []
 
 pub calls-hold : all comesTrue calls ≡ true

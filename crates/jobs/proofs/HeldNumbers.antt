@@ -1,4 +1,4 @@
--- What the ledger's count counts: the numbers open or cancelled, each once. Assumes nothing.
+-- What the ledger's count counts: the numbers open, on hold or cancelled, each once. Assumes nothing.
 use mathlib.Core.Path.{_≡_, refl, sym, ap, _∙_}
 use mathlib.Core.Bool.{Bool, true, false, not, cond, _||_, or-false}
 use mathlib.Core.List.{List, [], _∷_}

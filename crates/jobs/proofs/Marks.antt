@@ -11,7 +11,7 @@ use lib.Seq.{getD-set-same, getD-set-other}
 use Rattle.combinatorics.specs.Lists.{any}
 use Rattle.combinatorics.proofs.Cases.{by-bool, by-eq, eqb-true}
 use Rattle.jobs.specs.declared.Entry.{Entry}
-use Rattle.jobs.specs.declared.Entry.the-variants.{Free, Open, Cancelled}
+use Rattle.jobs.specs.declared.Entry.the-variants.{Free, Open, OnHold, Cancelled}
 use Rattle.jobs.specs.declared.Slot.{Slot}
 use Rattle.jobs.specs.declared.JobTable.{JobTable}
 use Rattle.jobs.specs.Jobs.{slotCount}
@@ -22,11 +22,13 @@ use Rattle.jobs.proofs.SlotLaws.{twice-here, twice-later, twice-end, th
 pub mark-fits : (e : Entry) → markOf e < markCount
 mark-fits Free = omega arith
 mark-fits (Open x) = mod-lt x (omega arith)
+mark-fits (OnHold x) = mod-lt x (omega arith)
 mark-fits (Cancelled x was) = mod-lt x (omega arith)
 
 mark-same : (e : Entry) (x : ℕ) → holds x e ≡ true → x % markCount ≡ markOf e
 mark-same Free x t = absurd (false≢true t)
 mark-same (Open y) x t = ap (λ (k : ℕ). k % markCount) (sym (eqb-true y x t))
+mark-same (OnHold y) x t = ap (λ (k : ℕ). k % markCount) (sym (eqb-true y x t))
 mark-same (Cancelled y was) x t = ap (λ (k : ℕ). k % markCount) (sym (eqb-true y x t))
 
 -- the slots from i on: no number twice, and a mark for each
@@ -44,6 +46,7 @@ module _ (es : List Entry) (marks : List ℕ) (i : ℕ) (m : Marked es marks i) 
   without-mark : (e : Entry) → getD marks (markOf e) 0 ≡ 0 → again (drop i es) e ≡ false
   without-mark Free z = refl
   without-mark (Open x) z = unheld (any (holds x) (drop i es)) (λ t. m .marked x t z)
+  without-mark (OnHold x) z = unheld (any (holds x) (drop i es)) (λ t. m .marked x t z)
   without-mark (Cancelled x was) z = unheld (any (holds x) (drop i es)) (λ t. m .marked x t z)
 
   pub unmarked : (e : Entry) (j : ℕ) → j ≡ markOf e → getD marks j 0 ≡ 0 → again (drop i es) e ≡ false

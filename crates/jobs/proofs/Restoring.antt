@@ -1,19 +1,19 @@
--- A cancellation that is taken back leaves the table as it was, slot for slot. Assumes nothing.
+-- A cancellation that is taken back, and a hold that is released, leave the table as it was, slot for slot. Assumes nothing.
 use mathlib.Core.Path.{_≡_, refl, sym, ap, _∙_}
 use mathlib.Core.Bool.{Bool, true, false, cond, true≢false}
 use mathlib.Core.List.{List, [], _∷_}
 use Prim.Native.Nat.{ℕ}
 use native.Mathlib.Omega.{arith}
 use lib.Dec.{eqb}
-use Rattle.refusals.specs.Refusals.{served, invalid, jobCancelled, tableFull, numberZero}
+use Rattle.refusals.specs.Refusals.{served, invalid, jobCancelled, notOpen, tableFull, numberZero, jobHeld}
 use Rattle.combinatorics.specs.Lists.{any}
 use Rattle.combinatorics.proofs.Cases.{by-bool, eqb-same, eqb-true}
 use Rattle.jobs.specs.declared.Entry.{Entry}
-use Rattle.jobs.specs.declared.Entry.the-variants.{Free, Open, Cancelled}
+use Rattle.jobs.specs.declared.Entry.the-variants.{Free, Open, OnHold, Cancelled}
 use Rattle.jobs.specs.declared.Before.{Before}
-use Rattle.jobs.specs.declared.Before.the-variants.{WasAbsent, WasOpen}
+use Rattle.jobs.specs.declared.Before.the-variants.{WasAbsent, WasOpen, WasOnHold}
 use Rattle.jobs.specs.Jobs.{isJob}
-use Rattle.jobs.specs.Table.{isFree, holds, firstEntry, lookup, replaceFirst, accept, put, twice, decide, restored, cancelAt, reinstateOut, Restores}
+use Rattle.jobs.specs.Table.{isFree, holds, firstEntry, lookup, replaceFirst, accept, put, twice, decide, restored, cancelAt, holdAt, reinstateOut, releaseOut, Restores, TurnsBack}
 use Rattle.jobs.proofs.Entries.{free-is, any-holds, entry-passes, holds-only, free-entry, free-here, free-there, Stored, stored}
 
 -- ---- Two stores at one place
@@ -54,6 +54,10 @@ module _ (es : List Entry) (n : ℕ) (once : twice es ≡ false) where
   unfolding decide
   reinstates next was l o e = rw (o, l, e)
 
+  releases : (next : List Entry) → lookup next n ≡ OnHold n → twice next ≡ false → replaceFirst (holds n) (Open n) next ≡ es → releaseOut next n ≡ accept es
+  unfolding decide
+  releases next l o e = rw (o, l, e)
+
   -- the entry of the number, put back under its own number
   put-back : (new e : Entry) → lookup es n ≡ e → holds n new ≡ true → replaceFirst (holds n) e (replaceFirst (holds n) new es) ≡ es
   put-back new e l p = ap (λ (f : Entry). replaceFirst (holds n) f (replaceFirst (holds n) new es)) (sym l) ∙ back (holds n) new p es
@@ -63,6 +67,9 @@ module _ (es : List Entry) (n : ℕ) (once : twice es ≡ false) where
 
   open-number : (x : ℕ) → lookup es n ≡ Open x → lookup es n ≡ Open n
   open-number x l = l ∙ ap {B = Entry} Open (eqb-true x n (rw l at (entry-passes (holds n) es (ap isFree l))))
+
+  on-hold-number : (x : ℕ) → lookup es n ≡ OnHold x → lookup es n ≡ OnHold n
+  on-hold-number x l = l ∙ ap {B = Entry} OnHold (eqb-true x n (rw l at (entry-passes (holds n) es (ap isFree l))))
 
   cancelled-own : (was : Before) → lookup es n ≡ restored was n → isFree (restored was n) ≡ false
       → reinstateOut (replaceFirst (holds n) (Cancelled n was) es) n ≡ accept es
@@ -79,10 +86,20 @@ module _ (es : List Entry) (n : ℕ) (once : twice es ≡ false) where
   unfolding put
   by-cancelled (Cancelled x was) l a = absurd (let z : jobCancelled ≡ served = a in omega arith)
   by-cancelled (Open x) l a = cancelled-own WasOpen (open-number x l) refl
+  by-cancelled (OnHold x) l a = cancelled-own WasOnHold (on-hold-number x l) refl
   by-cancelled Free l a =
       by-bool (isJob n)
       (λ j. by-bool (any isFree es) (λ t. rw (j, t) (cancelled-new l t)) (λ t. absurd (let z : tableFull ≡ served = rw (j, t) at a in omega arith)))
       (λ j. absurd (let z : numberZero ≡ served = rw j at a in omega arith))
+
+  by-hold : (e : Entry) → lookup es n ≡ e → holdAt e n es .answer ≡ served → releaseOut (holdAt e n es .table) n ≡ accept es
+  by-hold (Cancelled x was) l a = absurd (let z : jobCancelled ≡ served = a in omega arith)
+  by-hold (OnHold x) l a = absurd (let z : jobHeld ≡ served = a in omega arith)
+  by-hold Free l a = absurd (let z : notOpen ≡ served = a in omega arith)
+  by-hold (Open x) l a =
+      let m = open-number x l in
+      let s = own-stored (OnHold n) (Open n) m refl (λ k. refl) in
+      releases (replaceFirst (holds n) (OnHold n) es) (found-new _ _ _ s self) (s .once) (put-back (OnHold n) (Open n) m self)
 
 -- ---- 1 is refused before, and then the entry decides
 
@@ -91,3 +108,9 @@ unfolding decide
 restores es n a =
     by-bool (twice es) (λ t. absurd (let z : invalid ≡ served = rw t at a in omega arith))
     (λ t. rw t (by-cancelled es n t (lookup es n) refl (rw t at a)))
+
+pub turns-back : TurnsBack
+unfolding decide
+turns-back es n a =
+    by-bool (twice es) (λ t. absurd (let z : invalid ≡ served = rw t at a in omega arith))
+    (λ t. rw t (by-hold es n t (lookup es n) refl (rw t at a)))

@@ -6,18 +6,18 @@ use Prim.Native.Nat.{ℕ, _<_}
 use native.Mathlib.Omega.{arith}
 use lib.Dec.{eqb}
 use lib.ListN.{length, replicate, set, length-set}
-use Rattle.refusals.specs.Refusals.{served, must, jobCancelled, alreadyOpen, notOpen, tableFull, numberZero, notCancelled}
+use Rattle.refusals.specs.Refusals.{served, must, jobCancelled, alreadyOpen, notOpen, tableFull, numberZero, notCancelled, jobHeld, notHeld}
 use Rattle.combinatorics.specs.Lists.{any}
 use Rattle.combinatorics.specs.Stretch.{bit}
 use Rattle.combinatorics.proofs.Cases.{by-eq, by-bool, eqb-same, eqb-true}
 use Rattle.jobs.specs.declared.Entry.{Entry}
-use Rattle.jobs.specs.declared.Entry.the-variants.{Free, Open, Cancelled}
+use Rattle.jobs.specs.declared.Entry.the-variants.{Free, Open, OnHold, Cancelled}
 use Rattle.jobs.specs.declared.Before.{Before}
-use Rattle.jobs.specs.declared.Before.the-variants.{WasAbsent, WasOpen}
-use Rattle.jobs.specs.Jobs.{slotCount, Kind, opening, cancelling, finishing, reinstating, Call, on, isJob, Status, unknown, isHeld}
+use Rattle.jobs.specs.declared.Before.the-variants.{WasAbsent, WasOpen, WasOnHold}
+use Rattle.jobs.specs.Jobs.{slotCount, Kind, opening, cancelling, finishing, reinstating, holding, releasing, Call, on, isJob, Status, unknown, isHeld}
 use Rattle.jobs.specs.Table.{standing, isFree, holds, firstEntry, lookup, used, emptyTable, TableOut, refuse, accept, replaceFirst, put, add, twice, decide, openJob, restored, callAs, callOut, answersFrom, tableFrom}
 use Rattle.jobs.specs.Ledger.{historyOf, after, statusOf, status, lawful, held, judge, accepts, verdict, enter, verdictsFrom, ledgerFrom, acceptedBy}
-use Rattle.jobs.specs.Simulation.{Agrees, Simulation, Start, empty, zero-open, zero-cancelled, zero-opened-cancelled, SimulationFromStart}
+use Rattle.jobs.specs.Simulation.{Agrees, Simulation, Start, empty, zero-open, zero-cancelled, zero-opened-cancelled, zero-on-hold-cancelled, SimulationFromStart}
 use Rattle.jobs.proofs.Entries.{any-holds, entry-passes, holds-only, free-entry, Stored, stored, held-le, room-is, free-lookup, alone-lookup, alone-once, alone-used}
 
 -- one call's outcome is what the ledger says
@@ -119,11 +119,13 @@ module _ (es : List Entry) (h : List Call) (g : Agrees es h) (n : ℕ) where
   open-job : isJob n ≡ true → (e : Entry) → lookup es n ≡ e → Alike (openJob e n es) h (on opening n)
   open-job job (Cancelled x was) l = away opening jobCancelled l refl (rw job)
   open-job job (Open x) l = away opening alreadyOpen l refl (rw job)
+  open-job job (OnHold x) l = away opening alreadyOpen l refl (rw job)
   open-job job Free l = added es h g (on opening n) (Open n) l (λ k. refl) refl refl (rw job)
 
   reinstated : (x : ℕ) (was : Before) → lookup es n ≡ Cancelled x was → Alike (accept (replaceFirst (holds n) (restored was n) es)) h (on reinstating n)
   reinstated x WasAbsent l = gone reinstating (Cancelled x WasAbsent) l refl refl refl refl
   reinstated x WasOpen l = turned reinstating (Open n) (Cancelled x WasOpen) l refl (λ k. refl) refl refl refl
+  reinstated x WasOnHold l = turned reinstating (OnHold n) (Cancelled x WasOnHold) l refl (λ k. refl) refl refl refl
 
   one-call : (k : Kind) (e : Entry) → lookup es n ≡ e → Alike (callAs k es n) h (on k n)
   unfolding decide
@@ -131,15 +133,26 @@ module _ (es : List Entry) (h : List Call) (g : Agrees es h) (n : ℕ) where
       by-bool (isJob n) (λ job. rw (g .once, job, l) (open-job job e l)) (λ zero. rw (g .once, zero) (away opening numberZero l refl (rw zero)))
   one-call cancelling (Cancelled x was) l = rw (g .once, l) (away cancelling jobCancelled l refl refl)
   one-call cancelling (Open x) l = rw (g .once, l) (turned cancelling (Cancelled n WasOpen) (Open x) l refl (λ k. refl) refl refl refl)
+  one-call cancelling (OnHold x) l = rw (g .once, l) (turned cancelling (Cancelled n WasOnHold) (OnHold x) l refl (λ k. refl) refl refl refl)
   one-call cancelling Free l =
       by-bool (isJob n) (λ job. rw (g .once, l, job) (added es h g (on cancelling n) (Cancelled n WasAbsent) l (λ k. refl) refl refl (rw job)))
       (λ zero. rw (g .once, l, zero) (away cancelling numberZero l refl (rw zero)))
   one-call finishing (Cancelled x was) l = rw (g .once, l) (away finishing jobCancelled l refl refl)
   one-call finishing (Open x) l = rw (g .once, l) (gone finishing (Open x) l refl refl refl refl)
+  one-call finishing (OnHold x) l = rw (g .once, l) (away finishing jobHeld l refl refl)
   one-call finishing Free l = rw (g .once, l) (away finishing notOpen l refl refl)
   one-call reinstating (Cancelled x was) l = rw (g .once, l) (reinstated x was l)
   one-call reinstating (Open x) l = rw (g .once, l) (away reinstating notCancelled l refl refl)
+  one-call reinstating (OnHold x) l = rw (g .once, l) (away reinstating notCancelled l refl refl)
   one-call reinstating Free l = rw (g .once, l) (away reinstating notCancelled l refl refl)
+  one-call holding (Cancelled x was) l = rw (g .once, l) (away holding jobCancelled l refl refl)
+  one-call holding (OnHold x) l = rw (g .once, l) (away holding jobHeld l refl refl)
+  one-call holding (Open x) l = rw (g .once, l) (turned holding (OnHold n) (Open x) l refl (λ k. refl) refl refl refl)
+  one-call holding Free l = rw (g .once, l) (away holding notOpen l refl refl)
+  one-call releasing (Cancelled x was) l = rw (g .once, l) (away releasing jobCancelled l refl refl)
+  one-call releasing (OnHold x) l = rw (g .once, l) (turned releasing (Open n) (OnHold x) l refl (λ k. refl) refl refl refl)
+  one-call releasing (Open x) l = rw (g .once, l) (away releasing notHeld l refl refl)
+  one-call releasing Free l = rw (g .once, l) (away releasing notHeld l refl refl)
 
 pub call-alike : (es : List Entry) (h : List Call) → Agrees es h → (c : Call) → Alike (callOut es c) h c
 call-alike es h g c = one-call es h g (c .number) (c .kind) (lookup es (c .number)) refl
@@ -184,6 +197,9 @@ start-agrees es before (zero-cancelled i l) =
     (λ n. by-bool (eqb 0 n) (λ t. rw t) (λ t. rw t))
 start-agrees es before (zero-opened-cancelled i l) =
     alone-agrees i l (Cancelled 0 WasOpen) (on cancelling 0 ∷ on opening 0 ∷ []) (λ n. by-bool (eqb 0 n) (λ t. rw t) (λ t. rw t)) refl
+    (λ n. by-bool (eqb 0 n) (λ t. rw t) (λ t. rw t))
+start-agrees es before (zero-on-hold-cancelled i l) =
+    alone-agrees i l (Cancelled 0 WasOnHold) (on cancelling 0 ∷ on holding 0 ∷ on opening 0 ∷ []) (λ n. by-bool (eqb 0 n) (λ t. rw t) (λ t. rw t)) refl
     (λ n. by-bool (eqb 0 n) (λ t. rw t) (λ t. rw t))
 
 pub simulation-from-start : SimulationFromStart

@@ -1,4 +1,5 @@
--- What is left of a number's history once each cancellation followed by its reinstatement is struck out, and that it says what the number is.
+-- What is left of a number's history once each cancellation followed by its reinstatement, and each hold followed by its release, is struck out; and
+-- that it says what the number is.
 -- Assumes nothing.
 use mathlib.Core.Path.{_≡_, refl, sym, ap, _∙_}
 use mathlib.Core.Bool.{Bool, true, false, cond, _&&_, _||_, true≢false, false≢true}
@@ -6,7 +7,7 @@ use mathlib.Core.List.{List, [], _∷_, _++_}
 use Rattle.combinatorics.specs.Lists.{all}
 use Rattle.combinatorics.proofs.Cases.{by-bool}
 use Rattle.combinatorics.proofs.Lists.{both}
-use Rattle.jobs.specs.Jobs.{Kind, opening, cancelling, finishing, reinstating, Status, unknown, opened, cancelled, needsOpen}
+use Rattle.jobs.specs.Jobs.{Kind, opening, cancelling, finishing, reinstating, holding, releasing, Status, unknown, opened, onHold, cancelled, needsOpen}
 use Rattle.jobs.specs.Ledger.{after, statusOf, takesBack, strike, whatIsLeft, hasPair, StrikesPairs, newestOf, answerAfter, accepts, lawful, LeftDecides}
 
 -- ---- In any order
@@ -17,6 +18,15 @@ taken-plain reinstating cancelling i t = refl
 taken-plain reinstating opening i t = absurd (false≢true t)
 taken-plain reinstating finishing i t = absurd (false≢true t)
 taken-plain reinstating reinstating i t = absurd (false≢true t)
+taken-plain reinstating holding i t = absurd (false≢true t)
+taken-plain reinstating releasing i t = absurd (false≢true t)
+taken-plain releasing holding i t = refl
+taken-plain releasing opening i t = absurd (false≢true t)
+taken-plain releasing cancelling i t = absurd (false≢true t)
+taken-plain releasing finishing i t = absurd (false≢true t)
+taken-plain releasing reinstating i t = absurd (false≢true t)
+taken-plain releasing releasing i t = absurd (false≢true t)
+taken-plain holding j i t = absurd (false≢true t)
 taken-plain opening j i t = absurd (false≢true t)
 taken-plain cancelling j i t = absurd (false≢true t)
 taken-plain finishing j i t = absurd (false≢true t)
@@ -67,7 +77,9 @@ abbrev plain : Kind → Bool
 plain opening = true
 plain cancelling = true
 plain finishing = true
+plain holding = true
 plain reinstating = false
+plain releasing = false
 
 -- what is left of the history `ks`
 record Left (ks left : List Kind) : Type 0 where
@@ -86,11 +98,19 @@ abbrev before : Status → Status
 before (cancelled s) = s
 before unknown = unknown
 before opened = unknown
+before onHold = unknown
 
 abbrev isCancelled : Status → Bool
 isCancelled (cancelled s) = true
 isCancelled unknown = false
 isCancelled opened = false
+isCancelled onHold = false
+
+abbrev isOnHold : Status → Bool
+isOnHold onHold = true
+isOnHold unknown = false
+isOnHold opened = false
+isOnHold (cancelled s) = false
 
 -- a reinstatement goes with the cancellation that is the last of what is left
 reinstated : (ks left : List Kind) (s : Status) → statusOf ks ≡ cancelled s → Left ks left → Left (reinstating ∷ ks) (strike reinstating left)
@@ -98,7 +118,9 @@ unfolding all lawful statusOf
 reinstated ks [] s e l = absurd (false≢true (ap isCancelled (l .same ∙ e)))
 reinstated ks (opening ∷ left) s e l = absurd (false≢true (ap isCancelled (l .same ∙ e)))
 reinstated ks (finishing ∷ left) s e l = absurd (false≢true (ap isCancelled (l .same ∙ e)))
+reinstated ks (holding ∷ left) s e l = absurd (false≢true (ap isCancelled (l .same ∙ e)))
 reinstated ks (reinstating ∷ left) s e l = absurd (false≢true (l .plainly))
+reinstated ks (releasing ∷ left) s e l = absurd (false≢true (l .plainly))
 reinstated ks (cancelling ∷ left) s e l =
     record {
       plainly = l .plainly;
@@ -106,18 +128,48 @@ reinstated ks (cancelling ∷ left) s e l =
       same = rw e (ap before (l .same ∙ e));
     }
 
+-- only an open number is held
+was-open : (s : Status) → accepts holding s ≡ true → s ≡ opened
+was-open opened a = refl
+was-open unknown a = absurd (false≢true a)
+was-open onHold a = absurd (false≢true a)
+was-open (cancelled s) a = absurd (false≢true a)
+
+-- a release goes with the hold that is the last of what is left
+released : (ks left : List Kind) → statusOf ks ≡ onHold → Left ks left → Left (releasing ∷ ks) (strike releasing left)
+unfolding all lawful statusOf
+released ks [] e l = absurd (false≢true (ap isOnHold (l .same ∙ e)))
+released ks (opening ∷ left) e l = absurd (false≢true (ap isOnHold (l .same ∙ e)))
+released ks (finishing ∷ left) e l = absurd (false≢true (ap isOnHold (l .same ∙ e)))
+released ks (cancelling ∷ left) e l = absurd (false≢true (ap isOnHold (l .same ∙ e)))
+released ks (reinstating ∷ left) e l = absurd (false≢true (l .plainly))
+released ks (releasing ∷ left) e l = absurd (false≢true (l .plainly))
+released ks (holding ∷ left) e l =
+    let a = both (accepts holding (statusOf left)) (lawful left) (l .accepted) in
+    record { plainly = l .plainly; accepted = a .1; same = was-open (statusOf left) (a .0) }
+
 strike-plain : (k : Kind) (left : List Kind) → plain k ≡ true → strike k left ≡ k ∷ left
 strike-plain k [] p = refl
 strike-plain opening (j ∷ left) p = refl
 strike-plain cancelling (j ∷ left) p = refl
 strike-plain finishing (j ∷ left) p = refl
+strike-plain holding (j ∷ left) p = refl
 strike-plain reinstating (j ∷ left) p = absurd (false≢true p)
+strike-plain releasing (j ∷ left) p = absurd (false≢true p)
 
-by-status : (ks left : List Kind) (s : Status) → statusOf ks ≡ s → accepts reinstating s ≡ true → Left ks left
+if-cancelled : (ks left : List Kind) (s : Status) → statusOf ks ≡ s → accepts reinstating s ≡ true → Left ks left
     → Left (reinstating ∷ ks) (strike reinstating left)
-by-status ks left (cancelled s) e a l = reinstated ks left s e l
-by-status ks left unknown e a l = absurd (false≢true a)
-by-status ks left opened e a l = absurd (false≢true a)
+if-cancelled ks left (cancelled s) e a l = reinstated ks left s e l
+if-cancelled ks left unknown e a l = absurd (false≢true a)
+if-cancelled ks left opened e a l = absurd (false≢true a)
+if-cancelled ks left onHold e a l = absurd (false≢true a)
+
+if-on-hold : (ks left : List Kind) (s : Status) → statusOf ks ≡ s → accepts releasing s ≡ true → Left ks left
+    → Left (releasing ∷ ks) (strike releasing left)
+if-on-hold ks left onHold e a l = released ks left e l
+if-on-hold ks left unknown e a l = absurd (false≢true a)
+if-on-hold ks left opened e a l = absurd (false≢true a)
+if-on-hold ks left (cancelled s) e a l = absurd (false≢true a)
 
 is-left : (ks : List Kind) → lawful ks ≡ true → Left ks (whatIsLeft ks)
 unfolding whatIsLeft lawful
@@ -130,7 +182,9 @@ is-left (k ∷ ks) a =
     by-kind opening a l = kept opening ks (whatIsLeft ks) refl a (strike-plain opening (whatIsLeft ks) refl) l
     by-kind cancelling a l = kept cancelling ks (whatIsLeft ks) refl a (strike-plain cancelling (whatIsLeft ks) refl) l
     by-kind finishing a l = kept finishing ks (whatIsLeft ks) refl a (strike-plain finishing (whatIsLeft ks) refl) l
-    by-kind reinstating a l = by-status ks (whatIsLeft ks) (statusOf ks) refl a l
+    by-kind holding a l = kept holding ks (whatIsLeft ks) refl a (strike-plain holding (whatIsLeft ks) refl) l
+    by-kind reinstating a l = if-cancelled ks (whatIsLeft ks) (statusOf ks) refl a l
+    by-kind releasing a l = if-on-hold ks (whatIsLeft ks) (statusOf ks) refl a l
 
 last-answers : (left : List Kind) → all plain left ≡ true → needsOpen (statusOf left) ≡ answerAfter (newestOf left)
 unfolding all statusOf
@@ -138,7 +192,9 @@ last-answers [] p = refl
 last-answers (opening ∷ left) p = refl
 last-answers (cancelling ∷ left) p = refl
 last-answers (finishing ∷ left) p = refl
+last-answers (holding ∷ left) p = refl
 last-answers (reinstating ∷ left) p = absurd (false≢true p)
+last-answers (releasing ∷ left) p = absurd (false≢true p)
 
 pub left-decides : LeftDecides
 left-decides ks a =

@@ -44,9 +44,9 @@ pub no-kind : (k : ℕ) → k ≢ 79 → k ≢ 67 → k ≢ 70 → kindOf k ≡ 
 unfolding kindOf
 no-kind k o c f = rw (eqb-other k 79 o, eqb-other k 67 c, eqb-other k 70 f)
 
-pub list-kind : (k : ℕ) → k ≢ 73 → listKind k ≡ kindOf k
+pub list-kind : (k : ℕ) → k ≢ 73 → k ≢ 72 → k ≢ 85 → listKind k ≡ kindOf k
 unfolding listKind
-list-kind k i = rw (eqb-other k 73 i)
+list-kind k i h u = rw (eqb-other k 73 i, eqb-other k 72 h, eqb-other k 85 u)
 
 module _ (es : List Entry) (n : ℕ) (cs : List Call) where
   table-next : (o : Option Kind) → known o ≡ true → tableFrom es (callBefore o n cs) ≡ tableFrom (callBy o es n .table) cs

@@ -10,7 +10,7 @@ use Rattle.refusals.specs.Refusals.{served, wrongLength, badRecord, must}
 use Rattle.combinatorics.specs.Lists.{all}
 use Rattle.jobs.specs.declared.Entry.{Entry}
 use Rattle.jobs.specs.declared.TableAnswer.{TableAnswer}
-use Rattle.jobs.specs.Jobs.{Kind, opening, cancelling, finishing, reinstating, Call, on}
+use Rattle.jobs.specs.Jobs.{Kind, opening, cancelling, finishing, reinstating, holding, releasing, Call, on}
 use Rattle.jobs.specs.Table.{TableOut, refuse, callAs, answersFrom, tableFrom}
 use Rattle.jobs.specs.Slots.{entries}
 
@@ -22,9 +22,14 @@ kindOf letter =
     (cond (eqb letter 70) (some finishing)
     none))
 
--- the letters of a list's calls: those of records, and 73, I (reinstate), which no record has (docs/DECISIONS.md)
+-- the letters of a list's calls: those of records, and 73, 72, 85, I (reinstate), H (hold), U (release), which no record has
+-- (docs/DECISIONS.md)
 unfoldable pub listKind : ℕ → Option Kind
-listKind letter = cond (eqb letter 73) (some reinstating) (kindOf letter)
+listKind letter =
+    cond (eqb letter 73) (some reinstating)
+    (cond (eqb letter 72) (some holding)
+    (cond (eqb letter 85) (some releasing)
+    (kindOf letter)))
 
 -- a call by its letter; another letter is 11 as in a record, before the call's own refusals (docs/DECISIONS.md)
 abbrev pub callBy : Option Kind → List Entry → ℕ → TableOut

@@ -6,12 +6,12 @@ use Prim.Native.Nat.{ℕ, _<_}
 use lib.ListN.{length, set}
 use Rattle.jobs.specs.declared.Entry.{Entry}
 use Rattle.jobs.specs.declared.Entry.the-variants.{Open, Cancelled}
-use Rattle.jobs.specs.declared.Before.the-variants.{WasAbsent, WasOpen}
-use Rattle.jobs.specs.Jobs.{slotCount, opening, cancelling, Call, on}
+use Rattle.jobs.specs.declared.Before.the-variants.{WasAbsent, WasOpen, WasOnHold}
+use Rattle.jobs.specs.Jobs.{slotCount, opening, cancelling, holding, Call, on}
 use Rattle.jobs.specs.Table.{standing, lookup, used, twice, emptyTable, answersFrom, tableFrom}
 use Rattle.jobs.specs.Ledger.{historyOf, status, lawful, held, verdictsFrom, ledgerFrom}
 
--- The table holds exactly the numbers that the ledger has open or cancelled, each once, in that state.
+-- The table holds exactly the numbers that the ledger has open, on hold or cancelled, each once, in that state.
 pub record Agrees (es : List Entry) (h : List Call) : Type 0 where
   -- "It has 64 places"
   pub slots : length es ≡ slotCount
@@ -41,10 +41,11 @@ pub data Start : List Entry → List Call → Type 0 where
   -- "in a ledger that begins with every number unknown"
   empty : Start emptyTable []
   -- document 02, ticket 3: "its list may also start from a book that holds 0 alone, in any place, open or cancelled, as if former accepted calls had put
-  -- it there": an opening; a cancellation; or an opening and then a cancellation
+  -- it there": an opening; a cancellation, alone, after an opening, or after an opening and a hold
   zero-open : (i : ℕ) → i < slotCount → Start (set emptyTable i (Open 0)) (on opening 0 ∷ [])
   zero-cancelled : (i : ℕ) → i < slotCount → Start (set emptyTable i (Cancelled 0 WasAbsent)) (on cancelling 0 ∷ [])
   zero-opened-cancelled : (i : ℕ) → i < slotCount → Start (set emptyTable i (Cancelled 0 WasOpen)) (on cancelling 0 ∷ on opening 0 ∷ [])
+  zero-on-hold-cancelled : (i : ℕ) → i < slotCount → Start (set emptyTable i (Cancelled 0 WasOnHold)) (on cancelling 0 ∷ on holding 0 ∷ on opening 0 ∷ [])
 
 abbrev pub SimulationFromStart : Type 0
 SimulationFromStart =

@@ -3,7 +3,7 @@ use mathlib.Core.Bool.{Bool, cond}
 use mathlib.Core.List.{List, [], _∷_, map}
 use Prim.Native.Nat.{ℕ, suc, _%_}
 use Rattle.jobs.specs.declared.Entry.{Entry}
-use Rattle.jobs.specs.declared.Entry.the-variants.{Free, Open, Cancelled}
+use Rattle.jobs.specs.declared.Entry.the-variants.{Free, Open, OnHold, Cancelled}
 use Rattle.jobs.specs.declared.JobTable.{JobTable}
 use Rattle.jobs.specs.declared.TableAnswer.{TableAnswer}
 use Rattle.jobs.specs.declared.Sought.{Sought}
@@ -34,4 +34,5 @@ markCount = 1024
 abbrev pub markOf : Entry → ℕ
 markOf Free = 0
 markOf (Open x) = x % markCount
+markOf (OnHold x) = x % markCount
 markOf (Cancelled x was) = x % markCount

@@ -7,7 +7,7 @@ ghost use lib.ListN.{length, drop};
 ghost use Rattle.refusals.specs.Refusals.{served};
 ghost use Rattle.combinatorics.specs.Lists.{all};
 ghost use Rattle.jobs.specs.Jobs.{slotCount, Call, isJob};
-ghost use Rattle.jobs.specs.Table.{isFree, emptyTable, openOut, cancelOut, finishOut, reinstateOut};
+ghost use Rattle.jobs.specs.Table.{isFree, emptyTable, openOut, cancelOut, finishOut, reinstateOut, holdOut, releaseOut};
 ghost use Rattle.jobs.specs.Slots.{entries, outcome, seeks, firstThat, markCount, markOf};
 ghost use Rattle.jobs.specs.Replay.{kindOf, listKind, callBy, isLetter, isListLetter, callsOf, AreCalls, replayed, made, replayOut};
 ghost use Rattle.jobs.specs.Simulation.{Agrees, Follows};
@@ -17,12 +17,14 @@ use refusals::Refusal;
 pub enum Before {
     WasAbsent,
     WasOpen,
+    WasOnHold,
 }
 
 // What a slot holds. A number is any of 32 bits. 0 is no job; a table holds it only where it was put there before it was refused.
 pub enum Entry {
     Free,
     Open(u32),
+    OnHold(u32),
     Cancelled(u32, Before),
 }
 
@@ -78,6 +80,7 @@ impl JobTable {
         match entry {
             Entry::Cancelled(_, _) => self.refuse(Refusal::CANCELLED),
             Entry::Open(_) => self.refuse(Refusal::ALREADY_OPEN),
+            Entry::OnHold(_) => self.refuse(Refusal::ALREADY_OPEN),
             Entry::Free => self.put(Sought::FreeSlot, Entry::Open(number)),
         }
     }
@@ -96,6 +99,10 @@ impl JobTable {
                 Sought::Number(number),
                 Entry::Cancelled(number, Before::WasOpen),
             ),
+            Entry::OnHold(_) => self.put(
+                Sought::Number(number),
+                Entry::Cancelled(number, Before::WasOnHold),
+            ),
             Entry::Free => {
                 if !is_job(number) {
                     return self.refuse(Refusal::NUMBER_ZERO);
@@ -108,7 +115,7 @@ impl JobTable {
         }
     }
 
-    // The open number goes, and its slot is free. Refusals: 1 12 14.
+    // The open number goes, and its slot is free. Refusals: 1 12 23 14.
     pub fn finish(self, number: u32) -> TableAnswer
         ensures { λ r. ⌜ outcome r ≡ finishOut (entries self) number ⌝ }
     {
@@ -118,6 +125,7 @@ impl JobTable {
         let entry = self.lookup(number);
         match entry {
             Entry::Cancelled(_, _) => self.refuse(Refusal::CANCELLED),
+            Entry::OnHold(_) => self.refuse(Refusal::HELD),
             Entry::Open(_) => self.put(Sought::Number(number), Entry::Free),
             Entry::Free => self.refuse(Refusal::NOT_OPEN),
         }
@@ -136,7 +144,40 @@ impl JobTable {
                 self.put(Sought::Number(number), restored(before, number))
             }
             Entry::Open(_) => self.refuse(Refusal::NOT_CANCELLED),
+            Entry::OnHold(_) => self.refuse(Refusal::NOT_CANCELLED),
             Entry::Free => self.refuse(Refusal::NOT_CANCELLED),
+        }
+    }
+
+    // The open number is on hold. Refusals: 1 12 23 14.
+    pub fn hold(self, number: u32) -> TableAnswer
+        ensures { λ r. ⌜ outcome r ≡ holdOut (entries self) number ⌝ }
+    {
+        if self.twice() {
+            return self.refuse(Refusal::INVALID);
+        }
+        let entry = self.lookup(number);
+        match entry {
+            Entry::Cancelled(_, _) => self.refuse(Refusal::CANCELLED),
+            Entry::OnHold(_) => self.refuse(Refusal::HELD),
+            Entry::Open(_) => self.put(Sought::Number(number), Entry::OnHold(number)),
+            Entry::Free => self.refuse(Refusal::NOT_OPEN),
+        }
+    }
+
+    // The number on hold is open again. Refusals: 1 12 24.
+    pub fn release(self, number: u32) -> TableAnswer
+        ensures { λ r. ⌜ outcome r ≡ releaseOut (entries self) number ⌝ }
+    {
+        if self.twice() {
+            return self.refuse(Refusal::INVALID);
+        }
+        let entry = self.lookup(number);
+        match entry {
+            Entry::Cancelled(_, _) => self.refuse(Refusal::CANCELLED),
+            Entry::OnHold(_) => self.put(Sought::Number(number), Entry::Open(number)),
+            Entry::Open(_) => self.refuse(Refusal::NOT_HELD),
+            Entry::Free => self.refuse(Refusal::NOT_HELD),
         }
     }
 
@@ -152,12 +193,14 @@ impl JobTable {
         }
     }
 
-    // The call of a letter in a list: those of records, and I reinstates. Refusals: 11 for another letter, then the call's own.
+    // The call of a letter in a list: those of records, and I reinstates, H holds, U releases. Refusals: 11 for another letter, then the call's own.
     pub fn list_call(self, letter: u8, number: u32) -> TableAnswer
         ensures { λ r. ⌜ outcome r ≡ callBy (listKind letter) (entries self) number ⌝ }
     {
         match letter {
             b'I' => self.reinstate(number),
+            b'H' => self.hold(number),
+            b'U' => self.release(number),
             _ => self.call(letter, number),
         }
     }
@@ -219,7 +262,7 @@ impl JobTable {
     {
         match entry {
             Entry::Free => false,
-            Entry::Open(x) | Entry::Cancelled(x, _) => {
+            Entry::Open(x) | Entry::OnHold(x) | Entry::Cancelled(x, _) => {
                 self.find(start, Sought::Number(x)) < JobTable::SLOTS
             }
         }
@@ -275,6 +318,7 @@ fn restored(before: Before, number: u32) -> Entry
     match before {
         Before::WasAbsent => Entry::Free,
         Before::WasOpen => Entry::Open(number),
+        Before::WasOnHold => Entry::OnHold(number),
     }
 }
 
@@ -284,7 +328,7 @@ fn mark_of(entry: Entry) -> usize
 {
     match entry {
         Entry::Free => 0,
-        Entry::Open(x) | Entry::Cancelled(x, _) => x as usize % MARKS,
+        Entry::Open(x) | Entry::OnHold(x) | Entry::Cancelled(x, _) => x as usize % MARKS,
     }
 }
 
@@ -310,6 +354,7 @@ fn is_free(entry: Entry) -> bool
     match entry {
         Entry::Free => true,
         Entry::Open(_) => false,
+        Entry::OnHold(_) => false,
         Entry::Cancelled(_, _) => false,
     }
 }
@@ -319,13 +364,13 @@ fn holds(entry: Entry, number: u32) -> bool
 {
     match entry {
         Entry::Free => false,
-        Entry::Open(x) | Entry::Cancelled(x, _) => x == number,
+        Entry::Open(x) | Entry::OnHold(x) | Entry::Cancelled(x, _) => x == number,
     }
 }
 
 // Makes the calls of lent letters and numbers, one after the other from a table; each answer goes to its place in `answers`.
-// Refusals of the whole list: 3 for lists of other lengths, 11 for a letter other than O, C, F, I. The table is then as it was, and `answers` keeps
-// what it held.
+// Refusals of the whole list: 3 for lists of other lengths, 11 for a letter other than O, C, F, I, H, U. The table is then as it was, and `answers`
+// keeps what it held.
 pub fn replay(table: JobTable, letters: &[u8], numbers: &[u32], answers: &mut [u8]) -> TableAnswer
     ensures outcome { λ r. ⌜ replayed r (now (answers .exit)) ≡ replayOut (entries table) (now (letters .entry)) (now (numbers .entry)) (now (answers .entry)) ⌝ }
     ensures ledger { λ r. ⌜ ((before : List Call) → Agrees (entries table) before → r .answer ≡ served → Follows before (callsOf (now (letters .entry)) (now (numbers .entry))) (now (answers .exit)) (entries (r .table))) ⌝ }
@@ -361,6 +406,8 @@ pub fn is_list_letter(letter: u8) -> bool
 {
     match letter {
         b'I' => true,
+        b'H' => true,
+        b'U' => true,
         _ => is_letter(letter),
     }
 }

@@ -79,11 +79,19 @@ numberZero = 17
 abbrev pub notCancelled : ℕ
 notCancelled = 20
 
+-- document 02, ticket 10: "It refuses with 23, after 12 and before 14, reading, writing, finishing or holding a held job"
+abbrev pub jobHeld : ℕ
+jobHeld = 23
+
+-- document 02, ticket 10: ".. and with 24, after 12, releasing one that isn't held."
+abbrev pub notHeld : ℕ
+notHeld = 24
+
 -- both lists
 abbrev pub refusals : List ℕ
 refusals =
     invalid ∷ unfit ∷ wrongLength ∷ badSymbol ∷ badStarts ∷ uncovered ∷ noPattern ∷ valueTooLarge ∷ disagrees ∷ badPayload ∷ badRecord
-    ∷ jobCancelled ∷ alreadyOpen ∷ notOpen ∷ tableFull ∷ numberZero ∷ notCancelled ∷ []
+    ∷ jobCancelled ∷ alreadyOpen ∷ notOpen ∷ tableFull ∷ numberZero ∷ notCancelled ∷ jobHeld ∷ notHeld ∷ []
 
 -- An order of refusals, "1 2 3 ..", reads downward: where a test fails the outcome is `else`, and otherwise the next test decides.
 abbrev pub must : {A : Type 0} → Bool → A → A → A

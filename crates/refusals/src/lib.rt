@@ -1,6 +1,6 @@
 // The refusal numbers of documents 01 and 02, one name each. Assumes nothing.
 ghost use mathlib.Core.Path.{_≡_};
-ghost use Rattle.refusals.specs.Refusals.{served, invalid, unfit, wrongLength, badSymbol, badStarts, uncovered, noPattern, valueTooLarge, disagrees, badPayload, badRecord, jobCancelled, alreadyOpen, notOpen, tableFull, numberZero, notCancelled, refusals};
+ghost use Rattle.refusals.specs.Refusals.{served, invalid, unfit, wrongLength, badSymbol, badStarts, uncovered, noPattern, valueTooLarge, disagrees, badPayload, badRecord, jobCancelled, alreadyOpen, notOpen, tableFull, numberZero, notCancelled, jobHeld, notHeld, refusals};
 
 // The numbers stand under this name; 0 stands for an accepted call.
 pub struct Refusal {}
@@ -44,8 +44,12 @@ impl Refusal {
 
     pub const NOT_CANCELLED: u8 = 20;
 
+    pub const HELD: u8 = 23;
+
+    pub const NOT_HELD: u8 = 24;
+
     // Both lists, in document 01's order, with document 02's numbers behind. Its contract ties each name here to that of specs/.
-    pub fn all() -> [u8; 17]
+    pub fn all() -> [u8; 19]
         ensures list { λ r. ⌜ r ≡ refusals ⌝ }
         ensures { λ _. do ⌜ (← ⟦Refusal::NONE⟧ .entry) ≡ served ⌝ }
         ensures { λ _. do ⌜ (← ⟦Refusal::INVALID⟧ .entry) ≡ invalid ⌝ }
@@ -65,6 +69,8 @@ impl Refusal {
         ensures { λ _. do ⌜ (← ⟦Refusal::FULL⟧ .entry) ≡ tableFull ⌝ }
         ensures { λ _. do ⌜ (← ⟦Refusal::NUMBER_ZERO⟧ .entry) ≡ numberZero ⌝ }
         ensures { λ _. do ⌜ (← ⟦Refusal::NOT_CANCELLED⟧ .entry) ≡ notCancelled ⌝ }
+        ensures { λ _. do ⌜ (← ⟦Refusal::HELD⟧ .entry) ≡ jobHeld ⌝ }
+        ensures { λ _. do ⌜ (← ⟦Refusal::NOT_HELD⟧ .entry) ≡ notHeld ⌝ }
     {
         [
             Refusal::INVALID,
@@ -84,6 +90,8 @@ impl Refusal {
             Refusal::FULL,
             Refusal::NUMBER_ZERO,
             Refusal::NOT_CANCELLED,
+            Refusal::HELD,
+            Refusal::NOT_HELD,
         ]
     }
 }

@@ -19,6 +19,9 @@ enum-told-2 c = search needs
 enum-told-3 : tie.Need-enum-told-3
 enum-told-3 c = search needs
 
+enum-told-4 : tie.Need-enum-told-4
+enum-told-4 c = search needs
+
 returns : tie.Need-returns
 returns c = sym (ap (λ (e : Entry). needsOpen (standing e)) (sym (c .before .before .lookup .ensures) ∙ c .enum-told .given .1))
 
@@ -28,6 +31,19 @@ returns-2 c = sym (ap (λ (e : Entry). needsOpen (standing e)) (sym (c .before .
 returns-3 : tie.Need-returns-3
 returns-3 c = sym (ap (λ (e : Entry). needsOpen (standing e)) (sym (c .before .before .lookup .ensures) ∙ c .enum-told3 .given .1))
 
+returns-4 : tie.Need-returns-4
+returns-4 c = sym (ap (λ (e : Entry). needsOpen (standing e)) (sym (c .before .before .lookup .ensures) ∙ c .enum-told4 .given .1))
+
 pub needs-open-spec : {M : Type 1} → statement M
 needs-open-spec =
-    tie.close (tie.spec lookup-requires enum-told enum-told-2 enum-told-3 returns returns-2 returns-3)
+    tie.close
+    (tie.spec
+    lookup-requires
+    enum-told
+    enum-told-2
+    enum-told-3
+    enum-told-4
+    returns
+    returns-2
+    returns-3
+    returns-4)

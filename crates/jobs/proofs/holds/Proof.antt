@@ -13,11 +13,15 @@ enum-known-entry c = search needs
 enum-known-entry-2 : tie.Need-enum-known-entry-2
 enum-known-entry-2 c = search needs
 
+enum-known-entry-3 : tie.Need-enum-known-entry-3
+enum-known-entry-3 c = search needs
+
 returns : tie.Need-returns
 returns c = search needs
 
 returns-2 : tie.Need-returns-2
-returns-2 c = ⊎-elim (λ w. rw (w .3, w .1 .given .1)) (λ w. rw (w .3, w .1 .given .1)) (c .match .came)
+returns-2 c =
+    ⊎-elim (λ w. rw (w .3, w .1 .given .1)) (⊎-elim (λ w. rw (w .3, w .1 .given .1)) (λ w. rw (w .3, w .1 .given .1))) (c .match .came)
 
 pub holds-spec : {M : Type 1} → statement M
-holds-spec = tie.close (tie.spec enum-told enum-known-entry enum-known-entry-2 returns returns-2)
+holds-spec = tie.close (tie.spec enum-told enum-known-entry enum-known-entry-2 enum-known-entry-3 returns returns-2)

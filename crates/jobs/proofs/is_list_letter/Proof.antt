@@ -14,7 +14,17 @@ unfolding listKind
 returns c = rw (c .match .keys1)
 
 returns-2 : tie.Need-returns-2
-returns-2 c = c .is-letter .ensures ∙ sym (ap known (list-kind _ (c .before .match .rest .1)))
+unfolding listKind
+returns-2 c = rw (c .match .keys2)
+
+returns-3 : tie.Need-returns-3
+unfolding listKind
+returns-3 c = rw (c .match .keys3)
+
+returns-4 : tie.Need-returns-4
+returns-4 c =
+    let other = c .before .match .rest in
+    c .is-letter .ensures ∙ sym (ap known (list-kind _ (other .0 .0 .1) (other .0 .1) (other .1)))
 
 pub is-list-letter-spec : {M : Type 1} → statement M
-is-list-letter-spec = tie.close (tie.spec is-letter-requires returns returns-2)
+is-list-letter-spec = tie.close (tie.spec is-letter-requires returns returns-2 returns-3 returns-4)

@@ -18,6 +18,9 @@ enum-known-entry c = search needs
 enum-known-entry-2 : tie.Need-enum-known-entry-2
 enum-known-entry-2 c = search needs
 
+enum-known-entry-3 : tie.Need-enum-known-entry-3
+enum-known-entry-3 c = search needs
+
 find-requires : tie.Need-find-requires
 find-requires c κs = search needs
 
@@ -30,9 +33,17 @@ returns-2 c =
     let t = a .self in
     let long : length (t .slots) ≡ slotCount = search (needs, length-mapped) in
     let found = any-from t long (holds (c .before .match .x)) _ (a .start) (c .find .ensures) in
-    ⊎-elim (λ w. rw (w .1 .given .1, ← w .3, found)) (λ w. rw (w .1 .given .1, ← w .3, found)) (c .before .match .came)
+    ⊎-elim (λ w. rw (w .1 .given .1, ← w .3, found))
+    (⊎-elim (λ w. rw (w .1 .given .1, ← w .3, found)) (λ w. rw (w .1 .given .1, ← w .3, found))) (c .before .match .came)
 
 pub again-spec : {M : Type 1} → statement M
 again-spec =
     tie.close
-    (tie.spec enum-told enum-known-entry enum-known-entry-2 find-requires returns returns-2)
+    (tie.spec
+    enum-told
+    enum-known-entry
+    enum-known-entry-2
+    enum-known-entry-3
+    find-requires
+    returns
+    returns-2)

@@ -3,7 +3,7 @@ use mathlib.Core.Path.{refl, _∙_}
 use borrow.Author.Needs.{needs}
 use borrow.Author.Tests.{not-true, not-false}
 use Rattle.jobs.specs.declared.Entry.the-variants.{Cancelled}
-use Rattle.jobs.specs.declared.Before.the-variants.{WasOpen}
+use Rattle.jobs.specs.declared.Before.the-variants.{WasOpen, WasOnHold}
 use Rattle.jobs.specs.Table.{cancelAt}
 use Rattle.jobs.specs.Slots.{entries}
 use Rattle.jobs.proofs.Decisions.{Decided, twice-refused, entry-decides, zero-not-cancelled, job-cancelled, put-held}
@@ -44,6 +44,12 @@ put-requires c κs = search needs
 enum-told-3 : tie.Need-enum-told-3
 enum-told-3 c = search needs
 
+put-requires-2 : tie.Need-put-requires-2
+put-requires-2 c κs = search needs
+
+enum-told-4 : tie.Need-enum-told-4
+enum-told-4 c = search needs
+
 is-job-requires : tie.Need-is-job-requires
 is-job-requires c κs = search needs
 
@@ -57,10 +63,10 @@ returns-2 c =
     c .refuse3 .ensures
     ∙ zero-not-cancelled (entries (a .self)) (a .number) (l .before .before .twice .ensures) (l .before .if1 .left) (c .before .before .is-job .ensures)
     (not-true _ (c .before .if2 .taken)) (l .lookup .ensures)
-    (c .before .before .before .enum-told3 .given .1)
+    (c .before .before .before .enum-told4 .given .1)
 
-put-requires-2 : tie.Need-put-requires-2
-put-requires-2 c κs = search needs
+put-requires-3 : tie.Need-put-requires-3
+put-requires-3 c κs = search needs
 
 returns-3 : tie.Need-returns-3
 returns-3 c = c .refuse2 .ensures ∙ decided (c .before .before .before) _ (c .before .enum-told .given .1)
@@ -69,16 +75,26 @@ returns-4 : tie.Need-returns-4
 returns-4 c =
     let l = c .before .before .before in
     let a = l .before .before .before .args in
-    c .put .ensures ∙ put-held (entries (a .self)) (a .number) (Cancelled (a .number) WasOpen) (l .lookup .ensures) (c .before .enum-told2 .given .1) refl ∙ decided l _ (c .before .enum-told2 .given .1)
+    c .put .ensures
+    ∙ put-held (entries (a .self)) (a .number) (Cancelled (a .number) WasOpen) (l .lookup .ensures) (c .before .enum-told2 .given .1) refl
+    ∙ decided l _ (c .before .enum-told2 .given .1)
 
 returns-5 : tie.Need-returns-5
 returns-5 c =
-    let l = c .before .before .before .before .before in
+    let l = c .before .before .before in
     let a = l .before .before .before .args in
     c .put2 .ensures
+    ∙ put-held (entries (a .self)) (a .number) (Cancelled (a .number) WasOnHold) (l .lookup .ensures) (c .before .enum-told3 .given .1) refl
+    ∙ decided l _ (c .before .enum-told3 .given .1)
+
+returns-6 : tie.Need-returns-6
+returns-6 c =
+    let l = c .before .before .before .before .before in
+    let a = l .before .before .before .args in
+    c .put3 .ensures
     ∙ job-cancelled (entries (a .self)) (a .number) (l .before .before .twice .ensures) (l .before .if1 .left) (c .before .before .is-job .ensures)
     (not-false _ (c .before .if2 .left)) (l .lookup .ensures)
-    (c .before .before .before .enum-told3 .given .1)
+    (c .before .before .before .enum-told4 .given .1)
 
 pub cancel-spec : {M : Type 1} → statement M
 cancel-spec =
@@ -93,10 +109,13 @@ cancel-spec =
     enum-told-2
     put-requires
     enum-told-3
+    put-requires-2
+    enum-told-4
     is-job-requires
     refuse-requires-3
     returns-2
-    put-requires-2
+    put-requires-3
     returns-3
     returns-4
-    returns-5)
+    returns-5
+    returns-6)

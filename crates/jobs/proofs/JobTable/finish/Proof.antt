@@ -36,26 +36,37 @@ refuse-requires-2 c κs = search needs
 enum-told-2 : tie.Need-enum-told-2
 enum-told-2 c = search needs
 
-put-requires : tie.Need-put-requires
-put-requires c κs = search needs
+refuse-requires-3 : tie.Need-refuse-requires-3
+refuse-requires-3 c κs = search needs
 
 enum-told-3 : tie.Need-enum-told-3
 enum-told-3 c = search needs
 
-refuse-requires-3 : tie.Need-refuse-requires-3
-refuse-requires-3 c κs = search needs
+put-requires : tie.Need-put-requires
+put-requires c κs = search needs
+
+enum-told-4 : tie.Need-enum-told-4
+enum-told-4 c = search needs
+
+refuse-requires-4 : tie.Need-refuse-requires-4
+refuse-requires-4 c κs = search needs
 
 returns-2 : tie.Need-returns-2
 returns-2 c = c .refuse2 .ensures ∙ decided (c .before .before .before) _ (c .before .enum-told .given .1)
 
 returns-3 : tie.Need-returns-3
-returns-3 c =
-    let l = c .before .before .before in
-    let a = l .before .before .before .args in
-    c .put .ensures ∙ put-held (entries (a .self)) (a .number) Free (l .lookup .ensures) (c .before .enum-told2 .given .1) refl ∙ decided l _ (c .before .enum-told2 .given .1)
+returns-3 c = c .refuse3 .ensures ∙ decided (c .before .before .before) _ (c .before .enum-told2 .given .1)
 
 returns-4 : tie.Need-returns-4
-returns-4 c = c .refuse3 .ensures ∙ decided (c .before .before .before) _ (c .before .enum-told3 .given .1)
+returns-4 c =
+    let l = c .before .before .before in
+    let a = l .before .before .before .args in
+    c .put .ensures
+    ∙ put-held (entries (a .self)) (a .number) Free (l .lookup .ensures) (c .before .enum-told3 .given .1) refl
+    ∙ decided l _ (c .before .enum-told3 .given .1)
+
+returns-5 : tie.Need-returns-5
+returns-5 c = c .refuse4 .ensures ∙ decided (c .before .before .before) _ (c .before .enum-told4 .given .1)
 
 pub finish-spec : {M : Type 1} → statement M
 finish-spec =
@@ -68,9 +79,12 @@ finish-spec =
     enum-told
     refuse-requires-2
     enum-told-2
-    put-requires
-    enum-told-3
     refuse-requires-3
+    enum-told-3
+    put-requires
+    enum-told-4
+    refuse-requires-4
     returns-2
     returns-3
-    returns-4)
+    returns-4
+    returns-5)

@@ -62,6 +62,12 @@ refuse-requires-4 c κs = search needs
 enum-told-3 : tie.Need-enum-told-3
 enum-told-3 c = search needs
 
+refuse-requires-5 : tie.Need-refuse-requires-5
+refuse-requires-5 c κs = search needs
+
+enum-told-4 : tie.Need-enum-told-4
+enum-told-4 c = search needs
+
 put-requires : tie.Need-put-requires
 put-requires c κs = search needs
 
@@ -72,7 +78,10 @@ returns-4 : tie.Need-returns-4
 returns-4 c = c .refuse4 .ensures ∙ decided (c .before .before .before) _ (c .before .enum-told2 .given .1)
 
 returns-5 : tie.Need-returns-5
-returns-5 c = c .put .ensures ∙ decided (c .before .before .before) _ (c .before .enum-told3 .given .1)
+returns-5 c = c .refuse5 .ensures ∙ decided (c .before .before .before) _ (c .before .enum-told3 .given .1)
+
+returns-6 : tie.Need-returns-6
+returns-6 c = c .put .ensures ∙ decided (c .before .before .before) _ (c .before .enum-told4 .given .1)
 
 pub open-spec : {M : Type 1} → statement M
 open-spec =
@@ -90,7 +99,10 @@ open-spec =
     enum-told-2
     refuse-requires-4
     enum-told-3
+    refuse-requires-5
+    enum-told-4
     put-requires
     returns-3
     returns-4
-    returns-5)
+    returns-5
+    returns-6)

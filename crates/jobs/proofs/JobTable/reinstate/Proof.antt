@@ -49,6 +49,12 @@ enum-told-2 c = search needs
 refuse-requires-3 : tie.Need-refuse-requires-3
 refuse-requires-3 c κs = search needs
 
+enum-told-3 : tie.Need-enum-told-3
+enum-told-3 c = search needs
+
+refuse-requires-4 : tie.Need-refuse-requires-4
+refuse-requires-4 c κs = search needs
+
 returns-2 : tie.Need-returns-2
 returns-2 c =
     let l = c .before .before .before .before .before in
@@ -66,6 +72,9 @@ returns-3 c = c .refuse2 .ensures ∙ decided (c .before .before .before) _ (c .
 returns-4 : tie.Need-returns-4
 returns-4 c = c .refuse3 .ensures ∙ decided (c .before .before .before) _ (c .before .enum-told2 .given .1)
 
+returns-5 : tie.Need-returns-5
+returns-5 c = c .refuse4 .ensures ∙ decided (c .before .before .before) _ (c .before .enum-told3 .given .1)
+
 pub reinstate-spec : {M : Type 1} → statement M
 reinstate-spec =
     tie.close
@@ -81,6 +90,9 @@ reinstate-spec =
     refuse-requires-2
     enum-told-2
     refuse-requires-3
+    enum-told-3
+    refuse-requires-4
     returns-2
     returns-3
-    returns-4)
+    returns-4
+    returns-5)
