@@ -153,6 +153,81 @@ static void maps(void)
     covering("b of 0", BURGZEMI_INVALID, 0, 26, 29, 2, 31, 3, 0);
 }
 
+/* ---- Words side by side: n 3, q 4, m 1, b 1 */
+
+static const uint8_t two_words[8] = {0, 1, 2, 3, 2, 1, 4, 4}, two_laid[6] = {0, 3, 1, 2, 2, 1};
+
+/* Both ways: laid where `into` is 1, taken apart where it is 0. The fifth symbol is `fifth`. */
+static void lanes(const char *what, unsigned wanted, int into, uint32_t q, uint32_t b, uint32_t depth, uint8_t fifth, size_t from_len, size_t to_len)
+{
+    uint8_t from[8], to[8];
+    memcpy(from, into ? two_words : two_laid, 6);
+    memset(from + 6, 4, 2);
+    from[4] = fifth;
+    memcpy(to, untouched, sizeof to);
+    unsigned answer = (into ? burgzemi_interleave : burgzemi_deinterleave)(3, q, 1, b, depth, from, from_len, to, to_len);
+    see(what, answer, wanted, to, wanted == BURGZEMI_SERVED ? (into ? two_laid : two_words) : untouched, 6);
+    see(what, answer, wanted, to + 6, untouched + 6, 2);
+}
+
+static void side_by_side(void)
+{
+    for (int into = 0; into <= 1; into++) {
+        lanes("two words", BURGZEMI_SERVED, into, 4, 1, 2, 2, 6, 6);
+        /* 1 2 18 3 4, each beside what would be refused later */
+        lanes("q of 257", BURGZEMI_INVALID, into, 257, 2, 0, 4, 5, 6);
+        lanes("b of 2", BURGZEMI_UNFIT, into, 4, 2, 0, 4, 5, 6);
+        lanes("depth 0", BURGZEMI_DEPTH, into, 4, 1, 0, 4, 5, 6);
+        lanes("depth 0, no symbols", BURGZEMI_DEPTH, into, 4, 1, 0, 2, 0, 0);
+        lanes("depth 17", BURGZEMI_DEPTH, into, 4, 1, 17, 4, 6, 6);
+        lanes("depth of 32 bits", BURGZEMI_DEPTH, into, 4, 1, UINT32_MAX, 2, 6, 6);
+        lanes("a symbol short", BURGZEMI_LENGTH, into, 4, 1, 2, 4, 5, 6);
+        lanes("a symbol more", BURGZEMI_LENGTH, into, 4, 1, 2, 4, 7, 6);
+        lanes("no room for a symbol", BURGZEMI_LENGTH, into, 4, 1, 2, 4, 6, 5);
+        lanes("room for a symbol more", BURGZEMI_LENGTH, into, 4, 1, 2, 4, 6, 7);
+        lanes("a symbol of q", BURGZEMI_SYMBOL, into, 4, 1, 2, 4, 6, 6);
+    }
+}
+
+/* Words of n symbols, all q 256 and b 1: each cell of the strip is where it belongs, and the words come back. */
+static void strip_of(uint32_t n, uint32_t depth)
+{
+    static uint8_t words[BURGZEMI_MAX_DEPTH * BURGZEMI_MAX_WORD], strip[sizeof words], back[sizeof words];
+    size_t len = (size_t)n * depth;
+    uint32_t state = n + depth;
+    for (size_t i = 0; i < len; i++)
+        words[i] = (uint8_t)((state = state * 1664525 + 1013904223) >> 24);
+    unsigned answer = burgzemi_interleave(n, 256, 1, 1, depth, words, len, strip, len);
+    for (size_t t = 0; t < len && answer == BURGZEMI_SERVED; t++)
+        if (strip[t] != words[t % depth * n + t / depth])
+            answer = 255;
+    see("a strip", answer, BURGZEMI_SERVED, words, words, len);
+    see("a strip taken apart", burgzemi_deinterleave(n, 256, 1, 1, depth, strip, len, back, len), BURGZEMI_SERVED, back, words, len);
+}
+
+/* README's picture: four words of n 15, q 256, m 1, b 2 under one scratch of 8 cells, from cell 26 on. */
+static void scratch(void)
+{
+    uint8_t map[60] = {0}, maps_apart[60], words[60], strip[60], found[60], message[11], got[11], starts[2], covers[8];
+    static const uint8_t planned[8] = {0, 7, 0, 7, 0, 6, 0, 6};
+    memset(map + 26, 1, 8);
+    see("a scratch taken apart", burgzemi_deinterleave(15, 256, 1, 2, 4, map, 60, maps_apart, 60), BURGZEMI_SERVED, map, map, 60);
+    for (int j = 0; j < 4; j++) {
+        memset(message, 'A' + j, sizeof message);
+        see("a lane covered", burgzemi_cover(15, 256, 1, 2, maps_apart + 15 * j, 15, covers + 2 * j, 2), BURGZEMI_SERVED, covers, planned, 2 * (size_t)j + 2);
+        see("a lane written", burgzemi_encode(15, 256, 1, 2, covers + 2 * j, 2, message, 11, words + 15 * j, 15), BURGZEMI_SERVED, covers, planned, 2);
+    }
+    see("four lanes laid", burgzemi_interleave(15, 256, 1, 2, 4, words, 60, strip, 60), BURGZEMI_SERVED, map, map, 60);
+    memset(strip + 26, 0xFF, 8);
+    see("four lanes taken apart", burgzemi_deinterleave(15, 256, 1, 2, 4, strip, 60, found, 60), BURGZEMI_SERVED, map, map, 60);
+    for (int j = 0; j < 4; j++) {
+        memset(message, 'A' + j, sizeof message);
+        unsigned answer = burgzemi_decode(15, 256, 1, 2, found + 15 * j, 15, got, 11, starts, 2);
+        see("a lane read", answer, BURGZEMI_SERVED, got, message, 11);
+        see("a lane's starts", answer, BURGZEMI_SERVED, starts, planned + 2 * j, 2);
+    }
+}
+
 /* ---- Calls on a table, and jobs */
 
 static void set_slot(uint8_t *table, int i, uint8_t state, uint32_t number)
@@ -393,6 +468,14 @@ int main(void)
     large_strip("4096 symbols, 6 bursts", BURGZEMI_MAX_WORD, 6, 112, 3388);
     large_strip("999 symbols, 8 bursts", 999, BURGZEMI_MAX_BURSTS, 15, 823);
     maps();
+    side_by_side();
+    for (uint32_t depth = 1; depth <= BURGZEMI_MAX_DEPTH; depth++) {
+        strip_of(3, depth);
+        strip_of(47, depth);
+        strip_of(1024, depth);
+    }
+    strip_of(BURGZEMI_MAX_WORD, BURGZEMI_MAX_DEPTH);
+    scratch();
     calls();
     number_zero();
     transfer_example();

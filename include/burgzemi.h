@@ -27,6 +27,7 @@ enum burgzemi_answer {
     BURGZEMI_DISAGREES = 9,    /* the placement of that rank has other index blocks, or a fixed block that doesn't start with 0 */
     BURGZEMI_PAYLOAD = 10,     /* no room for a job, a byte's symbols that spell 256 or more, or a leftover symbol other than 0 */
     BURGZEMI_RECORD = 11,      /* a record unreadable or one too many, or a call's letter that is none of O, C, F, I, H, U */
+    BURGZEMI_DEPTH = 18,       /* a depth outside 1 to 16 */
     /* from the state of the job table */
     BURGZEMI_CANCELLED = 12,   /* the job number is cancelled */
     BURGZEMI_ALREADY_OPEN = 13,
@@ -45,6 +46,9 @@ enum burgzemi_answer {
  */
 #define BURGZEMI_MAX_WORD 4096
 #define BURGZEMI_MAX_BURSTS 8
+
+/* The most words that lie side by side: BURGZEMI_MAX_DEPTH * BURGZEMI_MAX_WORD bytes hold any strip of them. */
+#define BURGZEMI_MAX_DEPTH 16
 
 /* What burgzemi_message_len and burgzemi_payload_len answer for figures that are refused. */
 #define BURGZEMI_NO_LENGTH UINT32_MAX
@@ -150,6 +154,24 @@ uint8_t burgzemi_job_read(uint32_t n, uint32_t q, uint32_t m, uint32_t b,
                           const uint8_t *table, size_t table_len,
                           const uint8_t *word, size_t word_len,
                           uint8_t *payload, size_t payload_len);
+
+/*
+ * Lays `depth` words of n symbols side by side, 1 to 16. `words` has them one after another, `strip` gets depth * n symbols: cell t holds symbol t / depth
+ * (rounded down) of word t % depth.
+ *
+ * Where at most m stretches of the strip are worn, each of at most depth * b cells, each word's share of the strip's map, found by burgzemi_deinterleave
+ * on the map, can be covered; and each word that is written on its cover reads back, whatever symbols the worn cells hold.
+ *
+ * Refusals: 1 and 2 for the figures; 18 for the depth; 3 where words_len or strip_len is not depth * n; 4 for a symbol of q or more.
+ */
+uint8_t burgzemi_interleave(uint32_t n, uint32_t q, uint32_t m, uint32_t b, uint32_t depth,
+                            const uint8_t *words, size_t words_len,
+                            uint8_t *strip, size_t strip_len);
+
+/* Takes such a strip apart again: `words` gets the words one after another. Refusals: as above. */
+uint8_t burgzemi_deinterleave(uint32_t n, uint32_t q, uint32_t m, uint32_t b, uint32_t depth,
+                              const uint8_t *strip, size_t strip_len,
+                              uint8_t *words, size_t words_len);
 
 #ifdef __cplusplus
 }

@@ -89,13 +89,17 @@ pub fn each(mut visit: impl FnMut(Numbers)) {
     }
 }
 
-/// Makes every call with the figures alone: refusals 1, 2 and 10, and 3 for what fits.
+/// Makes every call with the figures alone: refusals 1, 2 and 10, and 18 or 3 for what fits.
 pub fn run(judge: &mut Judge) {
+    let mut depths = (0..=17).cycle();
     each(|f| {
+        let depth = depths.next().unwrap_or(0);
         judge.lengths(f);
         judge.decode(f, &[], 0, 0);
         judge.encode(f, &[], &[], 0);
         judge.cover(f, &[], 0);
+        judge.interleave(f, depth, &[], 0);
+        judge.deinterleave(f, depth, &[], 0);
         judge.job_write(f, &[], &[], &[], 0);
         judge.job_read(f, &[], &[], 0);
     });

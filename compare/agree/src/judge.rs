@@ -15,6 +15,8 @@ pub enum Op {
     Encode,
     Decode,
     Cover,
+    Interleave,
+    Deinterleave,
     Open,
     Cancel,
     Finish,
@@ -42,11 +44,13 @@ impl Op {
 }
 
 /// Each kind of call, its name, and the answers that it can give, each of which a gate run must see.
-pub const OPS: [(Op, &str, &[u8]); 13] = [
+pub const OPS: [(Op, &str, &[u8]); 15] = [
     (Op::Figures, "figures", &[0, 1, 2]),
     (Op::Encode, "word write", &[0, 1, 2, 3, 4, 5]),
     (Op::Decode, "word read", &[0, 1, 2, 3, 4, 7, 8, 9]),
     (Op::Cover, "covering", &[0, 1, 2, 3, 4, 6]),
+    (Op::Interleave, "interleave", &[0, 1, 2, 3, 4, 18]),
+    (Op::Deinterleave, "deinterleave", &[0, 1, 2, 3, 4, 18]),
     (Op::Open, "open", &[0, 1, 3, 12, 13, 15, 17]),
     (Op::Cancel, "cancel", &[0, 1, 3, 12, 15, 17]),
     (Op::Finish, "finish", &[0, 1, 3, 12, 14, 23]),
@@ -199,6 +203,28 @@ impl Judge {
             Lent::new(0),
             &inputs,
             &|side, out, _| (side.cover)(f, map, out),
+        )
+    }
+
+    pub fn interleave(&mut self, f: Numbers, depth: u32, words: &[u8], strip: usize) -> Answer {
+        let inputs = || format!("{f:?} depth {depth} words {} strip {strip}", hex(words));
+        self.both(
+            Op::Interleave,
+            Lent::new(strip),
+            Lent::new(0),
+            &inputs,
+            &|side, out, _| (side.interleave)(f, depth, words, out),
+        )
+    }
+
+    pub fn deinterleave(&mut self, f: Numbers, depth: u32, strip: &[u8], words: usize) -> Answer {
+        let inputs = || format!("{f:?} depth {depth} strip {} words {words}", hex(strip));
+        self.both(
+            Op::Deinterleave,
+            Lent::new(words),
+            Lent::new(0),
+            &inputs,
+            &|side, out, _| (side.deinterleave)(f, depth, strip, out),
         )
     }
 

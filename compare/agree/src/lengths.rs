@@ -34,6 +34,22 @@ fn word_calls(side: &Side, with: &mut dyn FnMut(usize, Call) -> u8) -> [u8; 8] {
     ]
 }
 
+/// Likewise the calls on two words side by side.
+fn lane_calls(side: &Side, with: &mut dyn FnMut(usize, Call) -> u8) -> [u8; 4] {
+    let f = FIGURES;
+    let mut two = [0; 2 * WORD];
+    [
+        with(2 * WORD, &mut |long| {
+            (side.interleave)(f, 2, long, &mut two)
+        }),
+        with(2 * WORD, &mut |long| (side.interleave)(f, 2, &two, long)),
+        with(2 * WORD, &mut |long| {
+            (side.deinterleave)(f, 2, long, &mut two)
+        }),
+        with(2 * WORD, &mut |long| (side.deinterleave)(f, 2, &two, long)),
+    ]
+}
+
 /// Likewise each call with a table.
 fn job_calls(side: &Side, with: &mut dyn FnMut(usize, Call) -> u8) -> [u8; 8] {
     let f = FIGURES;
@@ -70,8 +86,10 @@ pub fn run(judge: &mut Judge) {
     for extra in [1 << 8, 1 << 16, 1 << 32] {
         for side in [PROVED, SECOND] {
             let mut with = |len: usize, call: Call| call(&mut long[..len + extra]);
-            let answers = [word_calls(&side, &mut with), job_calls(&side, &mut with)];
-            let right = answers == [[3; 8]; 2];
+            let mut answers = word_calls(&side, &mut with).to_vec();
+            answers.extend(lane_calls(&side, &mut with));
+            answers.extend(job_calls(&side, &mut with));
+            let right = answers.iter().all(|&answer| answer == 3);
             let inputs = || format!("{}: {extra} bytes too many: {answers:?}", side.name);
             judge.expect(Op::Decode, right, &inputs, "3 is for another length");
         }

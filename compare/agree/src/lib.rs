@@ -5,6 +5,7 @@ pub mod former;
 pub mod grid;
 pub mod jobs;
 pub mod judge;
+pub mod lanes;
 pub mod lengths;
 mod lent;
 pub mod limit;

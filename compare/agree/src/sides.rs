@@ -2,6 +2,7 @@
 
 pub type Numbers = (u32, u32, u32, u32);
 
+type Lanes = fn(Numbers, u32, &[u8], &mut [u8]) -> u8;
 type JobWrite = fn(Numbers, &[u8], &[u8], &[u8], &mut [u8]) -> u8;
 
 pub struct Side {
@@ -11,6 +12,8 @@ pub struct Side {
     pub encode: fn(Numbers, &[u8], &[u8], &mut [u8]) -> u8,
     pub decode: fn(Numbers, &[u8], &mut [u8], &mut [u8]) -> u8,
     pub cover: fn(Numbers, &[u8], &mut [u8]) -> u8,
+    pub interleave: Lanes,
+    pub deinterleave: Lanes,
     pub call: fn(&mut [u8], u8, u32) -> u8,
     pub job_write: JobWrite,
     pub job_read: fn(Numbers, &[u8], &[u8], &mut [u8]) -> u8,
@@ -23,6 +26,8 @@ pub const PROVED: Side = Side {
     encode: burgzemi::raw::encode,
     decode: burgzemi::raw::decode,
     cover: burgzemi::raw::cover,
+    interleave: burgzemi::raw::interleave,
+    deinterleave: burgzemi::raw::deinterleave,
     call: burgzemi::raw::call,
     job_write: burgzemi::raw::job_write,
     job_read: burgzemi::raw::job_read,
@@ -35,6 +40,8 @@ pub const SECOND: Side = Side {
     encode: second::raw::encode,
     decode: second::raw::decode,
     cover: second::raw::cover,
+    interleave: second::raw::interleave,
+    deinterleave: second::raw::deinterleave,
     call: second::raw::call,
     job_write: second::raw::job_write,
     job_read: second::raw::job_read,

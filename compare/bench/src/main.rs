@@ -1,6 +1,7 @@
-//! Times of the library, the second implementation and a plain copy, the loops that instructions are counted in, and
+//! Times of the library, the second implementation and plain copies, the loops that instructions are counted in, and
 //! the transfer programs' records a second.
 
+mod lanes;
 mod rows;
 mod timing;
 mod transfer;
@@ -15,6 +16,7 @@ fn main() -> ExitCode {
     }
     eprintln!("usage: bench --times | --rows | --count ours|second encode|decode ROW CALLS");
     eprintln!("       bench --time ours|second encode|decode ROW | --transfer OURS SECOND");
+    eprintln!("       bench --lanes | --count ours-interleave|second-interleave|ours-deinterleave|second-deinterleave|copy|byte-loop Q CALLS");
     ExitCode::from(2)
 }
 
@@ -25,6 +27,8 @@ fn run(args: &[&str]) -> Option<()> {
         ["--rows"] => rows::list(),
         ["--count", side, call, row, calls] => rows::count(side, call, row, calls)?,
         ["--time", side, call, row] => timing::once(side, call, row)?,
+        ["--lanes"] => lanes::table(),
+        ["--count", call, q, calls] => lanes::count(call, q, calls)?,
         ["--transfer", ours, second] => transfer::table(ours, second),
         _ => return None,
     }

@@ -44,7 +44,6 @@ struct Strip {
 
 /// Strips ready to be written and read, and buffers that are never cleared between calls.
 pub struct Work {
-    pub f: Figures,
     numbers: Numbers,
     strips: Vec<Strip>,
     word: Vec<u8>,
@@ -58,7 +57,6 @@ impl Work {
         let strips = (0..STRIPS).map(|_| strip(&mut rng, f)).collect();
         let (word, message, starts) = (vec![0; f.n], vec![0; f.k], vec![0; 2 * f.m]);
         Work {
-            f: *f,
             numbers: numbers(f),
             strips,
             word,

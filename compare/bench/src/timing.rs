@@ -6,7 +6,7 @@ use agree::sides::{PROVED, SECOND};
 
 use crate::rows::{asked, name, rows, Measured, Work};
 
-const ROUNDS: usize = 101;
+pub const ROUNDS: usize = 101;
 /// How long one measurement of a round is to take, about: short enough to be rarely interrupted.
 const NANOSECONDS: f64 = 2.5e5;
 
@@ -19,36 +19,38 @@ const CALLS: [Measured; 5] = [
     Measured::Copy,
 ];
 
+/// Makes so many of one of the calls.
+pub type Run<'a> = dyn FnMut(usize, usize) + 'a;
+
 /// Nanoseconds a call, of so many calls.
-fn time(work: &mut Work, measured: Measured, calls: usize) -> f64 {
+fn time(run: &mut Run, call: usize, calls: usize) -> f64 {
     let begun = Instant::now();
-    work.run(measured, calls);
+    run(call, calls);
     begun.elapsed().as_nanos() as f64 / calls as f64
+}
+
+/// How many calls one measurement makes.
+fn enough(run: &mut Run, call: usize) -> usize {
+    (NANOSECONDS / time(run, call, 100).max(1.0)) as usize + 16
 }
 
 /// Prints the nanoseconds a call of one measurement, for builds that are run in turn.
 pub fn once(side: &str, call: &str, row: &str) -> Option<()> {
     let (measured, mut work) = asked(side, call, row)?;
-    let calls = (NANOSECONDS / time(&mut work, measured, 100).max(1.0)) as usize + 16;
-    println!("{:.1}", time(&mut work, measured, 4 * calls));
+    let mut run = |_, calls| work.run(measured, calls);
+    let calls = enough(&mut run, 0);
+    println!("{:.1}", time(&mut run, 0, 4 * calls));
     Some(())
 }
 
 /// Nanoseconds a symbol of each call, one list of all calls for each round.
-fn rounds(work: &mut Work) -> Vec<[f64; CALLS.len()]> {
-    let calls = CALLS.map(|call| (NANOSECONDS / time(work, call, 100).max(1.0)) as usize + 16);
-    let symbols = work.f.n as f64;
-    let mut round = || {
-        let mut times = [0.0; CALLS.len()];
-        for (i, &call) in CALLS.iter().enumerate() {
-            times[i] = time(work, call, calls[i]) / symbols;
-        }
-        times
-    };
+pub fn rounds<const CALLS: usize>(symbols: usize, run: &mut Run) -> Vec<[f64; CALLS]> {
+    let calls: [usize; CALLS] = std::array::from_fn(|call| enough(run, call));
+    let mut round = || std::array::from_fn(|call| time(run, call, calls[call]) / symbols as f64);
     (0..ROUNDS).map(|_| round()).collect()
 }
 
-fn median(values: impl Iterator<Item = f64>) -> f64 {
+pub fn median(values: impl Iterator<Item = f64>) -> f64 {
     let mut values: Vec<f64> = values.collect();
     values.sort_unstable_by(f64::total_cmp);
     values[values.len() / 2]
@@ -74,7 +76,8 @@ pub fn table() {
     let rows = rows();
     for (i, f) in rows.iter().enumerate() {
         eprint!("\rtimes: row {} of {}", i + 1, rows.len());
-        let rounds = rounds(&mut Work::new(f));
+        let mut work = Work::new(f);
+        let rounds = rounds(f.n, &mut |call, calls| work.run(CALLS[call], calls));
         let (encode, decode) = (columns(&rounds, 0, 1), columns(&rounds, 2, 3));
         let copy = median(rounds.iter().map(|times| times[4]));
         println!("{} {encode}  {decode} {copy:>8.4}", name(f));

@@ -1,4 +1,4 @@
-//! A second implementation of document 01 and of document 02's change requests 3, 7, 10 and 11, written from the papers alone and in plain Rust.
+//! A second implementation of document 01 and of document 02's change requests 3, 5, 7, 10 and 11, written from the papers alone and in plain Rust.
 //! A refusal is its number, 0 is served; a refused call leaves every buffer and the book as they were.
 
 pub mod blocks;
@@ -8,6 +8,7 @@ pub mod codec;
 pub mod cover;
 pub mod figures;
 pub mod job;
+pub mod lanes;
 pub mod raw;
 pub mod transfer;
 

@@ -4,7 +4,7 @@
 
 use crate::book::{Book, Former, Place, PLACES};
 use crate::figures::{Figures, MAX_RUNS};
-use crate::{codec, cover as planner, job};
+use crate::{codec, cover as planner, job, lanes};
 
 pub const SLOT: usize = 5;
 pub const TABLE: usize = PLACES * SLOT;
@@ -116,6 +116,20 @@ pub fn cover(numbers: Numbers, map: &[u8], starts: &mut [u8]) -> u8 {
             put_starts(&found[..f.m], starts);
             0
         }
+        Err(refusal) => refusal,
+    }
+}
+
+pub fn interleave(numbers: Numbers, depth: u32, words: &[u8], strip: &mut [u8]) -> u8 {
+    match figures(numbers) {
+        Ok(f) => lanes::interleave(&f, depth, words, strip),
+        Err(refusal) => refusal,
+    }
+}
+
+pub fn deinterleave(numbers: Numbers, depth: u32, strip: &[u8], words: &mut [u8]) -> u8 {
+    match figures(numbers) {
+        Ok(f) => lanes::deinterleave(&f, depth, strip, words),
         Err(refusal) => refusal,
     }
 }

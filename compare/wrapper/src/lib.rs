@@ -33,6 +33,8 @@ pub use table::Table;
 pub const MAX_WORD: usize = 4096;
 /// The most runs that a placement has.
 pub const MAX_RUNS: usize = 8;
+/// The most words that a strip has side by side.
+pub const MAX_DEPTH: u32 = 16;
 
 /// Figures that fit, with the lengths that follow from them.
 #[derive(Clone, Copy, PartialEq, Eq, Debug)]
@@ -152,6 +154,22 @@ pub fn cover(f: &Figures, map: &[u8]) -> Result<Placement, Refusal> {
     let starts = &mut starts[..2 * f.runs()];
     Refusal::of(raw::cover(f.numbers, map, starts))?;
     Ok(Placement::of(starts))
+}
+
+/// Lays `depth` words, which stand one after another, side by side: cell t of the strip is symbol t / depth of word t mod depth. Where at most m
+/// stretches of the strip are worn, each at most depth * b cells, each word's map can be covered.
+pub fn interleave(f: &Figures, depth: u32, words: &[u8], strip: &mut [u8]) -> Result<(), Refusal> {
+    Refusal::of(raw::interleave(f.numbers, depth, words, strip))
+}
+
+/// Takes a strip of words side by side apart, into words that stand one after another.
+pub fn deinterleave(
+    f: &Figures,
+    depth: u32,
+    strip: &[u8],
+    words: &mut [u8],
+) -> Result<(), Refusal> {
+    Refusal::of(raw::deinterleave(f.numbers, depth, strip, words))
 }
 
 /// Writes the word of an open job; the payload is its number, high byte first and never 0, and its text.

@@ -29,6 +29,16 @@ mod c {
             map: *const u8, map_len: usize,
             starts: *mut u8, starts_len: usize,
         ) -> u8;
+        pub fn burgzemi_interleave(
+            n: u32, q: u32, m: u32, b: u32, depth: u32,
+            words: *const u8, words_len: usize,
+            strip: *mut u8, strip_len: usize,
+        ) -> u8;
+        pub fn burgzemi_deinterleave(
+            n: u32, q: u32, m: u32, b: u32, depth: u32,
+            strip: *const u8, strip_len: usize,
+            words: *mut u8, words_len: usize,
+        ) -> u8;
         pub fn burgzemi_call(table: *mut u8, table_len: usize, letter: u8, number: u32) -> u8;
         pub fn burgzemi_job_write(
             n: u32, q: u32, m: u32, b: u32,
@@ -80,6 +90,22 @@ pub fn cover((n, q, m, b): Numbers, map: &[u8], starts: &mut [u8]) -> u8 {
     let (s, t) = (starts.as_mut_ptr(), starts.len());
     // SAFETY: each pointer is a slice's own, never null, with its length; the one written to is lent alone.
     unsafe { c::burgzemi_cover(n, q, m, b, map.as_ptr(), map.len(), s, t) }
+}
+
+/// Lays words side by side.
+pub fn interleave((n, q, m, b): Numbers, depth: u32, words: &[u8], strip: &mut [u8]) -> u8 {
+    let (from, len) = (words.as_ptr(), words.len());
+    let (to, room) = (strip.as_mut_ptr(), strip.len());
+    // SAFETY: each pointer is a slice's own, never null, with its length; the one written to is lent alone.
+    unsafe { c::burgzemi_interleave(n, q, m, b, depth, from, len, to, room) }
+}
+
+/// Takes a strip apart into its words.
+pub fn deinterleave((n, q, m, b): Numbers, depth: u32, strip: &[u8], words: &mut [u8]) -> u8 {
+    let (from, len) = (strip.as_ptr(), strip.len());
+    let (to, room) = (words.as_mut_ptr(), words.len());
+    // SAFETY: each pointer is a slice's own, never null, with its length; the one written to is lent alone.
+    unsafe { c::burgzemi_deinterleave(n, q, m, b, depth, from, len, to, room) }
 }
 
 /// Opens (O), cancels (C), finishes (F), reinstates (I), holds (H) or releases (U) a number in a table.

@@ -2,11 +2,11 @@
 
 use std::fmt;
 
-/// The number of a refusal: 1 to 15, 17, 20, 23 or 24.
+/// The number of a refusal: 1 to 15, 17, 18, 20, 23 or 24.
 #[derive(Clone, Copy, PartialEq, Eq, Hash, Debug)]
 pub struct Refusal(u8);
 
-const TEXTS: [(u8, &str); 19] = [
+const TEXTS: [(u8, &str); 20] = [
     (
         1,
         "a figure is out of range, or a job table has an unknown state or one number twice",
@@ -29,6 +29,7 @@ const TEXTS: [(u8, &str); 19] = [
     (14, "the job number is not open"),
     (15, "64 job numbers are held and a new one is needed"),
     (17, "job number 0 is no job"),
+    (18, "the depth is none of 1 to 16"),
     (20, "the job number is not cancelled"),
     (23, "the job number is on hold"),
     (24, "the job number is not on hold"),
@@ -51,6 +52,7 @@ impl Refusal {
     pub const NOT_OPEN: Refusal = Refusal(14);
     pub const FULL: Refusal = Refusal(15);
     pub const NUMBER_ZERO: Refusal = Refusal(17);
+    pub const DEPTH: Refusal = Refusal(18);
     pub const NOT_CANCELLED: Refusal = Refusal(20);
     pub const ON_HOLD: Refusal = Refusal(23);
     pub const NOT_ON_HOLD: Refusal = Refusal(24);

@@ -1,6 +1,9 @@
 //! Document 02's change requests, through the wrapper.
 
-use burgzemi::{encode, job_read, job_write, Figures, Refusal, Table};
+use burgzemi::{
+    cover, decode, deinterleave, encode, interleave, job_read, job_write, Figures, Refusal, Table,
+    MAX_DEPTH,
+};
 
 /// Change request 7.
 #[test]
@@ -92,4 +95,60 @@ fn a_job_on_hold() {
     assert_eq!(read, Err(Refusal::ON_HOLD));
     assert_eq!(table.release(7), Ok(()));
     assert_eq!(job_read(&strip, &table, &word, &mut payload), Ok(()));
+}
+
+/// Change request 5.
+#[test]
+fn side_by_side() {
+    let strip = Figures::new(3, 4, 1, 1).expect("these figures fit");
+    let words = [0, 1, 2, 3, 0, 1];
+    let mut cells = [0xEE; 6];
+    assert_eq!(interleave(&strip, 2, &words, &mut cells), Ok(()));
+    assert_eq!(cells, [0, 3, 1, 0, 2, 1]);
+    let mut back = [0xEE; 6];
+    assert_eq!(deinterleave(&strip, 2, &cells, &mut back), Ok(()));
+    assert_eq!(back, words);
+    for call in [interleave, deinterleave] {
+        let mut out = [0xEE; 6];
+        for depth in [0, MAX_DEPTH + 1, u32::MAX] {
+            let refused = call(&strip, depth, &words, &mut out);
+            assert_eq!(refused, Err(Refusal::DEPTH));
+        }
+        let refused = call(&strip, 3, &words, &mut out);
+        assert_eq!(refused, Err(Refusal::LENGTH));
+        let refused = call(&strip, 2, &[5; 6], &mut out);
+        assert_eq!((refused, out), (Err(Refusal::SYMBOL), [0xEE; 6]));
+    }
+}
+
+/// A stretch of depth * b cells is worn, at every place.
+#[test]
+fn a_scratch_across_the_lanes() {
+    let strip = Figures::new(15, 256, 1, 2).expect("these figures fit");
+    for depth in 1..=MAX_DEPTH as usize {
+        let (mut words, mut cells) = (vec![0; depth * 15], vec![0; depth * 15]);
+        for worn in 0..=depth * 13 {
+            let placements: Vec<_> = (0..depth)
+                .map(|lane| {
+                    let inside = |i: usize| (worn..worn + 2 * depth).contains(&(i * depth + lane));
+                    let map: Vec<u8> = (0..15).map(|i| inside(i) as u8).collect();
+                    cover(&strip, &map).expect("the map can be covered")
+                })
+                .collect();
+            for (word, starts) in words.chunks_exact_mut(15).zip(&placements) {
+                assert_eq!(encode(&strip, starts, b"ABCDEFGHIJK", word), Ok(()));
+            }
+            assert_eq!(interleave(&strip, depth as u32, &words, &mut cells), Ok(()));
+            cells[worn..worn + 2 * depth].fill(0xFF);
+            assert_eq!(
+                deinterleave(&strip, depth as u32, &cells, &mut words),
+                Ok(())
+            );
+            for (word, starts) in words.chunks_exact(15).zip(&placements) {
+                let mut message = [0; 11];
+                assert_eq!(decode(&strip, word, &mut message), Ok(*starts));
+                assert_eq!(message, *b"ABCDEFGHIJK");
+            }
+        }
+    }
 }

@@ -5,6 +5,7 @@ pub mod Choose
 pub mod Rank
 pub mod Bursts
 pub mod Cover
+pub mod ShortSets
 pub mod Loops
 pub mod Scan
 mod Examples

@@ -35,6 +35,12 @@ below-at q [] h e x = h
 below-at q (y ∷ ys) h e zero = by-le (suc y) q (λ t. (t && allBelow q ys) ≡ true → y < q) (λ l _. l) (λ _ d. absurd (false≢true d)) e
 below-at q (y ∷ ys) h e (suc x) = below-at q ys h (both (ltb y q) (allBelow q ys) e .1) x
 
+-- where there is such a number, q is not 0
+pub some-below : (q : ℕ) (xs : List ℕ) → allBelow q xs ≡ true → 0 < length xs → 0 < q
+unfolding all
+some-below q [] h l = absurd (omega arith)
+some-below q (x ∷ xs) h l = by-le (suc x) q (λ t. (t && allBelow q xs) ≡ true → 0 < q) (λ k _. omega arith) (λ _ e. absurd (false≢true e)) h
+
 pub at-below : (q : ℕ) (xs : List ℕ) → ((x : ℕ) → x < length xs → getD xs x 0 < q) → allBelow q xs ≡ true
 unfolding all
 at-below q [] h = refl

@@ -18,6 +18,7 @@ use Rattle.construction_a.specs.Figures.{Params, inRange, fits, parts, placemen
 use Rattle.construction_a.specs.Writing.{placementOf}
 use Rattle.construction_a.specs.Reading.{looksFixed, indexFound, written, agrees, readRank, readFrom, read}
 use Rattle.construction_a.specs.Outcomes.{Held, held, inUse, FiguresOut, figuresNumber, figuresOut, Encoded, unwritten, encodeOut, worn, Covered, coverOut, WordAnswer, rankIs, refusal, answerNumber, Decoded, decodeAs, decodeOut}
+use Rattle.construction_a.specs.DemandTwo.{constructionA}
 use Rattle.construction_a.proofs.DemandTwo.{demand-two}
 use Rattle.construction_a.proofs.Figures.{serve}
 use Rattle.construction_a.proofs.Ranking.{covers-least}
@@ -33,6 +34,8 @@ use Rattle.jobcodec.specs.DemandThree.{isRefusal}
 use Rattle.jobcodec.specs.JobWrite.{jobStatus, whereOpen, jobWriteOut}
 use Rattle.jobcodec.specs.JobRead.{JobRead, withhold, jobIn, jobReading, jobReadOut}
 use Rattle.jobcodec.specs.ListRead.{ListOut, listOut}
+use Rattle.lanes.specs.Interleaving.{inDepth, interleaved, deinterleaved}
+use Rattle.lanes.specs.Outcomes.{Rearranged, rearranged, interleaveOut, deinterleaveOut}
 use Rattle.exports.specs.Words.{CoverLent, encodeBytesOut, coverBytesOut}
 use Rattle.exports.specs.Table.{tableLen, statesKnown, tableIn}
 use Rattle.exports.specs.Jobs.{CallLent, called, calledAs, isWhole as wholeTable, slotsFit, callBytesOut, jobWriteBytesOut, jobReadBytesOut}
@@ -40,7 +43,7 @@ use Rattle.text.specs.Text.{decimal, hex}
 use Rattle.transfer.specs.Session.{Session, maxRecords, after}
 use Rattle.transfer.specs.Lines.{refusalLine, servedLine}
 use Rattle.transfer.specs.Records.{letterS, letterW, letterR, headLen, letterOf, isEmpty, current, Step, stopped, ended, goesOn, figuresIn, figuresStep, callStep, jobStep, startsIn, payloadOf, writeOut, readOut, serveOut, readable, stepOut}
-use Rattle.demands.specs.Orders.{figuresAlone, wordWrite, covering, wordRead, jobWrite, jobRead, call, callByLetter, callOnBytes, listOfCalls}
+use Rattle.demands.specs.Orders.{figuresAlone, wordWrite, covering, wordRead, rearrangement, jobWrite, jobRead, call, callByLetter, callOnBytes, listOfCalls}
 use Rattle.demands.specs.DemandOne.{AnswersBy, ListAnswers, StepAnswers, at-end, stops, refuses, serves, DemandOne}
 
 -- ---- The two ways to answer, and an order of refusals test by test
@@ -129,6 +132,29 @@ word-read f w out =
     (tested P (eqb (length w) (f .n) && eqb (length out) (messageLen f)) (keep refl refl)
     (tested P (allBelow (f .q) w) (keep refl refl)
     (by-read f w (λ d. P (decodeAs f out d)) (keep refl refl) (keep refl refl) (keep refl refl) (λ ss ms. done refl)))))
+
+-- ---- Words side by side
+
+module _ (f : Params) (d : ℕ) where
+  rearranges : (bound : ℕ) (from out filled : List ℕ)
+      → AnswersBy rearrangement (rearranged f d bound from out filled .answer) out (rearranged f d bound from out filled .buffer)
+  unfolding isRefusal all any
+  rearranges bound from out filled =
+      let P : Rearranged → Type 0 = λ o. AnswersBy rearrangement (o .answer) out (o .buffer) in
+      tested P (inRange f) (keep refl refl)
+      (tested P (fits f) (keep refl refl)
+      (tested P (inDepth d) (keep refl refl)
+      (tested P (eqb (length from) (d * f .n) && eqb (length out) (d * f .n)) (keep refl refl)
+      (tested P (allBelow bound from) (keep refl refl)
+      (done refl)))))
+
+  interleave : (words out : List ℕ) → AnswersBy rearrangement (interleaveOut f d words out .answer) out (interleaveOut f d words out .buffer)
+  unfolding interleaveOut
+  interleave words out = rearranges (f .q) words out (interleaved d (f .n) words)
+
+  deinterleave : (strip out : List ℕ) → AnswersBy rearrangement (deinterleaveOut f d strip out .answer) out (deinterleaveOut f d strip out .buffer)
+  unfolding deinterleaveOut
+  deinterleave strip out = rearranges (constructionA f .foundBound) strip out (deinterleaved d (f .n) strip)
 
 -- ---- The job table
 
@@ -475,6 +501,8 @@ demand-one =
       word-write = word-write;
       cover = cover;
       word-read = word-read;
+      interleave = interleave;
+      deinterleave = deinterleave;
       open-job = open-job;
       cancel-job = cancel-job;
       finish-job = finish-job;

@@ -24,12 +24,13 @@ use Rattle.jobcodec.specs.DemandThree.{isRefusal}
 use Rattle.jobcodec.specs.JobWrite.{jobWriteOut}
 use Rattle.jobcodec.specs.JobRead.{jobReadOut}
 use Rattle.jobcodec.specs.ListRead.{ListSaid, listRefused, jobAnswer, ListOut, listOut}
+use Rattle.lanes.specs.Outcomes.{interleaveOut, deinterleaveOut}
 use Rattle.exports.specs.Words.{encodeBytesOut, coverBytesOut}
 use Rattle.exports.specs.Jobs.{callBytesOut, jobWriteBytesOut, jobReadBytesOut}
 use Rattle.transfer.specs.Session.{Session, after}
 use Rattle.transfer.specs.Lines.{refusalLine, servedLine}
 use Rattle.transfer.specs.Records.{letterOf, Step, stopped, ended, goesOn, stepOut}
-use Rattle.demands.specs.Orders.{figuresAlone, wordWrite, covering, wordRead, jobWrite, jobRead, call, callByLetter, callOnBytes, listOfCalls}
+use Rattle.demands.specs.Orders.{figuresAlone, wordWrite, covering, wordRead, rearrangement, jobWrite, jobRead, call, callByLetter, callOnBytes, listOfCalls}
 
 -- A call whose order is given answers a; what was lent is then `left`.
 pub record AnswersBy {A : Type 0} (order : List ℕ) (a : ℕ) (lent left : A) : Type 0 where
@@ -64,6 +65,11 @@ pub record DemandOne : Type 0 where
   pub word-read : (f : Params) (w out : List ℕ)
       → AnswersBy {A = Held × List ℕ} wordRead (answerNumber (decodeOut f w out .answer)) (held [], out)
       (decodeOut f w out .placement, decodeOut f w out .message)
+  -- ---- Words side by side; the functions for other languages have these outcomes too
+  pub interleave : (f : Params) (d : ℕ) (words out : List ℕ)
+      → AnswersBy rearrangement (interleaveOut f d words out .answer) out (interleaveOut f d words out .buffer)
+  pub deinterleave : (f : Params) (d : ℕ) (strip out : List ℕ)
+      → AnswersBy rearrangement (deinterleaveOut f d strip out .answer) out (deinterleaveOut f d strip out .buffer)
   -- ---- The job table
   pub open-job : (es : List Entry) (n : ℕ) → AnswersBy (call opening) (openOut es n .answer) es (openOut es n .table)
   pub cancel-job : (es : List Entry) (n : ℕ) → AnswersBy (call cancelling) (cancelOut es n .answer) es (cancelOut es n .table)

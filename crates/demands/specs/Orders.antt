@@ -1,10 +1,10 @@
 -- "Orders: ..": the numbers that each call can refuse with, in document 01's order; document 02, ticket 3: 17, "itself a state refusal and ahead of the
--- others"; ticket 7: 20, "after 1"; ticket 10: 23, "after 12 and before 14", and 24, "after 12". Where lent bytes add a refusal, it stands at its place.
--- Assumes nothing.
+-- others"; ticket 7: 20, "after 1"; ticket 10: 23, "after 12 and before 14", and 24, "after 12"; ticket 5: 18. Where lent bytes add a refusal, it stands at its
+-- place. Assumes nothing.
 use mathlib.Core.List.{List, [], _∷_}
 use mathlib.Core.Option.{Option, none, some}
 use Prim.Native.Nat.{ℕ}
-use Rattle.refusals.specs.Refusals.{invalid, unfit, wrongLength, badSymbol, badStarts, uncovered, noPattern, valueTooLarge, disagrees, badPayload, badRecord, jobCancelled, alreadyOpen, notOpen, tableFull, numberZero, notCancelled, jobHeld, notHeld}
+use Rattle.refusals.specs.Refusals.{invalid, unfit, wrongLength, badSymbol, badStarts, uncovered, noPattern, valueTooLarge, disagrees, badPayload, badRecord, badDepth, jobCancelled, alreadyOpen, notOpen, tableFull, numberZero, notCancelled, jobHeld, notHeld}
 use Rattle.jobs.specs.Jobs.{Kind, opening, cancelling, finishing, reinstating, holding, releasing}
 
 -- "figures alone 1 2"
@@ -22,6 +22,10 @@ covering = invalid ∷ unfit ∷ wrongLength ∷ badSymbol ∷ uncovered ∷ []
 -- "word read 1 2 3 4 7 8 9"
 abbrev pub wordRead : List ℕ
 wordRead = invalid ∷ unfit ∷ wrongLength ∷ badSymbol ∷ noPattern ∷ valueTooLarge ∷ disagrees ∷ []
+
+-- document 02, "Strips side by side": 18 "right after 2 and before 3 and 4"
+abbrev pub rearrangement : List ℕ
+rearrangement = invalid ∷ unfit ∷ badDepth ∷ wrongLength ∷ badSymbol ∷ []
 
 -- "job write 1 2 10 3 5 12 14", with 17 before 12 and 23 before 14
 abbrev pub jobWrite : List ℕ

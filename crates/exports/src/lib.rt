@@ -5,6 +5,7 @@ ghost use Rattle.construction_a.specs.Figures.{params};
 ghost use Rattle.construction_a.specs.Outcomes.{unwritten};
 ghost use Rattle.decoder.specs.Exported.{lentAs, exportedOut, messageLenOut};
 ghost use Rattle.jobcodec.specs.Given.{seen};
+ghost use Rattle.lanes.specs.Outcomes.{unfilled, interleaveOut, deinterleaveOut};
 ghost use Rattle.exports.specs.Words.{encodeBytesOut, covers, coverBytesOut, payloadLenOut};
 ghost use Rattle.exports.specs.Jobs.{called, callBytesOut, jobWriteBytesOut, jobReadBytesOut};
 use decoder::starts::decode_bytes;
@@ -174,4 +175,36 @@ pub extern "C" fn burgzemi_job_read(
     }
     let held = table::table_in(table);
     jobcodec::job_read(figures, held, word, payload)
+}
+
+// Words to the strip: `depth` words of n symbols, one after another, side by side. Refusals: 1 2 18 3 4.
+#[no_mangle]
+pub extern "C" fn burgzemi_interleave(
+    n: u32,
+    q: u32,
+    m: u32,
+    b: u32,
+    depth: u32,
+    words: &[u8],
+    strip: &mut [u8],
+) -> u8
+    ensures { λ r. ⌜ unfilled (now (strip .exit)) r ≡ interleaveOut (params n q m b) depth (now (words .entry)) (now (strip .entry)) ⌝ }
+{
+    lanes::interleave(Params { n, q, m, b }, depth, words, strip)
+}
+
+// The strip to words, one after another. Refusals: 1 2 18 3 4.
+#[no_mangle]
+pub extern "C" fn burgzemi_deinterleave(
+    n: u32,
+    q: u32,
+    m: u32,
+    b: u32,
+    depth: u32,
+    strip: &[u8],
+    words: &mut [u8],
+) -> u8
+    ensures { λ r. ⌜ unfilled (now (words .exit)) r ≡ deinterleaveOut (params n q m b) depth (now (strip .entry)) (now (words .entry)) ⌝ }
+{
+    lanes::deinterleave(Params { n, q, m, b }, depth, strip, words)
 }

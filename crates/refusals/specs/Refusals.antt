@@ -53,6 +53,10 @@ badPayload = 10
 abbrev pub badRecord : ℕ
 badRecord = 11
 
+-- "It refuses with 18, .., a depth outside 1 to 16." (02, 5)
+abbrev pub badDepth : ℕ
+badDepth = 18
+
 -- ---- From the state
 
 -- "12: number cancelled."
@@ -91,6 +95,7 @@ notHeld = 24
 abbrev pub refusals : List ℕ
 refusals =
     invalid ∷ unfit ∷ wrongLength ∷ badSymbol ∷ badStarts ∷ uncovered ∷ noPattern ∷ valueTooLarge ∷ disagrees ∷ badPayload ∷ badRecord
+    ∷ badDepth
     ∷ jobCancelled ∷ alreadyOpen ∷ notOpen ∷ tableFull ∷ numberZero ∷ notCancelled ∷ jobHeld ∷ notHeld ∷ []
 
 -- An order of refusals, "1 2 3 ..", reads downward: where a test fails the outcome is `else`, and otherwise the next test decides.

@@ -6,7 +6,8 @@ use std::time::Instant;
 
 use agree::judge::Judge;
 use agree::rng::Rng;
-use agree::{calls, former, grid, jobs, lengths, strips, words};
+use agree::{calls, former, grid, jobs, lanes, lengths, strips, words};
+use second::lanes::MAX_DEPTH;
 
 const GATE_SEED: u64 = 1996;
 const GATE_ROUNDS: u64 = 30_000;
@@ -52,6 +53,7 @@ fn run(rounds: u64, seed: u64, long: bool) -> ExitCode {
             words::end_ranks(&mut judge, &mut rng);
             words::wrapped_values(&mut judge, &mut rng);
             calls::list(&mut judge, &mut rng);
+            lanes::round(&mut judge, &mut rng, depth(round / 16));
         }
         if long && round % 10_000 == 9_999 {
             let seconds = begun.elapsed().as_secs();
@@ -59,6 +61,11 @@ fn run(rounds: u64, seed: u64, long: bool) -> ExitCode {
         }
     }
     finish(&judge, seed, begun)
+}
+
+/// Each depth in turn.
+fn depth(turn: u64) -> u32 {
+    1 + (turn % MAX_DEPTH as u64) as u32
 }
 
 /// Every pattern of first symbols for up to 9 blocks (16 in a long run), and samples above.

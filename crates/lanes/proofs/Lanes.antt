@@ -1,0 +1,211 @@
+-- The law of words side by side holds. Assumes nothing.
+use mathlib.Core.Path.{_≡_, refl, sym, ap, _∙_}
+use mathlib.Core.Bool.{Bool, true, false, _&&_, true≢false, false≢true}
+use mathlib.Core.List.{List, [], _∷_, flatMap}
+use Prim.Native.Nat.{ℕ, suc, _+_, _-_, _*_, _≤_, _<_}
+use native.Mathlib.Nat.{add-mul, mul-comm, lt-of-mul-lt-mul-right}
+use native.Mathlib.Omega.{arith}
+use lib.Arith.{digits-lt}
+use lib.Dec.{leb, ltb, eqb}
+use lib.ListN.{length, getD}
+use Rattle.combinatorics.specs.Bursts.{apart, inBurst, placements, startsOf, coverRank}
+use Rattle.combinatorics.specs.Lists.{all, any, allBelow}
+use Rattle.combinatorics.specs.Stretch.{bit, stretch}
+use Rattle.combinatorics.proofs.Bursts.{of-placed}
+use Rattle.combinatorics.proofs.Cases.{by-bool, eqb-same, leb-holds}
+use Rattle.combinatorics.proofs.Cover.{Cover, cover-is}
+use Rattle.combinatorics.proofs.Lists.{both, at-below}
+use Rattle.combinatorics.proofs.ShortSets.{Short, Shorts, short-covered}
+use Rattle.combinatorics.proofs.Stretch.{bit-le, length-tabulate, tabulate-at}
+use Rattle.cells.specs.Codec.{Codec, accepted, Word, WritesWords, Exact}
+use Rattle.construction_a.specs.DemandTwo.{constructionA}
+use Rattle.construction_a.specs.Figures.{Params, isPlacement, placementCount, messageLen}
+use Rattle.construction_a.specs.Outcomes.{worn, coverOut, decodeAs, decodeOut}
+use Rattle.construction_a.specs.Writing.{word}
+use Rattle.construction_a.proofs.Figures.{Served, serve, le-of, starts-placed}
+use Rattle.construction_a.proofs.DemandTwo.{demand-two}
+use Rattle.lanes.specs.Interleaving.{interleaved, deinterleaved, lane}
+use Rattle.lanes.specs.Lanes.{Wear, within, isWorn, isShort, Worn, stripMap, wordMap, HasBursts, coverOf, Messages, coverAt, writtenWords, FoundStrip, LanesHold, LawOfLanes, LanesReadA}
+use Rattle.lanes.specs.Outcomes.{interleaveOut, deinterleaveOut}
+use Rattle.lanes.proofs.Interleaving.{length-transposed, transposed-below, lane-at, length-lane, lane-below, words-at, length-words, words-below, strip-cell, word-cell}
+use Rattle.lanes.proofs.Outcomes.{Passes, passes}
+
+-- ---- Maps
+
+bit-is : (b : Bool) → eqb (bit b) 1 ≡ b
+bit-is true = refl
+bit-is false = refl
+
+-- position i of word j is worn where cell i × d + j of the strip is
+pub map-at : (d n i j : ℕ) (ss : List Wear) → i < n → j < d → worn (wordMap d n ss j) i ≡ isWorn ss (i * d + j)
+unfolding wordMap stripMap
+map-at d n i j ss hi hj =
+    let t = i * d + j in
+    let z : 0 + t ≡ t = omega arith in
+    let here = tabulate-at (d * n) 0 t (λ t. bit (isWorn ss t)) (omega (arith, digits-lt hi hj, mul-comm d n)) in
+    rw (word-cell d n i j (stripMap d n ss) hi hj, here, z) (bit-is (isWorn ss t))
+
+-- ---- d × b cells in a row are at most b positions in a row of each word
+
+module _ (b d j : ℕ) where
+  cells : Wear → ℕ → Bool
+  cells s i = within s (i * d + j)
+
+  short-one : (s : Wear) → s .cells ≤ d * b → Short cells b s
+  unfolding cells
+  short-one s l x y hx hy =
+      let px = both (leb (s .from) (x * d + j)) (ltb (x * d + j) (s .from + s .cells)) hx in
+      let py = both (leb (s .from) (y * d + j)) (ltb (y * d + j) (s .from + s .cells)) hy in
+      let behind = le-of (suc (x * d + j)) (s .from + s .cells) (px .1) in
+      let before = le-of (s .from) (y * d + j) (py .0) in
+      lt-of-mul-lt-mul-right d (omega (arith, behind, before, l, add-mul y b d, mul-comm d b))
+
+  shorts : (ss : List Wear) → all (isShort b d) ss ≡ true → Shorts cells b ss
+  unfolding all
+  shorts [] h = tt
+  shorts (s ∷ ss) h =
+      let p = both (isShort b d s) (all (isShort b d) ss) h in
+      (short-one s (le-of (s .cells) (d * b) (p .0)), shorts ss (p .1))
+
+-- ---- Under any codec
+
+module _ (c : Codec) (m b d : ℕ) (ss : List Wear) (bursts : HasBursts c m b) (writes : WritesWords c) (exact : Exact c) (wear : Worn m b d ss) where
+  covered : (j : ℕ) → j < d → coverRank (c .wordLen) m b (worn (wordMap d (c .wordLen) ss j)) < placements (c .wordLen) m b
+  unfolding cells isWorn
+  covered j hj =
+      short-covered (cells b d j) b (worn (wordMap d (c .wordLen) ss j)) m (c .wordLen) ss (bursts .some) (bursts .room) (wear .few)
+      (shorts b d j ss (wear .short))
+      (λ x l w. sym (map-at d (c .wordLen) x j ss l hj) ∙ w)
+
+  cover : (j : ℕ) → j < d → Cover (c .wordLen) m b (worn (wordMap d (c .wordLen) ss j)) (bursts .some) (coverAt c m b d ss j)
+  unfolding coverOf
+  cover j hj = cover-is (c .wordLen) m b (worn (wordMap d (c .wordLen) ss j)) (bursts .some) (bursts .room) (covered j hj)
+
+  placed : (j : ℕ) → j < d → c .placed (coverAt c m b d ss j) ≡ true
+  placed j hj =
+      let v = cover j hj in
+      bursts .placed (coverAt c m b d ss j) (v .count) (of-placed b (c .wordLen) 0 (coverAt c m b d ss j) (v .placed))
+
+  written-word : (messages : ℕ → List ℕ) → Messages c d messages → (j : ℕ) → j < d
+      → (length (c .encode (coverAt c m b d ss j) (messages j)) ≡ c .wordLen) × (allBelow (c .alphabet) (c .encode (coverAt c m b d ss j) (messages j)) ≡ true)
+  written-word messages ms j hj = writes (coverAt c m b d ss j) (messages j) (placed j hj) (ms j hj .0) (ms j hj .1)
+
+  module _ (messages : ℕ → List ℕ) (strip : List ℕ) (ms : Messages c d messages) (found : FoundStrip c m b d ss messages strip) where
+    long : (j : ℕ) → j < d → length (c .encode (coverAt c m b d ss j) (messages j)) ≡ c .wordLen
+    long j hj = written-word messages ms j hj .0
+
+    read-word : (j : ℕ) → j < d → Word c (lane (c .wordLen) j (deinterleaved d (c .wordLen) strip))
+    read-word j hj =
+        record {
+          complete = length-lane (c .wordLen) d j (deinterleaved d (c .wordLen) strip) (length-transposed (c .wordLen) d strip ∙ mul-comm (c .wordLen) d) hj;
+          symbols = lane-below (c .foundBound) (c .wordLen) j (deinterleaved d (c .wordLen) strip)
+              (transposed-below (c .foundBound) (c .wordLen) d strip (found .complete ∙ mul-comm d (c .wordLen)) (found .symbols));
+        }
+
+    reads : (j : ℕ) → j < d → c .decode (lane (c .wordLen) j (deinterleaved d (c .wordLen) strip)) ≡ accepted (coverAt c m b d ss j) (messages j)
+    reads j hj =
+        let starts = coverAt c m b d ss j in
+        exact (lane (c .wordLen) j (deinterleaved d (c .wordLen) strip)) starts (messages j) (read-word j hj) .1
+        (record {
+          placement = placed j hj;
+          count = ms j hj .0;
+          symbols = ms j hj .1;
+          outside = λ x lx sound.
+              let t = x * d + j in
+              let free : isWorn ss t ≡ false =
+              by-bool (isWorn ss t)
+              (λ w. absurd (true≢false (sym (bursts .spoilt starts x (cover j hj .all x lx (map-at d (c .wordLen) x j ss lx hj ∙ w))) ∙ sound)))
+              (λ w. w) in
+              let z : 0 + j ≡ j = omega arith in
+              word-cell d (c .wordLen) x j strip lx hj
+              ∙ found .outside t (omega (arith, digits-lt lx hj, mul-comm d (c .wordLen))) free
+              ∙ strip-cell d (c .wordLen) x j (flatMap (λ i. c .encode (coverAt c m b d ss i) (messages i)) (stretch d 0)) lx hj
+              ∙ words-at (c .wordLen) d 0 j x (λ i. c .encode (coverAt c m b d ss i) (messages i)) (λ i _ l. long i (omega arith)) hj lx
+              ∙ ap (λ (i : ℕ). getD (c .encode (coverAt c m b d ss i) (messages i)) x 0) z;
+        })
+
+pub lanes-hold : LawOfLanes
+lanes-hold c m b d ss bursts writes exact wear =
+    record {
+      coverable = covered c m b d ss bursts writes exact wear;
+      reads = λ messages strip ms found. reads c m b d ss bursts writes exact wear messages strip ms found;
+    }
+
+-- ---- Under Construction A
+
+has-bursts : (f : Params) → Served f → HasBursts (constructionA f) (f .m) (f .b)
+unfolding isPlacement
+has-bursts f ok =
+    record {
+      some = ok .long;
+      room = ok .total;
+      placed = λ starts e h. rw (eqb-same (length starts) (f .m) e, h);
+      spoilt = λ starts x t. t;
+    }
+
+-- a word's map is one that the planner takes
+module _ (d n : ℕ) (ss : List Wear) where
+  length-strip-map : length (stripMap d n ss) ≡ d * n
+  unfolding stripMap
+  length-strip-map = length-tabulate (d * n) 0 (λ t. bit (isWorn ss t))
+
+  strip-map-bits : allBelow 2 (stripMap d n ss) ≡ true
+  unfolding stripMap
+  strip-map-bits =
+      at-below 2 (stripMap d n ss)
+      (λ x l. rw (tabulate-at (d * n) 0 x (λ t. bit (isWorn ss t)) (omega (arith, length-strip-map))) (omega (arith, bit-le (isWorn ss (0 + x)))))
+
+  pub length-map : (j : ℕ) → j < d → length (wordMap d n ss j) ≡ n
+  unfolding wordMap
+  length-map j h = length-lane n d j (deinterleaved d n (stripMap d n ss)) (length-transposed n d (stripMap d n ss) ∙ mul-comm n d) h
+
+  pub map-bits : (j : ℕ) → allBelow 2 (wordMap d n ss j) ≡ true
+  unfolding wordMap
+  map-bits j = lane-below 2 n j (deinterleaved d n (stripMap d n ss)) (transposed-below 2 n d (stripMap d n ss) (length-strip-map ∙ mul-comm d n) strip-map-bits)
+
+pub lanes-read : LanesReadA
+unfolding coverOut decodeOut coverOf interleaveOut deinterleaveOut
+lanes-read f d ss i h wear =
+    let ok = serve f i h in
+    let two = demand-two f i h in
+    let c = constructionA f in
+    let b = has-bursts f ok in
+    let law = lanes-hold c (f .m) (f .b) d ss b (two .written) (two .exactly) wear in
+    record {
+      covered = λ j hj.
+          let map = wordMap d (f .n) ss j in
+          rw (
+            i,
+            h,
+            eqb-same (length map) (f .n) (length-map d (f .n) ss j hj),
+            map-bits d (f .n) ss j,
+            leb-holds (suc (coverRank (f .n) (f .m) (f .b) (worn map))) (placementCount f) (law .coverable j hj),
+          );
+      laid = λ messages out ms depth room.
+          let each = written-word c (f .m) (f .b) d ss b (two .written) (two .exactly) wear messages ms in
+          let g : ℕ → List ℕ = λ j. word f (coverAt c (f .m) (f .b) d ss j) (messages j) in
+          let words = writtenWords c (f .m) (f .b) d ss messages in
+          passes f d (f .q) words out (interleaved d (f .n) words)
+          (record {
+            range = i;
+            fit = h;
+            depth = depth;
+            lent = length-words (f .n) d 0 g (λ j _ l. each j (omega arith) .0);
+            room = room;
+            symbols = words-below (f .q) d 0 g (λ j _ l. each j (omega arith) .1);
+          });
+      taken = λ messages strip out found depth room.
+          passes f d (c .foundBound) strip out (deinterleaved d (f .n) strip)
+          (record { range = i; fit = h; depth = depth; lent = found .complete; room = room; symbols = found .symbols });
+      read = λ messages strip out ms found long j hj.
+          let w = lane (f .n) j (deinterleaved d (f .n) strip) in
+          let found-word = read-word c (f .m) (f .b) d ss b (two .written) (two .exactly) wear messages strip ms found j hj in
+          rw (
+            i,
+            h,
+            eqb-same (length w) (f .n) (found-word .complete),
+            eqb-same (length out) (messageLen f) long,
+            found-word .symbols,
+            law .reads messages strip ms found j hj,
+          );
+    }

@@ -1,0 +1,62 @@
+-- `judged` meets its contract, test by test. Assumes nothing.
+use mathlib.Core.Path.{sym, _∙_}
+use native.Mathlib.Nat.{mul-le-mul-right}
+use native.Mathlib.Omega.{arith}
+use borrow.Author.Tests.{not-true, not-false}
+use Rattle.params.specs.Given.{figuresOf}
+use Rattle.params.proofs.Fitting.{bound}
+use Rattle.lanes.proofs.Outcomes.{too-few, too-many, words-length, room-length, symbol-refused, nothing-refused}
+use borrow.Author.Needs.{needs}
+use Rattle.lanes.proofs.judged.Statement.{statement}
+use Rattle.lanes.proofs.judged.Tie as tie
+
+returns : tie.Need-returns
+returns c =
+    let s = c .before .before in
+    λ out filled e. too-few (figuresOf (s .args .layout)) (s .args .depth) (s .args .bound) (s .args .from .now) out filled (s .pre .range)
+    (s .pre .fit) (c .if1 .taken)
+
+returns-2 : tie.Need-returns-2
+returns-2 c =
+    let s = c .before .before .before in
+    λ out filled e. too-many (figuresOf (s .args .layout)) (s .args .depth) (s .args .bound) (s .args .from .now) out filled (s .pre .range)
+    (s .pre .fit) (omega arith) (c .if2 .taken)
+
+mul-len : tie.Need-mul-len
+mul-len c =
+    let s = c .before .before .before .before in
+    omega (arith, bound (s .args .layout) (s .pre) .n-most, mul-le-mul-right {m = s .args .depth} {n = 16} (s .args .layout .n) (omega arith))
+
+returns-3 : tie.Need-returns-3
+returns-3 c =
+    let s = c .before .before .before .before .before in
+    λ out filled e. words-length (figuresOf (s .args .layout)) (s .args .depth) (s .args .bound) (s .args .from .now) out filled (s .pre .range)
+    (s .pre .fit) (omega arith) (omega arith) (c .if3 .taken)
+
+returns-4 : tie.Need-returns-4
+returns-4 c =
+    let s = c .before .before .before .before .before .before in
+    λ out filled e. room-length (figuresOf (s .args .layout)) (s .args .depth) (s .args .bound) (s .args .from .now) out filled (s .pre .range)
+    (s .pre .fit) (omega arith) (omega arith) (c .before .if3 .left) (λ h. c .if4 .taken (sym e ∙ h))
+
+all-below-requires : tie.Need-all-below-requires
+all-below-requires c κs = search needs
+
+returns-5 : tie.Need-returns-5
+returns-5 c =
+    let s = c .before .before .before .before .before .before .before .before in
+    λ out filled e. symbol-refused (figuresOf (s .args .layout)) (s .args .depth) (s .args .bound) (s .args .from .now) out filled (s .pre .range)
+    (s .pre .fit) (omega arith) (omega arith) (c .before .before .before .if3 .left) (e ∙ c .before .before .if4 .left)
+    (sym (c .before .all-below .ensures) ∙ not-true _ (c .if5 .taken))
+
+returns-6 : tie.Need-returns-6
+returns-6 c =
+    let s = c .before .before .before .before .before .before .before .before in
+    λ out filled e. nothing-refused (figuresOf (s .args .layout)) (s .args .depth) (s .args .bound) (s .args .from .now) out filled (s .pre .range)
+    (s .pre .fit) (omega arith) (omega arith) (c .before .before .before .if3 .left) (e ∙ c .before .before .if4 .left)
+    (sym (c .before .all-below .ensures) ∙ not-false _ (c .if5 .left))
+
+pub judged-spec : {M : Type 1} → statement M
+judged-spec =
+    tie.close
+    (tie.spec returns returns-2 mul-len returns-3 returns-4 all-below-requires returns-5 returns-6)

@@ -1,0 +1,166 @@
+-- `copy_lines` meets its contract: the lines so far are copied. Assumes nothing.
+use mathlib.Core.Path.{_≡_, _∙_, subst}
+use Prim.Native.Nat.{ℕ, _+_, _*_, _-_, _≤_}
+use native.Mathlib.Nat.{mul-le-mul-right}
+use native.Mathlib.Omega.{arith}
+use borrow.Author.Needs.{needs}
+use Rattle.lanes.specs.Transposing.{LinesCopied}
+use Rattle.lanes.proofs.TileLaws.{lines-none, lines-on}
+use Rattle.lanes.proofs.tile.copy_lines.Statement.{statement}
+use Rattle.lanes.proofs.tile.copy_lines.Tie as tie
+
+abbrev Inv-loop : tie.InvT-loop
+Inv-loop from at step to₀ onto stride k₀ to k = (k ≤ 16) × LinesCopied at step from onto stride k to₀ to
+
+abbrev μ-loop : tie.MeasureT-loop
+μ-loop from at step to₀ onto stride k₀ to k = 16 - k
+
+loop-holds : tie.Need-loop-holds Inv-loop μ-loop
+loop-holds c = (
+  omega arith,
+  lines-none (c .before .before .args .at) (c .before .before .args .step) (c .before .before .args .from .now)
+      (c .before .before .args .onto) (c .before .before .args .stride) (c .before .before .args .to .now),
+)
+
+mul-start : tie.Need-mul-start Inv-loop μ-loop
+mul-start c =
+    let p = c .before .before .before .before .pre in
+    omega (
+      arith,
+      p .1 .within,
+      c .before .loop .inv .1 .size,
+      mul-le-mul-right {m = c .before .loop .k} {n = 15}
+          (c .before .before .before .before .args .stride) (omega arith),
+    )
+
+add-start : tie.Need-add-start Inv-loop μ-loop
+add-start c =
+    let p = c .before .before .before .before .pre in
+    omega (
+      arith,
+      p .1 .within,
+      c .before .loop .inv .1 .size,
+      mul-le-mul-right {m = c .before .loop .k} {n = 15}
+          (c .before .before .before .before .args .stride) (omega arith),
+    )
+
+mul-source : tie.Need-mul-source Inv-loop μ-loop
+mul-source c =
+    let p = c .before .before .before .before .pre in
+    omega (arith, p .0 .within, mul-le-mul-right {m = c .before .loop .k} {n = 15} (c .before .before .before .before .args .step) (omega arith))
+
+add-source : tie.Need-add-source Inv-loop μ-loop
+add-source c =
+    let p = c .before .before .before .before .pre in
+    omega (arith, p .0 .within, mul-le-mul-right {m = c .before .loop .k} {n = 15} (c .before .before .before .before .args .step) (omega arith))
+
+add-copy-prefix : tie.Need-add-copy-prefix Inv-loop μ-loop
+add-copy-prefix c =
+    let p = c .before .before .before .before .pre in
+    omega (
+      arith,
+      p .1 .within,
+      c .before .loop .inv .1 .size,
+      mul-le-mul-right {m = c .before .loop .k} {n = 15}
+          (c .before .before .before .before .args .stride) (omega arith),
+    )
+
+sub-copy-prefix : tie.Need-sub-copy-prefix Inv-loop μ-loop
+sub-copy-prefix c = search needs
+
+part-copy-prefix-start : tie.Need-part-copy-prefix-start Inv-loop μ-loop
+part-copy-prefix-start c = search needs
+
+part-copy-prefix-end : tie.Need-part-copy-prefix-end Inv-loop μ-loop
+part-copy-prefix-end c =
+    let p = c .before .before .before .before .pre in
+    omega (
+      arith,
+      p .1 .within,
+      c .before .loop .inv .1 .size,
+      mul-le-mul-right {m = c .before .loop .k} {n = 15}
+          (c .before .before .before .before .args .stride) (omega arith),
+    )
+
+add-copy-prefix-2 : tie.Need-add-copy-prefix-2 Inv-loop μ-loop
+add-copy-prefix-2 c =
+    let p = c .before .before .before .before .before .pre in
+    omega (
+      arith,
+      p .0 .within,
+      mul-le-mul-right {m = c .before .before .loop .k} {n = 15} (c .before .before .before .before .before .args .step)
+          (omega arith),
+    )
+
+sub-copy-prefix-2 : tie.Need-sub-copy-prefix-2 Inv-loop μ-loop
+sub-copy-prefix-2 c = search needs
+
+part-copy-prefix-start-2 : tie.Need-part-copy-prefix-start-2 Inv-loop μ-loop
+part-copy-prefix-start-2 c = search needs
+
+part-copy-prefix-end-2 : tie.Need-part-copy-prefix-end-2 Inv-loop μ-loop
+part-copy-prefix-end-2 c =
+    let p = c .before .before .before .before .before .pre in
+    omega (
+      arith,
+      p .0 .within,
+      mul-le-mul-right {m = c .before .before .loop .k} {n = 15} (c .before .before .before .before .before .args .step)
+          (omega arith),
+    )
+
+copy-prefix-requires : tie.Need-copy-prefix-requires Inv-loop μ-loop
+copy-prefix-requires c κs = search needs
+
+add-k : tie.Need-add-k Inv-loop μ-loop
+add-k c = search needs
+
+loop-less : tie.Need-loop-less Inv-loop μ-loop
+loop-less c = omega arith
+
+loop-again : tie.Need-loop-again Inv-loop μ-loop
+loop-again c =
+    let s = c .before .before .before .before .before .before in
+    let a = s .before .before .before .args in
+    let p = s .before .before .before .pre in
+    let l = s .loop in
+    let copied = c .before .before .copy-prefix in (
+      omega arith,
+      lines-on (a .at) (a .step) (a .from .now) (a .onto) (a .stride) (l .k) (a .to .now) (l .to) (copied .last .0) (p .0) (p .1)
+          (omega arith) (copied .ensures) (l .inv .1),
+    )
+
+same-length : tie.Need-same-length Inv-loop μ-loop
+same-length c = c .before .loop .inv .1 .size
+
+returns : tie.Need-returns Inv-loop μ-loop
+returns c =
+    let l = c .before .loop in
+    let a = c .before .before .before .before .args in
+    let e : l .k ≡ 16 = omega arith in
+    subst (λ (x : ℕ). LinesCopied (a .at) (a .step) (a .from .now) (a .onto) (a .stride) x (a .to .now) (l .to)) e (l .inv .1)
+
+pub copy-lines-spec : {M : Type 1} → statement M
+copy-lines-spec =
+    tie.close
+    (tie.spec
+    Inv-loop
+    μ-loop
+    loop-holds
+    mul-start
+    add-start
+    mul-source
+    add-source
+    add-copy-prefix
+    sub-copy-prefix
+    part-copy-prefix-start
+    part-copy-prefix-end
+    add-copy-prefix-2
+    sub-copy-prefix-2
+    part-copy-prefix-start-2
+    part-copy-prefix-end-2
+    copy-prefix-requires
+    add-k
+    loop-less
+    loop-again
+    same-length
+    returns)

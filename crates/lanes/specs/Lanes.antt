@@ -1,0 +1,108 @@
+-- The law of words side by side: at most m worn stretches of the strip, each of at most d × b cells, leave every word readable. The statement; its
+-- proofs are `lanes-hold` and `lanes-read` of proofs/Lanes.antt. Assumes nothing.
+use mathlib.Core.Path.{_≡_}
+use mathlib.Core.Bool.{Bool, true, false, _&&_}
+use mathlib.Core.List.{List, flatMap}
+use Prim.Native.Nat.{ℕ, _+_, _*_, _≤_, _<_}
+use lib.Dec.{leb, ltb}
+use lib.ListN.{length, getD}
+use Rattle.refusals.specs.Refusals.{served}
+use Rattle.combinatorics.specs.Bursts.{apart, inBurst, placements, startsOf, coverRank}
+use Rattle.combinatorics.specs.Lists.{all, any, allBelow}
+use Rattle.combinatorics.specs.Stretch.{bit, tabulate, stretch}
+use Rattle.cells.specs.Codec.{Codec, accepted, Word, WritesWords, Exact}
+use Rattle.construction_a.specs.DemandTwo.{constructionA}
+use Rattle.construction_a.specs.Figures.{Params, inRange, fits, messageLen}
+use Rattle.construction_a.specs.Outcomes.{worn, held, coverOut, decodeAs, decodeOut}
+use Rattle.lanes.specs.Interleaving.{inDepth, interleaved, deinterleaved, lane}
+use Rattle.lanes.specs.Outcomes.{interleaveOut, deinterleaveOut}
+
+-- ---- Wear
+
+-- a stretch of worn cells: so many, from the first on
+pub record Wear : Type 0 where
+  pub from : ℕ
+  pub cells : ℕ
+
+abbrev pub within : Wear → ℕ → Bool
+within s t = leb (s .from) t && ltb t (s .from + s .cells)
+
+unfoldable pub isWorn : List Wear → ℕ → Bool
+isWorn ss t = any (λ s. within s t) ss
+
+abbrev pub isShort : ℕ → ℕ → Wear → Bool
+isShort b d s = leb (s .cells) (d * b)
+
+-- "at most m disjoint stretches of the strip are worn, each at most d × b cells". That they are disjoint is not asked: the law holds where they overlap.
+pub record Worn (m b d : ℕ) (ss : List Wear) : Type 0 where
+  pub few : length ss ≤ m
+  pub short : all (isShort b d) ss ≡ true
+
+-- the strip's map, 1 worn and 0 sound; and "each word's map", which is found by taking the strip's map apart as the strip is
+unfoldable pub stripMap : ℕ → ℕ → List Wear → List ℕ
+stripMap d n ss = tabulate (d * n) 0 (λ t. bit (isWorn ss t))
+
+unfoldable pub wordMap : ℕ → ℕ → List Wear → ℕ → List ℕ
+wordMap d n ss j = lane n j (deinterleaved d n (stripMap d n ss))
+
+-- ---- Under any codec whose placements are m bursts of b positions
+
+pub record HasBursts (c : Codec) (m b : ℕ) : Type 0 where
+  pub some : 0 < b
+  pub room : m * b ≤ c .wordLen
+  pub placed : (starts : List ℕ) → length starts ≡ m → apart b (c .wordLen) 0 starts ≡ true → c .placed starts ≡ true
+  pub spoilt : (starts : List ℕ) (x : ℕ) → inBurst b starts x ≡ true → c .spoilt starts x ≡ true
+
+-- a word's cover: the planner's placement for its map, of n positions
+unfoldable pub coverOf : ℕ → ℕ → ℕ → List ℕ → List ℕ
+coverOf n m b map = startsOf n m b (coverRank n m b (worn map))
+
+-- a message for each word
+abbrev pub Messages : Codec → ℕ → (ℕ → List ℕ) → Type 0
+Messages c d messages = (j : ℕ) → j < d → (length (messages j) ≡ c .messageLen) × (allBelow (c .alphabet) (messages j) ≡ true)
+
+module _ (c : Codec) (m b d : ℕ) (ss : List Wear) where
+  abbrev pub coverAt : ℕ → List ℕ
+  coverAt j = coverOf (c .wordLen) m b (wordMap d (c .wordLen) ss j)
+
+  -- "every word written on its cover": one after another, and side by side
+  abbrev pub writtenWords : (ℕ → List ℕ) → List ℕ
+  writtenWords messages = flatMap (λ j. c .encode (coverAt j) (messages j)) (stretch d 0)
+
+  abbrev pub writtenStrip : (ℕ → List ℕ) → List ℕ
+  writtenStrip messages = interleaved d (c .wordLen) (writtenWords messages)
+
+  -- "after damage in those stretches to any symbols of the alphabet": the strip as it is found
+  pub record FoundStrip (messages : ℕ → List ℕ) (strip : List ℕ) : Type 0 where
+    pub complete : length strip ≡ d * c .wordLen
+    pub symbols : allBelow (c .foundBound) strip ≡ true
+    pub outside : (t : ℕ) → t < d * c .wordLen → isWorn ss t ≡ false → getD strip t 0 ≡ getD (writtenStrip messages) t 0
+
+  pub record LanesHold : Type 0 where
+    -- "then each word's map can be covered"
+    pub coverable : (j : ℕ) → j < d → coverRank (c .wordLen) m b (worn (wordMap d (c .wordLen) ss j)) < placements (c .wordLen) m b
+    -- "and .. every word written on its cover reads back"
+    pub reads : (messages : ℕ → List ℕ) (strip : List ℕ) → Messages c d messages → FoundStrip messages strip
+        → (j : ℕ) → j < d → c .decode (lane (c .wordLen) j (deinterleaved d (c .wordLen) strip)) ≡ accepted (coverAt j) (messages j)
+
+-- "Show this once for every depth."
+abbrev pub LawOfLanes : Type 0
+LawOfLanes = (c : Codec) (m b d : ℕ) (ss : List Wear) → HasBursts c m b → WritesWords c → Exact c → Worn m b d ss → LanesHold c m b d ss
+
+-- ---- Under Construction A: what each call answers
+
+pub record LanesRead (f : Params) (d : ℕ) (ss : List Wear) : Type 0 where
+  pub covered : (j : ℕ) → j < d → coverOut f (wordMap d (f .n) ss j)
+      ≡ record { answer = served; placement = held (coverAt (constructionA f) (f .m) (f .b) d ss j) }
+  pub laid : (messages : ℕ → List ℕ) (out : List ℕ) → Messages (constructionA f) d messages → inDepth d ≡ true → length out ≡ d * f .n
+      → interleaveOut f d (writtenWords (constructionA f) (f .m) (f .b) d ss messages) out
+      ≡ record { answer = served; buffer = writtenStrip (constructionA f) (f .m) (f .b) d ss messages }
+  pub taken : (messages : ℕ → List ℕ) (strip out : List ℕ) → FoundStrip (constructionA f) (f .m) (f .b) d ss messages strip → inDepth d ≡ true
+      → length out ≡ d * f .n → deinterleaveOut f d strip out ≡ record { answer = served; buffer = deinterleaved d (f .n) strip }
+  pub read : (messages : ℕ → List ℕ) (strip out : List ℕ) → Messages (constructionA f) d messages
+      → FoundStrip (constructionA f) (f .m) (f .b) d ss messages strip → length out ≡ messageLen f
+      → (j : ℕ) → j < d → decodeOut f (lane (f .n) j (deinterleaved d (f .n) strip)) out
+      ≡ decodeAs f out (accepted (coverAt (constructionA f) (f .m) (f .b) d ss j) (messages j))
+
+abbrev pub LanesReadA : Type 0
+LanesReadA = (f : Params) (d : ℕ) (ss : List Wear) → inRange f ≡ true → fits f ≡ true → Worn (f .m) (f .b) d ss → LanesRead f d ss
