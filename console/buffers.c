@@ -41,8 +41,8 @@ int main(void)
 
     memset(word, 1, sizeof word);
     call("no pattern", BURGZEMI_PATTERN, 3, word, 30, 20, 2);
-    word[29] = 2;
-    call("a symbol of 2 in no pattern", BURGZEMI_SYMBOL, 3, word, 30, 20, 2);
+    word[29] = 3;
+    call("a value of 3 in no pattern", BURGZEMI_SYMBOL, 3, word, 30, 20, 2);
     memcpy(word, good, sizeof word);
     word[21] = 1;
     word[24] = 1;
@@ -50,6 +50,12 @@ int main(void)
     call("value too large", BURGZEMI_VALUE, 3, word, 30, 20, 2);
     memset(word + 21, 0, 5);
     call("another placement", BURGZEMI_DISAGREES, 3, word, 30, 20, 2);
+    memcpy(word, good, sizeof word);
+    word[20] = 2;
+    call("a silent digit", BURGZEMI_ERASED, 3, word, 30, 20, 2);
+    memcpy(word, good, sizeof word);
+    word[29] = 2;
+    call("a silent message cell", BURGZEMI_ERASED, 3, word, 30, 20, 2);
 
     if (burgzemi_message_len(30, 2, 1, 3) != 20 || burgzemi_message_len(3, 4, 1, 1) != 0 || burgzemi_message_len(30, 2, 1, 6) != BURGZEMI_NO_LENGTH
         || burgzemi_message_len(2, 2, 1, 3) != BURGZEMI_NO_LENGTH) {

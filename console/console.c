@@ -1,5 +1,6 @@
 /*
- * A console for one strip: reads a found word given as hex and prints its placement and message, or the refusal by name.
+ * A console for one strip: reads a found word given as hex and prints its placement and message, or the refusal by name; then the positions of its
+ * silent cells, which the heads report as q, where it has any.
  *
  *     console N Q M B WORD     e.g. console 15 256 1 2 000000000741FFFF42430744454647
  *
@@ -21,10 +22,11 @@ static const char *refusal_text(unsigned answer)
     case BURGZEMI_INVALID: return "a figure out of range";
     case BURGZEMI_UNFIT: return "figures don't fit";
     case BURGZEMI_LENGTH: return "the word has another length than the figures give";
-    case BURGZEMI_SYMBOL: return "a symbol of q or more";
+    case BURGZEMI_SYMBOL: return "a value above q";
     case BURGZEMI_PATTERN: return "first symbols in no listed pattern";
     case BURGZEMI_VALUE: return "the written value is no rank";
     case BURGZEMI_DISAGREES: return "the placement disagrees with the blocks";
+    case BURGZEMI_ERASED: return "a silent cell where a symbol is needed";
     default: return "an unlisted number";
     }
 }
@@ -81,6 +83,20 @@ static void print_accepted(const uint8_t *starts, size_t starts_len, const uint8
     printf("\n");
 }
 
+/* The positions of cells without a reading; a line only where there are any. */
+static void print_silent(const uint8_t *word, size_t word_len, uint32_t q)
+{
+    const char *before = "silent ";
+    for (size_t x = 0; x < word_len; x++) {
+        if (word[x] == q) {
+            printf("%s%zu", before, x);
+            before = " ";
+        }
+    }
+    if (before[0] == ' ')
+        printf("\n");
+}
+
 int main(int argc, char **argv)
 {
     static uint8_t word[MAX_SYMBOLS], message[BURGZEMI_MAX_WORD], starts[2 * BURGZEMI_MAX_BURSTS];
@@ -101,9 +117,9 @@ int main(int argc, char **argv)
     unsigned answer = burgzemi_decode(n, q, m, b, word, (size_t)len, message, message_len, starts, starts_len);
     if (answer != BURGZEMI_SERVED) {
         printf("refused %u: %s\n", answer, refusal_text(answer));
-        return 1;
+    } else {
+        print_accepted(starts, starts_len, message, message_len);
     }
-
-    print_accepted(starts, starts_len, message, message_len);
-    return 0;
+    print_silent(word, (size_t)len, q);
+    return answer != BURGZEMI_SERVED;
 }

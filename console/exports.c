@@ -185,8 +185,13 @@ static void side_by_side(void)
         lanes("a symbol more", BURGZEMI_LENGTH, into, 4, 1, 2, 4, 7, 6);
         lanes("no room for a symbol", BURGZEMI_LENGTH, into, 4, 1, 2, 4, 6, 5);
         lanes("room for a symbol more", BURGZEMI_LENGTH, into, 4, 1, 2, 4, 6, 7);
-        lanes("a symbol of q", BURGZEMI_SYMBOL, into, 4, 1, 2, 4, 6, 6);
+        lanes(into ? "a symbol of q laid" : "a value above q taken apart", BURGZEMI_SYMBOL, into, 4, 1, 2, into ? 4 : 5, 6, 6);
     }
+
+    /* Silent cells are taken apart as any other. */
+    uint8_t silent[6], taken[6];
+    memset(silent, 4, sizeof silent);
+    see("silent cells taken apart", burgzemi_deinterleave(3, 4, 1, 1, 2, silent, 6, taken, 6), BURGZEMI_SERVED, taken, silent, 6);
 }
 
 /* Words of n symbols, all q 256 and b 1: each cell of the strip is where it belongs, and the words come back. */

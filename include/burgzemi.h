@@ -19,7 +19,7 @@ enum burgzemi_answer {
     BURGZEMI_UNFIT = 2,        /* the figures don't fit: m * b is above n, there are more than 9223372036854775807 placements, or the shortest block
                                   has fewer than b + r symbols, r as document 01 has it */
     BURGZEMI_LENGTH = 3,       /* a list, a placement or a buffer has another length than the figures give */
-    BURGZEMI_SYMBOL = 4,       /* a symbol of q or more, or a byte above 1 in a defect map */
+    BURGZEMI_SYMBOL = 4,       /* a symbol of q or more; in a found word a value above q; a byte above 1 in a defect map */
     BURGZEMI_STARTS = 5,       /* starts too close, descending, or past the end */
     BURGZEMI_UNCOVERED = 6,    /* no placement covers the defect map */
     BURGZEMI_PATTERN = 7,      /* the blocks' first symbols are in no listed pattern */
@@ -28,6 +28,7 @@ enum burgzemi_answer {
     BURGZEMI_PAYLOAD = 10,     /* no room for a job, a byte's symbols that spell 256 or more, or a leftover symbol other than 0 */
     BURGZEMI_RECORD = 11,      /* a record unreadable or one too many, or a call's letter that is none of O, C, F, I, H, U */
     BURGZEMI_DEPTH = 18,       /* a depth outside 1 to 16 */
+    BURGZEMI_ERASED = 19,      /* a silent cell, q, in an index block's first r + 1 symbols or among the message */
     /* from the state of the job table */
     BURGZEMI_CANCELLED = 12,   /* the job number is cancelled */
     BURGZEMI_ALREADY_OPEN = 13,
@@ -76,12 +77,13 @@ enum burgzemi_answer {
 uint32_t burgzemi_message_len(uint32_t n, uint32_t q, uint32_t m, uint32_t b);
 
 /*
- * Reads a found word of n symbols. Where the answer is BURGZEMI_SERVED, `message` holds its k symbols, and `starts` the first position of
- * each of the m bursts, counted from 0, ascending, 2 bytes each, high byte first. Any other answer is a refusal, and both buffers keep what
- * they held.
+ * Reads a found word of n values: symbols below q, and q for a silent cell, one that could not be read (where q is 256 there is none). Inside the bursts
+ * any of them may stand. Where the answer is BURGZEMI_SERVED, `message` holds its k symbols, and `starts` the first position of each of the m bursts,
+ * counted from 0, ascending, 2 bytes each, high byte first. Any other answer is a refusal, and both buffers keep what they held.
  *
  * Refusals, in the order in which they are looked for: 1 and 2 for the figures; 3 where word_len is not n, message_len not k or starts_len
- * not 2 * m; 4 for a symbol of q or more; 7, 8 and 9 for a word that no writing and no damage inside the bursts can give.
+ * not 2 * m; 4 for a value above q; 7; 19 for a silent cell in an index block's first r + 1 symbols; 8 and 9; 19 for a silent cell among the message.
+ * 7, 8, 9 and 19 are for a word that no writing and no damage inside the bursts can give.
  */
 uint8_t burgzemi_decode(uint32_t n, uint32_t q, uint32_t m, uint32_t b,
                         const uint8_t *word, size_t word_len,
@@ -144,11 +146,11 @@ uint8_t burgzemi_job_write(uint32_t n, uint32_t q, uint32_t m, uint32_t b,
                            uint8_t *word, size_t word_len);
 
 /*
- * Reads a found word of n symbols and puts the payload that it carries into `payload`, of K bytes. Its job must be open; a 0 that the table holds open is
- * read too.
+ * Reads a found word of n values, as burgzemi_decode does, and puts the payload that it carries into `payload`, of K bytes. Its job must be open; a 0 that
+ * the table holds open is read too.
  *
- * Refusals: 1, 2 and 10 as for writing; 3 where table_len is not BURGZEMI_TABLE_LEN, word_len not n or payload_len not K; 4 7 8 9 for the word; 10 for
- * a message that spells no payload; 12, 23 and 14 for the job.
+ * Refusals: 1, 2 and 10 as for writing; 3 where table_len is not BURGZEMI_TABLE_LEN, word_len not n or payload_len not K; 4 7 19 8 9 19 for the word; 10
+ * for a message that spells no payload; 12, 23 and 14 for the job.
  */
 uint8_t burgzemi_job_read(uint32_t n, uint32_t q, uint32_t m, uint32_t b,
                           const uint8_t *table, size_t table_len,
@@ -168,7 +170,10 @@ uint8_t burgzemi_interleave(uint32_t n, uint32_t q, uint32_t m, uint32_t b, uint
                             const uint8_t *words, size_t words_len,
                             uint8_t *strip, size_t strip_len);
 
-/* Takes such a strip apart again: `words` gets the words one after another. Refusals: as above. */
+/*
+ * Takes such a strip apart again: `words` gets the words one after another. A found strip may have silent cells, q, where q is at most 255. Refusals: as
+ * above, but 4 for a value above q.
+ */
 uint8_t burgzemi_deinterleave(uint32_t n, uint32_t q, uint32_t m, uint32_t b, uint32_t depth,
                               const uint8_t *strip, size_t strip_len,
                               uint8_t *words, size_t words_len);

@@ -6,8 +6,8 @@ use second::Figures;
 use crate::calls::{bad_table, number, start, table};
 use crate::judge::{Judge, Op};
 use crate::make::{
-    damage, figures, numbers, odd_message, placement, sound_message, start_bytes, symbols,
-    wrong_len,
+    damage, figures, found, numbers, odd_message, placement, silent_value, sound_message,
+    start_bytes, symbols, wrong_len,
 };
 use crate::rng::Rng;
 use crate::words::bad_starts_of;
@@ -61,10 +61,13 @@ fn read_back(
         &|| format!("{f:?} {starts:?}"),
         "not what was written",
     );
-    // The same word under another table, and with a symbol changed.
+    // The same word under another table, and with a cell changed, or silent.
     judge.job_read(numbers(f), &self::table(rng), &word, payload.len());
     let at = rng.index(f.n);
-    word[at] = rng.byte();
+    word[at] = match silent_value(f.q) {
+        Some(silent) if rng.once_in(2) => silent,
+        _ => rng.byte(),
+    };
     judge.job_read(numbers(f), table, &word, payload.len());
 }
 
@@ -140,7 +143,7 @@ fn refused_writing(judge: &mut Judge, rng: &mut Rng, f: &Figures, good: &[u8], p
 
 fn refused_reading(judge: &mut Judge, rng: &mut Rng, f: &Figures, good: &[u8]) {
     let mut table = good.to_vec();
-    let mut word = symbols(rng, f.q, f.n);
+    let mut word = found(rng, f.q, f.n);
     let (mut payload, mut figures) = (payload_len(f), numbers(f));
     for _ in 0..rng.pick(&[0, 1, 1, 2, 3]) {
         match rng.below(5) {

@@ -47,7 +47,7 @@ impl Op {
 pub const OPS: [(Op, &str, &[u8]); 15] = [
     (Op::Figures, "figures", &[0, 1, 2]),
     (Op::Encode, "word write", &[0, 1, 2, 3, 4, 5]),
-    (Op::Decode, "word read", &[0, 1, 2, 3, 4, 7, 8, 9]),
+    (Op::Decode, "word read", &[0, 1, 2, 3, 4, 7, 8, 9, 19]),
     (Op::Cover, "covering", &[0, 1, 2, 3, 4, 6]),
     (Op::Interleave, "interleave", &[0, 1, 2, 3, 4, 18]),
     (Op::Deinterleave, "deinterleave", &[0, 1, 2, 3, 4, 18]),
@@ -66,7 +66,7 @@ pub const OPS: [(Op, &str, &[u8]); 15] = [
     (
         Op::JobRead,
         "job read",
-        &[0, 1, 2, 3, 4, 7, 8, 9, 10, 12, 14, 23],
+        &[0, 1, 2, 3, 4, 7, 8, 9, 10, 12, 14, 19, 23],
     ),
 ];
 

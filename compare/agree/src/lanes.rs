@@ -4,7 +4,7 @@ use second::lanes::MAX_DEPTH;
 use second::Figures;
 
 use crate::judge::{Judge, Op};
-use crate::make::{figures, numbers, symbols, wrong_len};
+use crate::make::{figures, found, numbers, symbols, wrong_len};
 use crate::rng::Rng;
 
 /// Where a stretch of the strip begins, and where it ends.
@@ -22,7 +22,7 @@ pub fn round(judge: &mut Judge, rng: &mut Rng, depth: u32) {
     let mut strip = laid.out;
     for stretch in worn {
         let len = stretch.len();
-        strip[stretch].copy_from_slice(&symbols(rng, f.q, len));
+        strip[stretch].copy_from_slice(&found(rng, f.q, len));
     }
     let taken = judge.deinterleave(numbers(&f), depth, &strip, words.len());
     let inputs = || format!("{f:?} depth {depth}");
@@ -110,7 +110,7 @@ fn read_back(judge: &mut Judge, f: &Figures, lane: &Lane, word: &[u8]) {
     judge.expect(Op::Decode, right, &inputs, "not what was written");
 }
 
-/// One thing wrong with either call, and sometimes several.
+/// One thing wrong with either call, and sometimes several; a value q is wrong in laying alone.
 fn refused(judge: &mut Judge, rng: &mut Rng, f: &Figures, depth: u32, words: &[u8]) {
     for apart in [false, true] {
         let mut from = words.to_vec();

@@ -12,6 +12,7 @@ pub mod limit;
 pub mod make;
 pub mod rng;
 pub mod sides;
+pub mod silent;
 pub mod streams;
 pub mod strips;
 mod tally;

@@ -117,11 +117,28 @@ pub fn symbols(rng: &mut Rng, q: u32, len: usize) -> Vec<u8> {
     }
 }
 
-/// Puts symbols at will into the runs.
+/// The value of a cell that can't be read; none where every byte is a symbol.
+pub fn silent_value(q: u32) -> Option<u8> {
+    u8::try_from(q).ok()
+}
+
+/// A list of found values: symbols, among them no, some or only silent cells.
+pub fn found(rng: &mut Rng, q: u32, len: usize) -> Vec<u8> {
+    let mut values = symbols(rng, q, len);
+    let every = rng.pick(&[0, 0, 1, 2, 10]);
+    if let (Some(silent), 1..) = (silent_value(q), every) {
+        for value in values.iter_mut() {
+            *value = if rng.once_in(every) { silent } else { *value };
+        }
+    }
+    values
+}
+
+/// Puts values at will into the runs.
 pub fn damage(rng: &mut Rng, f: &Figures, starts: &[u16], word: &mut [u8]) {
     for &start in starts {
         let run = start as usize..start as usize + f.b;
-        word[run].copy_from_slice(&symbols(rng, f.q, f.b));
+        word[run].copy_from_slice(&found(rng, f.q, f.b));
     }
 }
 

@@ -6,7 +6,8 @@ use second::{raw, Figures};
 use crate::calls::number;
 use crate::grid;
 use crate::make::{
-    damage, figures, numbers, odd_message, placement, sound_message, start_bytes, symbols,
+    damage, figures, found, numbers, odd_message, placement, silent_value, sound_message,
+    start_bytes,
 };
 use crate::rng::Rng;
 use crate::words::bad_starts_of;
@@ -182,6 +183,10 @@ impl Stream<'_> {
         raw::encode(numbers(f), &start_bytes(&starts), &message, &mut word);
         damage(self.rng, f, &starts, &mut word);
         match self.rng.below(if self.sound { 1 } else { 12 }) {
+            8 => {
+                let at = self.rng.index(f.n);
+                word[at] = silent_value(f.q).unwrap_or(0);
+            }
             9 => {
                 let at = self.rng.index(f.n);
                 word[at] = self.rng.byte();
@@ -190,7 +195,7 @@ impl Stream<'_> {
                 let message = odd_message(self.rng, f, &payload);
                 raw::encode(numbers(f), &start_bytes(&starts), &message, &mut word);
             }
-            11 => word = symbols(self.rng, f.q, f.n),
+            11 => word = found(self.rng, f.q, f.n),
             _ => {}
         }
         self.head(b'R');

@@ -70,6 +70,16 @@ fn reading(judge: &mut Judge) {
     refused(&word, 9);
     word[22..24].fill(1);
     refused(&word, 0);
+    // Document 02's change request 6: silent cells in the run, in the I-block, in the message, and as the only fixed symbol.
+    word[12..15].fill(2);
+    refused(&word, 0);
+    for (cell, number) in [(20, 19), (25, 19), (10, 19), (29, 19), (0, 7)] {
+        let mut silent = word;
+        silent[cell] = 2;
+        refused(&silent, number);
+        silent[13] = 3;
+        refused(&silent, 4);
+    }
 }
 
 fn book(judge: &mut Judge) {

@@ -6,18 +6,19 @@ use second::Figures;
 
 use crate::judge::{Judge, Op};
 use crate::make::{
-    damage, figures, numbers, placement, spell, start_bytes, symbol, symbols, value, values,
-    wrong_len,
+    damage, figures, found, numbers, placement, silent_value, spell, start_bytes, symbol, symbols,
+    value, values, wrong_len,
 };
 use crate::rng::Rng;
 use crate::sides::{PROVED, SECOND};
+use crate::silent;
 
 /// A strip: figures, a placement, a message and its word.
-struct Strip {
-    f: Figures,
-    starts: Vec<u16>,
-    message: Vec<u8>,
-    word: Vec<u8>,
+pub struct Strip {
+    pub f: Figures,
+    pub starts: Vec<u16>,
+    pub message: Vec<u8>,
+    pub word: Vec<u8>,
 }
 
 /// One round for random figures.
@@ -25,9 +26,10 @@ pub fn round(judge: &mut Judge, rng: &mut Rng) {
     let f = figures(rng);
     let strip = written(judge, rng, f);
     read_back(judge, rng, &strip);
-    for _ in 0..4 {
+    for _ in 0..3 {
         altered(judge, rng, &strip);
     }
+    silent::outside(judge, rng, &strip);
     other_value(judge, rng, &strip);
     any_word(judge, rng, &f);
     refused_writing(judge, rng, &strip);
@@ -86,7 +88,11 @@ fn altered(judge: &mut Judge, rng: &mut Rng, strip: &Strip) {
             1 => layout.begin[rng.index(f.blocks())] as usize + rng.index(1 + f.r),
             _ => layout.begin[rng.index(f.blocks())] as usize,
         };
-        word[at] = if rng.once_in(2) { 0 } else { symbol(rng, f.q) };
+        word[at] = match rng.below(6) {
+            0..3 => 0,
+            3..5 => symbol(rng, f.q),
+            _ => silent_value(f.q).unwrap_or(0),
+        };
     }
     judge.decode(numbers(f), &word, f.k, 2 * f.m);
 }
@@ -108,7 +114,7 @@ fn other_value(judge: &mut Judge, rng: &mut Rng, strip: &Strip) {
 }
 
 fn any_word(judge: &mut Judge, rng: &mut Rng, f: &Figures) {
-    let word = symbols(rng, f.q, f.n);
+    let word = found(rng, f.q, f.n);
     judge.decode(numbers(f), &word, f.k, 2 * f.m);
     let fixed = likely_pattern(rng, f) & all_blocks(f);
     patterned(judge, rng, f, fixed);
@@ -141,12 +147,16 @@ fn likely_pattern(rng: &mut Rng, f: &Figures) -> u64 {
     fixed
 }
 
-/// A word whose blocks look F where `fixed` says, with a value at the I-blocks that often gives those very blocks.
+/// A word whose blocks look F where `fixed` says, with a value at the I-blocks that often gives those very blocks. Now and then
+/// a first symbol is silent.
 fn patterned(judge: &mut Judge, rng: &mut Rng, f: &Figures, fixed: u64) {
     let layout = Layout::new(f);
     let mut word = symbols(rng, f.q, f.n);
     for block in 0..f.blocks() {
-        let first = rng.between(1, f.q as u64 - 1) as u8;
+        let first = match silent_value(f.q) {
+            Some(silent) if rng.once_in(40) => silent,
+            _ => rng.between(1, f.q as u64 - 1) as u8,
+        };
         let looks_fixed = fixed >> block & 1 == 1;
         word[layout.begin[block] as usize] = if looks_fixed { 0 } else { first };
     }

@@ -61,7 +61,7 @@ fn write_rank(f: &Figures, layout: &Layout, index: u64, rank: u64, word: &mut [u
     }
 }
 
-/// Reads a found word: its message and the placement. Refusals 3 4 7 8 9.
+/// Reads a found word: its message and the placement. Refusals 3 4 7 19 8 9 19.
 pub fn decode(f: &Figures, word: &[u8], message: &mut [u8], starts: &mut [u16]) -> u8 {
     if word.len() != f.n || message.len() != f.k || starts.len() != f.m {
         return 3;
@@ -76,7 +76,7 @@ pub fn decode(f: &Figures, word: &[u8], message: &mut [u8], starts: &mut [u16]) 
     }
 }
 
-/// What an accepted word of n symbols says.
+/// What an accepted word says.
 #[derive(Debug)]
 pub struct Found {
     pub rank: u64,
@@ -94,9 +94,9 @@ impl Found {
     }
 }
 
-/// Judges a word of n bytes. Refusals 4 7 8 9.
+/// Judges a found word of n bytes. Refusals 4 7, 19 for the I-blocks, 8 9, 19 for the message.
 pub fn read(f: &Figures, word: &[u8]) -> Result<Found, u8> {
-    if !f.symbols(word) {
+    if !f.found(word) {
         return Err(4);
     }
     let layout = Layout::new(f);
@@ -104,6 +104,9 @@ pub fn read(f: &Figures, word: &[u8]) -> Result<Found, u8> {
         set | (looks_fixed(&word[layout.begin[block] as usize..]) as u64) << block
     });
     let index = pattern(f, fixed).ok_or(7)?;
+    if heads(f, &layout, index, word).any(|head| f.silent(head)) {
+        return Err(19);
+    }
     let rank = read_rank(f, &layout, index, word).ok_or(8)?;
     let starts = unrank(f, rank);
     let bursts = burst_blocks(f, &layout, &starts[..f.m]);
@@ -113,6 +116,11 @@ pub fn read(f: &Figures, word: &[u8]) -> Result<Found, u8> {
         return Err(9);
     }
     let reserved = Reserved::new(f, &layout, &starts[..f.m], bursts, index);
+    let mut silent = false;
+    reserved.between(f.n, |_, from, to| silent |= f.silent(&word[from..to]));
+    if silent {
+        return Err(19);
+    }
     Ok(Found {
         rank,
         starts,
@@ -124,14 +132,26 @@ fn looks_fixed(block: &[u8]) -> bool {
     block[0] == 0
 }
 
+/// The first 1 + r symbols of each I-block, from left to right.
+fn heads<'a>(
+    f: &'a Figures,
+    layout: &'a Layout,
+    index: u64,
+    word: &'a [u8],
+) -> impl Iterator<Item = &'a [u8]> {
+    let begin = |block: usize| layout.begin[block] as usize;
+    (0..f.blocks())
+        .filter(move |&block| index >> block & 1 == 1)
+        .map(move |block| &word[begin(block)..=begin(block) + f.r])
+}
+
 /// The value at the heads of the I-blocks, or none where it is T or more.
 fn read_rank(f: &Figures, layout: &Layout, index: u64, word: &[u8]) -> Option<u64> {
     let q = f.q as u64;
     let mut value = 0;
-    for block in (0..f.blocks()).filter(|&block| index >> block & 1 == 1) {
-        let begin = layout.begin[block] as usize;
-        value = next_value(f, value, q - 1, word[begin] - 1)?;
-        for &symbol in &word[begin + 1..=begin + f.r] {
+    for head in heads(f, layout, index, word) {
+        value = next_value(f, value, q - 1, head[0] - 1)?;
+        for &symbol in &head[1..] {
             value = next_value(f, value, q, symbol)?;
         }
     }

@@ -63,9 +63,22 @@ impl Figures {
 
     /// Whether every byte is a symbol.
     pub fn symbols(&self, bytes: &[u8]) -> bool {
-        let largest = bytes.iter().fold(0, |a, &b| a.max(b));
-        (largest as u32) < self.q
+        largest(bytes) < self.q
     }
+
+    /// Whether every byte is what a head may report: a symbol, or q for a cell that it can't read.
+    pub fn found(&self, bytes: &[u8]) -> bool {
+        largest(bytes) <= self.q
+    }
+
+    /// Whether some byte is q. None is where q is 256.
+    pub fn silent(&self, bytes: &[u8]) -> bool {
+        bytes.iter().any(|&byte| byte as u32 == self.q)
+    }
+}
+
+fn largest(bytes: &[u8]) -> u32 {
+    bytes.iter().fold(0, |a, &b| a.max(b)) as u32
 }
 
 /// r: the least for which m I-blocks spell at least `t` values.

@@ -79,7 +79,7 @@ pub fn write_job(f: &Figures, book: &Book, starts: &[u16], payload: &[u8], word:
     0
 }
 
-/// Reads an open job's word. Refusals 10 for K, 3 4 7 8 9, 10, 12 23 14.
+/// Reads an open job's word. Refusals 10 for K, 3 4 7 19 8 9 19, 10, 12 23 14.
 pub fn read_job(f: &Figures, book: &Book, word: &[u8], payload: &mut [u8]) -> u8 {
     let len = payload_len(f);
     if len < LEAST_PAYLOAD {

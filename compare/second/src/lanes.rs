@@ -33,13 +33,13 @@ pub fn interleave(f: &Figures, depth: u32, words: &[u8], strip: &mut [u8]) -> u8
     0
 }
 
-/// Takes a strip apart into words that stand one after another. Refusals 18 3 4.
+/// Takes a found strip apart into words that stand one after another. Refusals 18 3 4.
 pub fn deinterleave(f: &Figures, depth: u32, strip: &[u8], words: &mut [u8]) -> u8 {
     let depth = match depth_of(f, depth, words, strip) {
         Ok(depth) => depth,
         Err(refusal) => return refusal,
     };
-    if !f.symbols(strip) {
+    if !f.found(strip) {
         return 4;
     }
     for (lane, word) in words.chunks_exact_mut(f.n).enumerate() {

@@ -122,7 +122,8 @@ fn read_back(f: &Figures, depth: usize, stretches: &Stretches) {
     }
     let mut strip = vec![0xEE; depth * f.n];
     assert_eq!(interleave(f, depth as u32, &words, &mut strip), 0);
-    for damage in [0, 1, (f.q - 1) as u8] {
+    // q, where it is a byte, is a silent cell.
+    for damage in [0, 1, (f.q - 1) as u8, f.q.min(255) as u8] {
         for &(start, len) in stretches {
             strip[start..start + len].fill(damage);
         }
@@ -218,9 +219,20 @@ fn refusals() {
         }
         for at in 0..6 {
             let mut from = [3; 6];
-            from[at] = 4;
+            from[at] = 5;
             assert_eq!(answer(2, &from, 6), 4);
         }
         assert_eq!(answer(16, &[0; 48], 48), 0);
     }
+}
+
+/// A silent cell is taken apart, and never laid.
+#[test]
+fn silent_cells() {
+    let f = figures(3, 4, 1, 1);
+    let mut out = [0xEE; 6];
+    assert_eq!(interleave(&f, 2, &[0, 1, 4, 3, 0, 1], &mut out), 4);
+    assert_eq!(out, [0xEE; 6]);
+    assert_eq!(deinterleave(&f, 2, &[4, 3, 1, 0, 2, 4], &mut out), 0);
+    assert_eq!(out, [4, 1, 2, 3, 0, 4]);
 }

@@ -119,7 +119,8 @@ fn read_back(f: &Figures, starts: &[u16]) {
         let message: Vec<u8> = (0..f.k).map(|i| (i * step % f.q as usize) as u8).collect();
         let mut word = vec![0xEE; f.n];
         assert_eq!(encode(f, starts, &message, &mut word), 0);
-        for damage in [0, 1, top] {
+        // q, where it is a byte, is a silent cell.
+        for damage in [0, 1, top, f.q.min(255) as u8] {
             for &start in starts {
                 word[start as usize..start as usize + f.b].fill(damage);
             }

@@ -113,6 +113,19 @@ fn number_zero() {
     );
 }
 
+/// Document 02's change request 6. With q 16, hex 10 is a silent cell: in the run, in the I-block, in the message.
+#[test]
+fn silent_cells() {
+    assert_eq!(
+        printed(
+            "4C54 53 000F 0F 01 0002; 4C54 4F 00000007; 4C54 57 0006 0000000741;
+            4C54 52 000000000000 1010 0000 07 07040100; 4C54 52 000000000000 1010 0000 10 07040100;
+            4C54 52 000000000000 1010 0000 07 07040110; 4C54 52 000000000000 1110 0000 07 07040110"
+        ),
+        "S 0 14 0 11\nO 0\nW 0 000000000000000000000707040100\nR 0 00000007 41\nR 19\nR 19\nR 4\nend\n"
+    );
+}
+
 #[test]
 fn one_record_too_many() {
     let mut machine = Machine::default();

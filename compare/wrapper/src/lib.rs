@@ -140,7 +140,7 @@ pub fn encode(f: &Figures, starts: &[u16], message: &[u8], word: &mut [u8]) -> R
     ))
 }
 
-/// Reads a found word: its message, and the placement as the answer.
+/// Reads a found word: its message, and the placement as the answer. A value q, for q up to 255, is a cell without a reading, which the runs may have.
 pub fn decode(f: &Figures, word: &[u8], message: &mut [u8]) -> Result<Placement, Refusal> {
     let mut starts = [0; 2 * MAX_RUNS];
     let starts = &mut starts[..2 * f.runs()];
@@ -162,7 +162,7 @@ pub fn interleave(f: &Figures, depth: u32, words: &[u8], strip: &mut [u8]) -> Re
     Refusal::of(raw::interleave(f.numbers, depth, words, strip))
 }
 
-/// Takes a strip of words side by side apart, into words that stand one after another.
+/// Takes a found strip of words side by side apart, into words that stand one after another. A value q is a cell without a reading, as in `decode`.
 pub fn deinterleave(
     f: &Figures,
     depth: u32,
@@ -190,7 +190,7 @@ pub fn job_write(
     ))
 }
 
-/// Reads the word of an open job into its payload.
+/// Reads the found word of an open job into its payload. A value q is a cell without a reading, as in `decode`.
 pub fn job_read(
     f: &Figures,
     table: &Table,

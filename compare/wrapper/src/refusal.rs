@@ -2,11 +2,11 @@
 
 use std::fmt;
 
-/// The number of a refusal: 1 to 15, 17, 18, 20, 23 or 24.
+/// The number of a refusal: 1 to 15, 17 to 20, 23 or 24.
 #[derive(Clone, Copy, PartialEq, Eq, Hash, Debug)]
 pub struct Refusal(u8);
 
-const TEXTS: [(u8, &str); 20] = [
+const TEXTS: [(u8, &str); 21] = [
     (
         1,
         "a figure is out of range, or a job table has an unknown state or one number twice",
@@ -16,7 +16,10 @@ const TEXTS: [(u8, &str); 20] = [
         3,
         "a list or a buffer has another length than the figures give",
     ),
-    (4, "a symbol of q or more, or a map byte above 1"),
+    (
+        4,
+        "a symbol of q or more, a found value above q, or a map byte above 1",
+    ),
     (5, "starts too close, descending, or past the end"),
     (6, "no placement covers the map"),
     (7, "the blocks' first symbols are in no listed pattern"),
@@ -30,6 +33,10 @@ const TEXTS: [(u8, &str); 20] = [
     (15, "64 job numbers are held and a new one is needed"),
     (17, "job number 0 is no job"),
     (18, "the depth is none of 1 to 16"),
+    (
+        19,
+        "a cell without a reading in an index block's head or in the message",
+    ),
     (20, "the job number is not cancelled"),
     (23, "the job number is on hold"),
     (24, "the job number is not on hold"),
@@ -53,6 +60,7 @@ impl Refusal {
     pub const FULL: Refusal = Refusal(15);
     pub const NUMBER_ZERO: Refusal = Refusal(17);
     pub const DEPTH: Refusal = Refusal(18);
+    pub const SILENT: Refusal = Refusal(19);
     pub const NOT_CANCELLED: Refusal = Refusal(20);
     pub const ON_HOLD: Refusal = Refusal(23);
     pub const NOT_ON_HOLD: Refusal = Refusal(24);

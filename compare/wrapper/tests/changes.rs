@@ -152,3 +152,51 @@ fn a_scratch_across_the_lanes() {
         }
     }
 }
+
+/// Change request 6.
+#[test]
+fn silent_cells() {
+    let strip = Figures::new(15, 16, 1, 2).expect("these figures fit");
+    let mut table = Table::new();
+    assert_eq!(table.open(7), Ok(()));
+    let (mut word, mut payload) = ([0; 15], [0; 5]);
+    let written = job_write(&strip, &table, &[6], b"\0\0\0\x07A", &mut word);
+    assert_eq!(written, Ok(()));
+    for (cell, value, refused) in [
+        (6, 16, None),
+        (7, 16, None),
+        (7, 17, Some(Refusal::SYMBOL)),
+        // In the index block, in the message.
+        (10, 16, Some(Refusal::SILENT)),
+        (14, 16, Some(Refusal::SILENT)),
+    ] {
+        let mut found = word;
+        found[cell] = value;
+        let mut message = [0; 11];
+        assert_eq!(decode(&strip, &found, &mut message).err(), refused);
+        let read = job_read(&strip, &table, &found, &mut payload);
+        assert_eq!(read.err(), refused);
+    }
+    assert_eq!(payload, *b"\0\0\0\x07A");
+    assert_eq!(
+        encode(&strip, &[6], &[16; 11], &mut word),
+        Err(Refusal::SYMBOL)
+    );
+    assert_eq!(
+        Refusal::SILENT.to_string(),
+        "refused with 19: a cell without a reading in an index block's head or in the message"
+    );
+}
+
+#[test]
+fn silent_cells_side_by_side() {
+    let strip = Figures::new(3, 4, 1, 1).expect("these figures fit");
+    let mut out = [0xEE; 6];
+    let laid = interleave(&strip, 2, &[4; 6], &mut out);
+    assert_eq!((laid, out), (Err(Refusal::SYMBOL), [0xEE; 6]));
+    assert_eq!(
+        deinterleave(&strip, 2, &[4, 0, 1, 2, 3, 4], &mut out),
+        Ok(())
+    );
+    assert_eq!(out, [4, 1, 3, 0, 2, 4]);
+}

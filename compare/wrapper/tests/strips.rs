@@ -89,7 +89,7 @@ fn refused_words_keep_the_message() {
         Err(Refusal::LENGTH)
     );
     assert_eq!(
-        decode(&first(), &[2; 30], &mut message),
+        decode(&first(), &[3; 30], &mut message),
         Err(Refusal::SYMBOL)
     );
     for (head, refusal) in [("111111", Refusal::VALUE), ("100000", Refusal::DISAGREES)] {

@@ -150,14 +150,21 @@ pick-agrees kind n kd v w k h =
     ∙ map-members n 0 (λ x. is kind (kd x)) (λ x. getD v x 0) (λ x. getD w x 0) (λ x _ l t. h x (omega arith) (no-burst kind (kd x) k t))
     ∙ sym (pick-at kind n 0 kd w)
 
--- what is taken from symbols below q is below q
-pub pick-below : (kind : Cell) (n : ℕ) (kd : ℕ → Cell) (w : List ℕ) (q : ℕ) → ((x : ℕ) → getD w x 0 < q) → allBelow q (pick kind (tabulate n 0 kd) w) ≡ true
-unfolding all
-pick-below kind n kd w q small = rw (pick-at kind n 0 kd w) (go (members n 0 (λ x. is kind (kd x))))
+-- what is taken is below q where the cells of that kind hold symbols below q
+pub pick-small : (kind : Cell) (n : ℕ) (kd : ℕ → Cell) (w : List ℕ) (q : ℕ) → ((x : ℕ) → x < n → is kind (kd x) ≡ true → getD w x 0 < q)
+    → allBelow q (pick kind (tabulate n 0 kd) w) ≡ true
+unfolding members all
+pick-small kind n kd w q small = rw (pick-at kind n 0 kd w) (go n 0 (λ x _ l t. small x (omega arith) t))
   where
-    go : (xs : List ℕ) → allBelow q (map (λ x. getD w x 0) xs) ≡ true
-    go [] = refl
-    go (x ∷ xs) = rw (leb-holds (suc (getD w x 0)) q (small x)) (go xs)
+    go : (n k : ℕ) → ((x : ℕ) → k ≤ x → x < k + n → is kind (kd x) ≡ true → getD w x 0 < q) → allBelow q (map (λ x. getD w x 0) (members n k (λ x. is kind (kd x)))) ≡ true
+    go zero k h = refl
+    go (suc n) k h =
+        let i = go n (suc k) (λ x a l t. h x (omega arith) (omega arith) t) in
+        by-bool (is kind (kd k)) (λ t. rw (t, leb-holds (suc (getD w k 0)) q (h k (omega arith) (omega arith) t)) i) (λ t. rw t i)
+
+-- and so where the whole word does
+pub pick-below : (kind : Cell) (n : ℕ) (kd : ℕ → Cell) (w : List ℕ) (q : ℕ) → ((x : ℕ) → getD w x 0 < q) → allBelow q (pick kind (tabulate n 0 kd) w) ≡ true
+pick-below kind n kd w q small = pick-small kind n kd w q (λ x _ _. small x)
 
 -- a word woven of symbols below q is of such symbols
 tail-at : (xs : List ℕ) (x : ℕ) → getD (tail xs) x 0 ≡ getD xs (suc x) 0

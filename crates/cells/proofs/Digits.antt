@@ -245,18 +245,24 @@ module _ (q r : ℕ) (s f : ℕ → ℕ) where
   leads [] h = tt
   leads (k ∷ ks) h = (h .0, leads ks (drop-tail r (suc (s k)) (places (length ks) r) (flatMap (λ k. tabulate (suc r) (s k) f) ks) (h .2)))
 
-  into-tail : (c j : ℕ) (rest : List Place) (ds : List ℕ) → ((x : ℕ) → f x < q) → Spelled q rest ds → Spelled q (replicate c plain ++ rest) (tabulate c j f ++ ds)
-  unfolding tabulate
-  into-tail zero j rest ds l h = h
-  into-tail (suc c) j rest ds l h = (omega arith, omega (arith, l j), into-tail c (suc j) rest ds l h)
+  into-tail : (c j : ℕ) (rest : List Place) (ds : List ℕ) → allBelow q (tabulate c j f ++ ds) ≡ true → (allBelow q ds ≡ true → Spelled q rest ds)
+      → Spelled q (replicate c plain ++ rest) (tabulate c j f ++ ds)
+  unfolding tabulate all
+  into-tail zero j rest ds l h = h l
+  into-tail (suc c) j rest ds l h =
+      let b = both (ltb (f j) q) (allBelow q (tabulate c (suc j) f ++ ds)) l in
+      (omega arith, omega (arith, leb-true (suc (f j)) q (b .0)), into-tail c (suc j) rest ds (b .1) h)
 
   -- and symbols below q with no 0 at the lead places are in range
-  pub heads-spelled : (ks : List ℕ) → ((x : ℕ) → f x < q) → Each (λ k. f (s k) ≢ 0) ks → Spelled q (places (length ks) r) (flatMap (λ k. tabulate (suc r) (s k) f) ks)
-  unfolding places flatMap tabulate
+  pub heads-spelled : (ks : List ℕ) → allBelow q (flatMap (λ k. tabulate (suc r) (s k) f) ks) ≡ true → Each (λ k. f (s k) ≢ 0) ks
+      → Spelled q (places (length ks) r) (flatMap (λ k. tabulate (suc r) (s k) f) ks)
+  unfolding places flatMap tabulate all
   heads-spelled [] l h = tt
   heads-spelled (k ∷ ks) l h =
       let z : f (s k) ≢ 0 = h .0 in
-      (omega arith, omega (arith, l (s k)), into-tail r (suc (s k)) (places (length ks) r) (flatMap (λ k. tabulate (suc r) (s k) f) ks) l (heads-spelled ks l (h .1)))
+      let rest = flatMap (λ k. tabulate (suc r) (s k) f) ks in
+      let b = both (ltb (f (s k)) q) (allBelow q (tabulate r (suc (s k)) f ++ rest)) l in
+      (omega arith, omega (arith, leb-true (suc (f (s k))) q (b .0)), into-tail r (suc (s k)) (places (length ks) r) rest (b .1) (λ g. heads-spelled ks g (h .1)))
 
   -- by Horner's rule from block to block
   pub horner-blocks : (m k : ℕ) (ks ds : List ℕ) (a : ℕ) → ((i : ℕ) → i < suc r → getD ds i 0 ≡ f (s k + i))

@@ -3,3 +3,4 @@ pub mod Cells
 pub mod Digits
 pub mod Codec
 pub mod Bytes
+pub mod Erasures

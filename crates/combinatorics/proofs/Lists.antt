@@ -1,10 +1,11 @@
 -- Laws of tests over a list. Assumes nothing.
 use mathlib.Core.Path.{_≡_, refl, sym, ap, ap₂, _∙_}
 use mathlib.Core.Bool.{Bool, true, false, _&&_, false≢true}
-use mathlib.Core.List.{List, [], _∷_, _++_, flatMap}
+use mathlib.Core.List.{List, [], _∷_, _++_, map, flatMap}
 use Prim.Native.Nat.{ℕ, zero, suc, _+_, _≤_, _<_}
 use native.Mathlib.Numerals.{add-one}
 use native.Mathlib.Omega.{arith}
+use borrow.Author.Tests.{leb-true}
 use lib.Dec.{ltb, eqb}
 use lib.ListN.{length, getD, take, drop, set, replicate, drop-of-length-le}
 use lib.Seq.{take-all, take-suc, take-suc-set, drop-cons}
@@ -46,6 +47,20 @@ unfolding all
 at-below q [] h = refl
 at-below q (y ∷ ys) h = rw (leb-holds (suc y) q (h 0 (omega arith)), at-below q ys (λ x l. h (suc x) (omega arith)))
 
+-- what is below q is below any larger bound
+pub below-more : (q r : ℕ) (xs : List ℕ) → q ≤ r → allBelow q xs ≡ true → allBelow r xs ≡ true
+unfolding all
+below-more q r [] l h = h
+below-more q r (x ∷ xs) l h =
+    let b = both (ltb x q) (allBelow q xs) h in
+    rw (leb-holds (suc x) r (omega (arith, leb-true (suc x) q (b .0)))) (below-more q r xs l (b .1))
+
+-- what a function gives below q, over a list
+pub map-below : (q : ℕ) (f : ℕ → ℕ) → ((x : ℕ) → f x < q) → (xs : List ℕ) → allBelow q (map f xs) ≡ true
+unfolding all
+map-below q f small [] = refl
+map-below q f small (x ∷ xs) = rw (leb-holds (suc (f x)) q (small x)) (map-below q f small xs)
+
 -- ---- As a loop goes: a test over the list from element i on
 
 module _ (t : ℕ → Bool) (xs : List ℕ) (i : ℕ) where
@@ -71,6 +86,10 @@ fill-turn out t i h k e = rw (add-one i) (take-suc-set out i (getD t i 0) h ∙ 
 pub fill-done : (out t : List ℕ) (i : ℕ) → length out ≤ i → take i out ≡ take i t → length out ≡ i → out ≡ take (length out) t
 fill-done out t i h e l = sym (take-all i out h) ∙ e ∙ ap (λ (n : ℕ). take n t) (sym l)
 
+and-assoc : (a b c : Bool) → (a && (b && c)) ≡ ((a && b) && c)
+and-assoc true b c = refl
+and-assoc false b c = refl
+
 -- ---- A test of every element, over lists put together and taken apart
 
 module _ {A : Type 0} (t : A → Bool) where
@@ -78,6 +97,11 @@ module _ {A : Type 0} (t : A → Bool) where
   unfolding all
   all-append [] ys h g = g
   all-append (x ∷ xs) ys h g = let b = both (t x) (all t xs) h in rw (b .0) (all-append xs ys (b .1) g)
+
+  pub all-both : (xs ys : List A) → all t (xs ++ ys) ≡ (all t xs && all t ys)
+  unfolding all
+  all-both [] ys = refl
+  all-both (x ∷ xs) ys = ap (λ (r : Bool). t x && r) (all-both xs ys) ∙ and-assoc (t x) (all t xs) (all t ys)
 
   pub all-take : (n : ℕ) (xs : List A) → all t xs ≡ true → all t (take n xs) ≡ true
   unfolding all

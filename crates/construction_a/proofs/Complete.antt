@@ -9,13 +9,15 @@ use lib.ListN.{length, getD}
 use Rattle.combinatorics.specs.Bursts.{inBurst}
 use Rattle.combinatorics.proofs.Bursts.{Placed, rank-lt, starts-of-rank}
 use Rattle.combinatorics.proofs.Cases.{by-bool, eqb-same, eqb-other, leb-holds}
-use Rattle.combinatorics.proofs.Lists.{same-list}
+use Rattle.combinatorics.specs.Lists.{allBelow}
+use Rattle.combinatorics.proofs.Lists.{same-list, at-below}
 use Rattle.combinatorics.proofs.Stretch.{each-member, flat-map, has-none}
 use Rattle.cells.specs.Cells.{fixed, digit, message, pick}
 use Rattle.cells.specs.Codec.{accepted}
 use Rattle.cells.specs.Digits.{spell, places}
 use Rattle.cells.proofs.Cells.{pick-at, pick-agrees, length-pick, no-burst, digits-woven, message-woven, woven-clean, clean-at}
-use Rattle.cells.proofs.Digits.{Spelled, spell-spelled, value-spell, length-places, length-spell, leads}
+use Rattle.cells.proofs.Digits.{Spelled, spell-spelled, spelled-below, value-spell, length-places, length-spell, leads}
+use Rattle.cells.proofs.Erasures.{below-whole}
 use Rattle.construction_a.specs.Figures.{Params, parts, headOf, placementCount, indexTail}
 use Rattle.construction_a.specs.Writing.{isBurst, chosen, isIndex, indexBlocks, isFixed, kindAt, plan, rank, word}
 use Rattle.construction_a.specs.Reading.{looksFixed, heads, written, agrees, readRank, read}
@@ -37,7 +39,7 @@ module _ (f : Params) (ok : Served f) (ss : List ℕ) (h : Placed (f .b) (f .n) 
   spelled = spell-spelled (f .q) (places (f .m) (indexTail f)) (rank f ss) (omega (arith, rank-below, span-enough f ok))
 
   -- a word that agrees with the written one outside the bursts
-  module _ (ms w : List ℕ) (k : length ms + f .m * (f .b + parts f + indexTail f - 1) ≡ f .n)
+  module _ (ms w : List ℕ) (k : length ms + f .m * (f .b + parts f + indexTail f - 1) ≡ f .n) (small : allBelow (f .q) ms ≡ true)
       (outside : (x : ℕ) → x < f .n → inBurst (f .b) ss x ≡ false → getD w x 0 ≡ getD (word f ss ms) x 0) where
     digits-read : heads f w (indexBlocks f ss) ≡ digits
     unfolding heads word plan digits
@@ -103,9 +105,11 @@ module _ (f : Params) (ok : Served f) (ss : List ℕ) (h : Placed (f .b) (f .n) 
           read-back (parts f) (f .m) (isBurst f ss) (looksFixed f w) (ok .three) (ok .some) (ok .most) (burst-blocks f ok ss h e) seen,
           ← il .0,
           digits-read,
+          below-whole (f .q) digits (at-below (f .q) digits (λ x _. spelled-below (f .q) (places (f .m) (indexTail f)) digits (ok .range .q-least) spelled x)),
           value-spell (f .q) (places (f .m) (indexTail f)) (rank f ss) (omega (arith, rank-below, span-enough f ok)),
           starts-of-rank (f .n) (f .m) (f .b) (ok .long) ss h e,
           leb-holds (suc (rank f ss)) (placementCount f) rank-below,
           agreed,
           message-read,
+          below-whole (f .q) ms small,
         )

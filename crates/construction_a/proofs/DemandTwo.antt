@@ -6,20 +6,22 @@ use mathlib.Core.Option.{Option, none, some}
 use Prim.Native.Nat.{ℕ, suc, _-_, _<_}
 use native.Mathlib.Omega.{arith}
 use lib.ListN.{length}
-use Rattle.refusals.specs.Refusals.{must, noPattern, valueTooLarge, disagrees}
+use Rattle.refusals.specs.Refusals.{must, noPattern, valueTooLarge, disagrees, erased}
 use Rattle.combinatorics.proofs.Cases.{by-le, leb-holds, leb-fails}
 use Rattle.combinatorics.proofs.Lists.{below-at}
 use Rattle.combinatorics.proofs.Stretch.{length-tabulate}
 use Rattle.cells.specs.Cells.{message, pick}
 use Rattle.cells.specs.Codec.{accepted, refused, Word, WritesWords, Exact}
 use Rattle.cells.specs.Digits.{spell, places}
+use Rattle.cells.specs.Erasures.{foundBound, hasErasure}
 use Rattle.cells.proofs.Cells.{length-woven, woven-below}
 use Rattle.cells.proofs.Codec.{one-pair, others-refused}
 use Rattle.cells.proofs.Digits.{Spelled, spell-spelled, spelled-below}
+use Rattle.cells.proofs.Erasures.{found-least}
 use Rattle.construction_a.specs.Figures.{Params, parts, placementCount, indexTail, messageLen}
 use Rattle.construction_a.specs.Writing.{kindAt, plan, rank, placementOf, word}
-use Rattle.construction_a.specs.Reading.{looksFixed, indexFound, written, agrees, readRank, readFrom, read}
-use Rattle.construction_a.specs.DemandTwo.{constructionA, Listed, no-pattern, too-large, disagreeing, DemandTwo}
+use Rattle.construction_a.specs.Reading.{looksFixed, indexFound, heads, written, agrees, readRank, readFrom, read}
+use Rattle.construction_a.specs.DemandTwo.{constructionA, found, IndexRead, Listed, no-pattern, erased-index, too-large, disagreeing, erased-message, DemandTwo}
 use Rattle.construction_a.proofs.Figures.{Served, serve, span-enough, placed-starts, starts-placed}
 use Rattle.construction_a.proofs.Plan.{messages-count}
 use Rattle.construction_a.proofs.Complete.{rank-below, complete}
@@ -29,13 +31,13 @@ use Rattle.construction_a.proofs.Sound.{sound}
 
 pub exact : (f : Params) → Served f → Exact (constructionA f)
 unfolding messageLen
-exact f ok w ss ms found = (
+exact f ok w ss ms seen = (
   λ e.
-      let a = sound f ok w (below-at (f .q) w (omega (arith, ok .range .q-least)) (found .symbols)) ss ms e in
+      let a = sound f ok w (below-at (foundBound (f .q)) w (omega (arith, ok .range .q-least, found-least (f .q))) (seen .symbols)) ss ms e in
       record { placement = starts-placed f ss (a .placed) (a .count); count = a .message; symbols = a .symbols; outside = a .outside },
   λ l.
       let p = placed-starts f ss (l .placement) in
-      complete f ok ss (p .0) (p .1) ms w (omega (arith, l .count, messages-count f ok ss (p .0) (p .1))) (l .outside),
+      complete f ok ss (p .0) (p .1) ms w (omega (arith, l .count, messages-count f ok ss (p .0) (p .1))) (l .symbols) (l .outside),
 )
 
 -- ---- Words
@@ -61,31 +63,57 @@ not-accepted : {P : Type 0} (a : ℕ) (ss ms : List ℕ) → accepted ss ms ≡ 
 not-accepted a ss ms e = absurd (let z : _≡_ {A = ℕ} 0 1 = cc in omega arith)
 
 module _ (f : Params) (w : List ℕ) where
-  listed : (a : ℕ) → read f w ≡ refused a → Listed f w a
-  unfolding read readRank
-  listed a = go (indexFound (parts f) (f .m) (looksFixed f w)) refl
-    where
-      at : (ks : List ℕ) (b : Bool) → indexFound (parts f) (f .m) (looksFixed f w) ≡ some ks → written f w ks < placementCount f
-          → agrees f w ks (placementOf f (written f w ks)) ≡ b
-          → must b (refused disagrees) (accepted (placementOf f (written f w ks)) (pick message (plan f (placementOf f (written f w ks))) w)) ≡ refused a → Listed f w a
-      at ks true found l c e = not-accepted a (placementOf f (written f w ks)) (pick message (plan f (placementOf f (written f w ks))) w) e
-      at ks false found l c e = subst (Listed f w) (same-number disagrees a e) (disagreeing ks found l c)
+  -- what is left to refuse with once I-blocks were found
+  module _ (a : ℕ) (ks : List ℕ) (pattern : found f w ≡ some ks) where
+    v : ℕ
+    v = written f w ks
 
-      go : (o : Option (List ℕ)) → indexFound (parts f) (f .m) (looksFixed f w) ≡ o → readFrom f w o ≡ refused a → Listed f w a
-      go none found = λ e. subst (Listed f w) (same-number noPattern a e) (no-pattern found)
-      go (some ks) found =
-          by-le (suc (written f w ks)) (placementCount f)
-          (λ t. must t (refused valueTooLarge)
-          (must (agrees f w ks (placementOf f (written f w ks))) (refused disagrees)
-          (accepted (placementOf f (written f w ks)) (pick message (plan f (placementOf f (written f w ks))) w))) ≡ refused a → Listed f w a)
-          (λ l. at ks (agrees f w ks (placementOf f (written f w ks))) found l refl)
-          (λ l e. subst (Listed f w) (same-number valueTooLarge a e) (too-large ks found (omega arith)))
+    ss : List ℕ
+    ss = placementOf f v
+
+    ms : List ℕ
+    ms = pick message (plan f ss) w
+
+    at-message : (b : Bool) → hasErasure (f .q) (heads f w ks) ≡ false → v < placementCount f → agrees f w ks ss ≡ true → hasErasure (f .q) ms ≡ b
+        → must (not b) (refused erased) (accepted ss ms) ≡ refused a → Listed f w a
+    unfolding v ss ms
+    at-message false h l c d e = not-accepted a ss ms e
+    at-message true h l c d e =
+        subst (Listed f w) (same-number erased a e)
+        (erased-message ks ss (record { index = record { pattern = pattern; whole = h }; below = l; starts = refl; agreed = c }) d)
+
+    at-blocks : (b : Bool) → hasErasure (f .q) (heads f w ks) ≡ false → v < placementCount f → agrees f w ks ss ≡ b
+        → must b (refused disagrees) (must (not (hasErasure (f .q) ms)) (refused erased) (accepted ss ms)) ≡ refused a → Listed f w a
+    unfolding v ss
+    at-blocks true h l c e = at-message (hasErasure (f .q) ms) h l c refl e
+    at-blocks false h l c e = subst (Listed f w) (same-number disagrees a e) (disagreeing ks (record { pattern = pattern; whole = h }) l c)
+
+    at-index : (b : Bool) → hasErasure (f .q) (heads f w ks) ≡ b → must (not b) (refused erased) (readRank f w ks v) ≡ refused a → Listed f w a
+    unfolding readRank v ss ms
+    at-index true h = λ e. subst (Listed f w) (same-number erased a e) (erased-index ks pattern h)
+    at-index false h =
+        by-le (suc (written f w ks)) (placementCount f)
+        (λ t. must t (refused valueTooLarge)
+        (must (agrees f w ks ss) (refused disagrees) (must (not (hasErasure (f .q) ms)) (refused erased) (accepted ss ms))) ≡ refused a → Listed f w a)
+        (λ l. at-blocks (agrees f w ks ss) h l refl)
+        (λ l e. subst (Listed f w) (same-number valueTooLarge a e) (too-large ks (record { pattern = pattern; whole = h }) (omega arith)))
+
+  listed : (a : ℕ) → read f w ≡ refused a → Listed f w a
+  unfolding read v
+  listed a = go (found f w) refl
+    where
+      go : (o : Option (List ℕ)) → found f w ≡ o → readFrom f w o ≡ refused a → Listed f w a
+      go none pattern = λ e. subst (Listed f w) (same-number noPattern a e) (no-pattern pattern)
+      go (some ks) pattern = at-index a ks pattern (hasErasure (f .q) (heads f w ks)) refl
 
   by-listed : (a : ℕ) → Listed f w a → read f w ≡ refused a
   unfolding read readRank
-  by-listed a (no-pattern found) = rw found
-  by-listed a (too-large ks found l) = rw (found, leb-fails (suc (written f w ks)) (placementCount f) (omega arith))
-  by-listed a (disagreeing ks found l c) = rw (found, leb-holds (suc (written f w ks)) (placementCount f) l, c)
+  by-listed a (no-pattern pattern) = rw pattern
+  by-listed a (erased-index ks pattern h) = rw (pattern, h)
+  by-listed a (too-large ks i l) = rw (i .pattern, i .whole, leb-fails (suc (written f w ks)) (placementCount f) (omega arith))
+  by-listed a (disagreeing ks i l c) = rw (i .pattern, i .whole, leb-holds (suc (written f w ks)) (placementCount f) l, c)
+  by-listed a (erased-message ks ss p d) =
+      rw (p .index .pattern, p .index .whole, leb-holds (suc (written f w ks)) (placementCount f) (p .below), p .starts, p .agreed, d)
 
 pub demand-two : DemandTwo
 demand-two f i h =

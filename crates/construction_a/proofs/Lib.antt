@@ -4,7 +4,9 @@ pub mod Ranking
 pub mod Rule
 pub mod Pattern
 pub mod Plan
+pub mod Found
 pub mod Complete
 pub mod Sound
 pub mod DemandTwo
 mod Misreadings
+pub mod Erased

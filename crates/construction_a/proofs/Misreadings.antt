@@ -1,4 +1,4 @@
--- Strips that tell the rule from each misreading that document 01 names, and the refusals 7, 8 and 9 apart: one computation over the whole table.
+-- Strips that tell the rule from each misreading that document 01 names, and the refusals 7, 8, 9 and 19 apart: one computation over the whole table.
 -- Assumes nothing.
 use mathlib.Core.Path.{_≡_, refl}
 use mathlib.Core.Bool.{true}
@@ -7,7 +7,7 @@ use mathlib.Core.Option.{Option, none, some}
 use Prim.Native.Nat.{ℕ, _*_}
 use lib.ListN.{replicate, set}
 use Rattle.combinatorics.specs.Examples.{Example, example, comesTrue}
-use Rattle.combinatorics.specs.Lists.{all, sameList}
+use Rattle.combinatorics.specs.Lists.{all, any, sameList}
 use Rattle.combinatorics.specs.Stretch.{sum, has, first, members, tabulate, top}
 use Rattle.combinatorics.specs.Choose.{choose}
 use Rattle.combinatorics.specs.Rank.{rankFrom, unrankDown, unrank}
@@ -16,6 +16,7 @@ use Rattle.cells.specs.Cut.{pieceLen, pieceStart, blockAt, blockHead, blockWith
 use Rattle.cells.specs.Cells.{weave, pick}
 use Rattle.cells.specs.Codec.{Reading, accepted, refused}
 use Rattle.cells.specs.Digits.{span, spell, value, places}
+use Rattle.cells.specs.Erasures.{hasErasure}
 use Rattle.construction_a.specs.Figures.{params, blocks, parts, blockMin, leastTail, indexTail, headOf}
 use Rattle.construction_a.specs.Writing.{becomes, withBurst, withBursts, isBurst, next, partCount, partWith, chosen, beside, isChosen, isIndexIn, isIndex, indexBlocks, isFixed, cellOf, kindAt, plan, word}
 use Rattle.construction_a.specs.Reading.{looksFixed, later, bareParts, openBlocks, indexInPart, collect, indexFound, heads, written, agrees, readRank, read}
@@ -36,6 +37,10 @@ given (some i) = i ∷ []
 -- n 30, q 2, m 1, b 3: start 12, message all 1, with other symbols in the I-block
 abbrev withIndex : List ℕ → List ℕ
 withIndex ds = 0 ∷ replicate 11 1 ++ replicate 3 0 ++ replicate 5 1 ++ ds ++ replicate 4 1
+
+-- the same with its own
+abbrev reads : List ℕ
+reads = withIndex (1 ∷ 0 ∷ 1 ∷ 1 ∷ 0 ∷ 0 ∷ [])
 
 unfoldable rows : List Example
 rows =
@@ -65,8 +70,19 @@ rows =
     ∷ example (answer (read (params 30 2 1 3) (withIndex (1 ∷ 1 ∷ 1 ∷ 1 ∷ 0 ∷ 0 ∷ [])))) (8 ∷ [])
     -- "each F-block it gives must start with 0": block 4 of n 60, q 4, m 2, b 4 does not
     ∷ example (answer (read (params 60 4 2 4) (set (word (params 60 4 2 4) (8 ∷ 12 ∷ []) (replicate 44 0)) 40 1))) (9 ∷ [])
+    -- "a strip with silent cells in its runs must read"
+    ∷ example (answer (read (params 30 2 1 3) (set (set (set reads 12 2) 13 2) 14 2))) (0 ∷ 12 ∷ [])
+    -- "a q in an I-block's first r + 1 symbols, between 7 and 8", its head included
+    ∷ example (answer (read (params 30 2 1 3) (withIndex (1 ∷ 0 ∷ 1 ∷ 2 ∷ 0 ∷ 0 ∷ [])))) (19 ∷ [])
+    ∷ example (answer (read (params 30 2 1 3) (withIndex (2 ∷ 1 ∷ 1 ∷ 1 ∷ 1 ∷ 1 ∷ [])))) (19 ∷ [])
+    -- "a q among message symbols, after 9"; such a symbol can stand at the head of a B-block
+    ∷ example (answer (read (params 30 2 1 3) (set reads 29 2))) (19 ∷ [])
+    ∷ example (answer (read (params 30 2 1 3) (set reads 10 2))) (19 ∷ [])
+    ∷ example (answer (read (params 30 2 1 3) (set (withIndex (1 ∷ 0 ∷ 0 ∷ 0 ∷ 0 ∷ 0 ∷ [])) 29 2))) (9 ∷ [])
+    -- "As a first symbol such a cell isn't the fixed symbol"
+    ∷ example (answer (read (params 30 2 1 3) (set reads 0 2))) (7 ∷ [])
     ∷ []
 
 rows-hold : all comesTrue rows ≡ true
-unfolding all sameList sum has first members tabulate top choose rankFrom unrankDown unrank inBurst placements reduceFrom expandFrom rankOf startsOf pieceLen pieceStart blockAt blockHead blockWith weave pick span spell value places parts blockMin leastTail indexTail becomes withBurst withBursts isBurst next partCount partWith chosen beside isChosen isIndexIn isIndex indexBlocks isFixed cellOf kindAt plan word looksFixed later bareParts openBlocks indexInPart collect indexFound heads written agrees readRank read rows comesTrue flatMap
+unfolding all sameList sum has first members tabulate top choose rankFrom unrankDown unrank inBurst placements reduceFrom expandFrom rankOf startsOf pieceLen pieceStart blockAt blockHead blockWith weave pick span spell value places parts blockMin leastTail indexTail becomes withBurst withBursts isBurst next partCount partWith chosen beside isChosen isIndexIn isIndex indexBlocks isFixed cellOf kindAt plan word looksFixed later bareParts openBlocks indexInPart collect indexFound heads written agrees hasErasure any readRank read rows comesTrue flatMap
 rows-hold = refl

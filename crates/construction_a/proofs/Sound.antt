@@ -7,7 +7,7 @@ use mathlib.Core.Option.{Option, none, some}
 use Prim.Native.Nat.{ℕ, suc, _-_, _*_, _<_}
 use native.Mathlib.Omega.{arith}
 use lib.ListN.{length, getD}
-use Rattle.refusals.specs.Refusals.{must, disagrees, valueTooLarge}
+use Rattle.refusals.specs.Refusals.{must, disagrees, valueTooLarge, erased}
 use Rattle.combinatorics.specs.Bursts.{inBurst}
 use Rattle.combinatorics.specs.Lists.{allBelow, sameList}
 use Rattle.combinatorics.specs.Stretch.{has}
@@ -18,12 +18,15 @@ use Rattle.combinatorics.proofs.Stretch.{Each, flat-map, has-some}
 use Rattle.cells.specs.Cells.{burst, fixed, digit, message, is, weave, pick}
 use Rattle.cells.specs.Codec.{accepted, refused}
 use Rattle.cells.specs.Digits.{spell, value, places}
-use Rattle.cells.proofs.Cells.{pick-at, length-pick, pick-below, Clean, at-clean, clean-agrees, agree-at}
+use Rattle.cells.specs.Erasures.{foundBound, hasErasure}
+use Rattle.cells.proofs.Cells.{pick-at, length-pick, Clean, at-clean, clean-agrees, agree-at}
 use Rattle.cells.proofs.Cut.{block-with}
 use Rattle.cells.proofs.Digits.{Spelled, spell-value, heads-spelled}
+use Rattle.cells.proofs.Erasures.{whole-below}
 use Rattle.construction_a.specs.Figures.{Params, parts, headOf, blockOf, placementCount, indexTail, messageLen}
 use Rattle.construction_a.specs.Writing.{isBurst, isIndex, indexBlocks, isFixed, cellOf, kindAt, plan, rank, placementOf, word}
 use Rattle.construction_a.specs.Reading.{looksFixed, indexFound, heads, written, agrees, readRank, readFrom, read}
+use Rattle.construction_a.proofs.Found.{heads-below, message-below}
 use Rattle.construction_a.proofs.Figures.{Served}
 use Rattle.construction_a.proofs.Pattern.{taken-bare}
 use Rattle.construction_a.proofs.Plan.{index-blocks, kind-burst, digit-places, messages-count}
@@ -54,7 +57,7 @@ pub record Accepted (f : Params) (w ss ms : List ℕ) : Type 0 where
 pub wrong : {P : Type 0} {a : ℕ} {ss ms : List ℕ} → refused a ≡ accepted ss ms → P
 wrong e = absurd (let z : _≡_ {A = ℕ} 0 1 = cc in omega arith)
 
-module _ (f : Params) (ok : Served f) (w : List ℕ) (small : (x : ℕ) → getD w x 0 < f .q) where
+module _ (f : Params) (ok : Served f) (w : List ℕ) (small : (x : ℕ) → getD w x 0 < foundBound (f .q)) where
   clean-of : (ss : List ℕ) → ((k : ℕ) → k < parts f * f .m → isFixed f ss k ≡ true → looksFixed f w k ≡ true) → Clean (plan f ss) w
   unfolding plan kindAt looksFixed isFixed
   clean-of ss h =
@@ -65,11 +68,12 @@ module _ (f : Params) (ok : Served f) (w : List ℕ) (small : (x : ℕ) → getD
       let e : x ≡ headOf f k = omega (arith, z .1, i .reach) in
       ap (λ (y : ℕ). getD w y 0) e ∙ eqb-true (getD w (headOf f k) 0) 0 (h k (i .below) (z .0)))
 
-  -- the placement of the value read, where that is below T and the blocks agree
-  kernel : (ks : List ℕ) → indexFound (parts f) (f .m) (looksFixed f w) ≡ some ks → written f w ks < placementCount f
-      → agrees f w ks (placementOf f (written f w ks)) ≡ true → Accepted f w (placementOf f (written f w ks)) (pick message (plan f (placementOf f (written f w ks))) w)
+  -- the placement of the value read, where that is below T, the blocks agree and no erasure was read
+  kernel : (ks : List ℕ) → indexFound (parts f) (f .m) (looksFixed f w) ≡ some ks → hasErasure (f .q) (heads f w ks) ≡ false → written f w ks < placementCount f
+      → agrees f w ks (placementOf f (written f w ks)) ≡ true → hasErasure (f .q) (pick message (plan f (placementOf f (written f w ks))) w) ≡ false
+      → Accepted f w (placementOf f (written f w ks)) (pick message (plan f (placementOf f (written f w ks))) w)
   unfolding agrees heads word plan written messageLen
-  kernel ks found l a =
+  kernel ks found whole l a clear =
       let v = written f w ks in
       let ss = placementOf f v in
       let s = rank-of-starts (f .n) (f .m) (f .b) (ok .long) (ok .total) v l in
@@ -80,7 +84,7 @@ module _ (f : Params) (ok : Served f) (w : List ℕ) (small : (x : ℕ) → getD
       let same-I : I ≡ ks = list-same I ks (ag .0) in
       let lk : length ks ≡ f .m = sym (ap length same-I) ∙ index-blocks f ok ss (s .placed) (s .count) in
       let sp : Spelled (f .q) ps (heads f w ks) =
-      rw lk at (heads-spelled (f .q) (indexTail f) (headOf f) (λ x. getD w x 0) ks small (not-zero f w ks (taken-bare (parts f) (f .m) (looksFixed f w) ks found))) in
+      rw lk at (heads-spelled (f .q) (indexTail f) (headOf f) (λ x. getD w x 0) ks (whole-below (f .q) (heads f w ks) (heads-below f (foundBound (f .q)) w ks small) whole) (not-zero f w ks (taken-bare (parts f) (f .m) (looksFixed f w) ks found))) in
       let spelled : spell (f .q) ps (rank f ss) ≡ heads f w ks = ap (spell (f .q) ps) (s .rank) ∙ spell-value (f .q) ps (heads f w ks) sp in
       let picked : heads f w I ≡ pick digit (plan f ss) w =
       flat-map (λ x. getD w x 0) (suc (indexTail f)) (headOf f) I ∙ ap (map (λ x. getD w x 0)) (sym (digit-places f ok ss (s .placed) (s .count)))
@@ -93,32 +97,50 @@ module _ (f : Params) (ok : Served f) (w : List ℕ) (small : (x : ℕ) → getD
         placed = s .placed;
         count = s .count;
         message = omega (arith, length-pick message n (kindAt f ss) w, messages-count f ok ss (s .placed) (s .count));
-        symbols = pick-below message n (kindAt f ss) w (f .q) small;
+        symbols = whole-below (f .q) (pick message (plan f ss) w) (message-below f (foundBound (f .q)) w ss small) clear;
         outside = λ x lx out.
             rw digits (agree-at n 0 x (kindAt f ss) w (weave (plan f ss) (pick digit (plan f ss) w) (pick message (plan f ss) w)) (clean-agrees (plan f ss) w clean)
             (omega arith) (omega arith) (kind-burst f ss x ∙ out));
       }
 
+  -- what was accepted passed every test
+  module _ (ss ms ks : List ℕ) (found : indexFound (parts f) (f .m) (looksFixed f w) ≡ some ks) where
+    v : ℕ
+    v = written f w ks
+
+    at : List ℕ
+    at = placementOf f v
+
+    taken : List ℕ
+    taken = pick message (plan f at) w
+
+    past-message : (b : Bool) → hasErasure (f .q) (heads f w ks) ≡ false → v < placementCount f → agrees f w ks at ≡ true → hasErasure (f .q) taken ≡ b
+        → must (not b) (refused erased) (accepted at taken) ≡ accepted ss ms → Accepted f w ss ms
+    unfolding v at taken
+    past-message true h l a c e = wrong e
+    past-message false h l a c e =
+        let e₁ : placementOf f (written f w ks) ≡ ss = cc in
+        let e₂ : pick message (plan f (placementOf f (written f w ks))) w ≡ ms = cc in
+        rw (e₂, e₁) at (kernel ks found h l a c)
+
+    past-blocks : (b : Bool) → hasErasure (f .q) (heads f w ks) ≡ false → v < placementCount f → agrees f w ks at ≡ b
+        → must b (refused disagrees) (must (not (hasErasure (f .q) taken)) (refused erased) (accepted at taken)) ≡ accepted ss ms → Accepted f w ss ms
+    past-blocks true h l a e = past-message (hasErasure (f .q) taken) h l a refl e
+    past-blocks false h l a e = wrong e
+
+    past-index : (b : Bool) → hasErasure (f .q) (heads f w ks) ≡ b → must (not b) (refused erased) (readRank f w ks v) ≡ accepted ss ms → Accepted f w ss ms
+    unfolding readRank v at taken
+    past-index true h = λ e. wrong e
+    past-index false h =
+        by-le (suc (written f w ks)) (placementCount f)
+        (λ t. must t (refused valueTooLarge)
+        (must (agrees f w ks at) (refused disagrees) (must (not (hasErasure (f .q) taken)) (refused erased) (accepted at taken))) ≡ accepted ss ms → Accepted f w ss ms)
+        (λ l. past-blocks (agrees f w ks at) h l refl) (λ _ e. wrong e)
+
   pub sound : (ss ms : List ℕ) → read f w ≡ accepted ss ms → Accepted f w ss ms
-  unfolding read readRank
+  unfolding read v
   sound ss ms = go (indexFound (parts f) (f .m) (looksFixed f w)) refl
     where
-      at : (ks : List ℕ) (b : Bool) → indexFound (parts f) (f .m) (looksFixed f w) ≡ some ks → written f w ks < placementCount f
-          → agrees f w ks (placementOf f (written f w ks)) ≡ b
-          → must b (refused disagrees) (accepted (placementOf f (written f w ks)) (pick message (plan f (placementOf f (written f w ks))) w)) ≡ accepted ss ms
-          → Accepted f w ss ms
-      at ks true found l a e =
-          let v = written f w ks in
-          let e₁ : placementOf f v ≡ ss = cc in
-          let e₂ : pick message (plan f (placementOf f v)) w ≡ ms = cc in
-          rw (e₂, e₁) at (kernel ks found l a)
-      at ks false found l a e = wrong e
-
       go : (o : Option (List ℕ)) → indexFound (parts f) (f .m) (looksFixed f w) ≡ o → readFrom f w o ≡ accepted ss ms → Accepted f w ss ms
       go none found = λ e. wrong e
-      go (some ks) found =
-          let v = written f w ks in
-          by-le (suc v) (placementCount f)
-          (λ t. must t (refused valueTooLarge) (must (agrees f w ks (placementOf f v)) (refused disagrees) (accepted (placementOf f v) (pick message (plan f (placementOf f v)) w))) ≡ accepted ss ms
-          → Accepted f w ss ms)
-          (λ l. at ks (agrees f w ks (placementOf f v)) found l refl) (λ _ e. wrong e)
+      go (some ks) found = past-index ss ms ks found (hasErasure (f .q) (heads f w ks)) refl

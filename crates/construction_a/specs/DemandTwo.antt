@@ -4,21 +4,23 @@ use mathlib.Core.Path.{_≡_}
 use mathlib.Core.Logic.{_↔_}
 use mathlib.Core.Bool.{true, false}
 use mathlib.Core.List.{List}
-use mathlib.Core.Option.{none, some}
+use mathlib.Core.Option.{Option, none, some}
 use Prim.Native.Nat.{ℕ, _≤_, _<_}
-use Rattle.refusals.specs.Refusals.{noPattern, valueTooLarge, disagrees}
+use Rattle.refusals.specs.Refusals.{noPattern, valueTooLarge, disagrees, erased}
 use Rattle.combinatorics.specs.Bursts.{inBurst}
+use Rattle.cells.specs.Cells.{message, pick}
 use Rattle.cells.specs.Codec.{Codec, Word, LeadsTo, WritesWords, Exact, refused}
+use Rattle.cells.specs.Erasures.{foundBound, hasErasure}
 use Rattle.construction_a.specs.Figures.{Params, inRange, fits, isPlacement, parts, placementCount, messageLen}
-use Rattle.construction_a.specs.Writing.{placementOf, word}
-use Rattle.construction_a.specs.Reading.{looksFixed, indexFound, written, agrees, read}
+use Rattle.construction_a.specs.Writing.{plan, placementOf, word}
+use Rattle.construction_a.specs.Reading.{looksFixed, indexFound, heads, written, agrees, read}
 
 abbrev pub constructionA : Params → Codec
 constructionA f =
     record {
       wordLen = f .n;
       alphabet = f .q;
-      foundBound = f .q;
+      foundBound = foundBound (f .q);
       messageLen = messageLen f;
       placed = isPlacement f;
       spoilt = inBurst (f .b);
@@ -26,12 +28,32 @@ constructionA f =
       decode = read f;
     }
 
+-- the I-blocks that the listed patterns give
+abbrev pub found : Params → List ℕ → Option (List ℕ)
+found f w = indexFound (parts f) (f .m) (looksFixed f w)
+
+-- I-blocks were found, and none of their first r + 1 symbols is q
+pub record IndexRead (f : Params) (w ks : List ℕ) : Type 0 where
+  pub pattern : found f w ≡ some ks
+  pub whole : hasErasure (f .q) (heads f w ks) ≡ false
+
+-- the value that they spell is below T, and its placement agrees
+pub record PlacementRead (f : Params) (w ks ss : List ℕ) : Type 0 where
+  pub index : IndexRead f w ks
+  pub below : written f w ks < placementCount f
+  pub starts : placementOf f (written f w ks) ≡ ss
+  pub agreed : agrees f w ks ss ≡ true
+
 -- the listed condition of each refusal of a word
 pub data Listed (f : Params) (w : List ℕ) : ℕ → Type 0 where
-  no-pattern : indexFound (parts f) (f .m) (looksFixed f w) ≡ none → Listed f w noPattern
-  too-large : (ks : List ℕ) → indexFound (parts f) (f .m) (looksFixed f w) ≡ some ks → placementCount f ≤ written f w ks → Listed f w valueTooLarge
-  disagreeing : (ks : List ℕ) → indexFound (parts f) (f .m) (looksFixed f w) ≡ some ks → written f w ks < placementCount f
+  no-pattern : found f w ≡ none → Listed f w noPattern
+  -- "a q in an I-block's first r + 1 symbols"
+  erased-index : (ks : List ℕ) → found f w ≡ some ks → hasErasure (f .q) (heads f w ks) ≡ true → Listed f w erased
+  too-large : (ks : List ℕ) → IndexRead f w ks → placementCount f ≤ written f w ks → Listed f w valueTooLarge
+  disagreeing : (ks : List ℕ) → IndexRead f w ks → written f w ks < placementCount f
       → agrees f w ks (placementOf f (written f w ks)) ≡ false → Listed f w disagrees
+  -- "a q among message symbols"
+  erased-message : (ks ss : List ℕ) → PlacementRead f w ks ss → hasErasure (f .q) (pick message (plan f ss) w) ≡ true → Listed f w erased
 
 pub record ReadsExactly (f : Params) : Type 0 where
   -- what is written has n symbols, each below q

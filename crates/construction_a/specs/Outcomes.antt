@@ -9,6 +9,7 @@ use Rattle.refusals.specs.Refusals.{must, served, invalid, unfit, wrongLength, 
 use Rattle.combinatorics.specs.Bursts.{apart, coverRank}
 use Rattle.combinatorics.specs.Lists.{allBelow}
 use Rattle.cells.specs.Codec.{Reading, accepted, refused}
+use Rattle.cells.specs.Erasures.{foundBound}
 use Rattle.construction_a.specs.Figures.{Params, maxBursts, inRange, fits, placementCount, indexTail, messageLen}
 use Rattle.construction_a.specs.Writing.{rank, placementOf, word}
 use Rattle.construction_a.specs.Reading.{read}
@@ -84,7 +85,7 @@ coverOut f map =
     (must (ltb v (placementCount f)) (unplaced uncovered)
     (record { answer = served; placement = held (placementOf f v) })))))
 
--- ---- "word read 1 2 3 4 7 8 9": the answer, the placement beside it, and the lent message
+-- ---- "word read 1 2 3 4 7 8 9", with 19 "between 7 and 8" and "after 9": the answer, the placement beside it, and the lent message
 
 -- "An accepted word is answered with its rank as a number"
 pub data WordAnswer : Type 0 where
@@ -108,10 +109,11 @@ abbrev pub decodeAs : Params → List ℕ → Reading → Decoded
 decodeAs f out (accepted ss ms) = record { answer = rankIs (rank f ss); placement = held ss; message = ms }
 decodeAs f out (refused a) = unread out a
 
+-- "Refusal 4 is, in reading .., for values above q"
 unfoldable pub decodeOut : Params → List ℕ → List ℕ → Decoded
 decodeOut f w out =
     must (inRange f) (unread out invalid)
     (must (fits f) (unread out unfit)
     (must (eqb (length w) (f .n) && eqb (length out) (messageLen f)) (unread out wrongLength)
-    (must (allBelow (f .q) w) (unread out badSymbol)
+    (must (allBelow (foundBound (f .q)) w) (unread out badSymbol)
     (decodeAs f out (read f w)))))

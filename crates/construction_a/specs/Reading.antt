@@ -1,4 +1,4 @@
--- Document 01, "Reading": from a found word to its placement and message. Assumes nothing.
+-- Document 01, "Reading": from a found word to its placement and message; and document 02, "Cells without a reading". Assumes nothing.
 use mathlib.Core.Bool.{Bool, not, cond, _&&_}
 use mathlib.Core.List.{List, [], _∷_, flatMap}
 use mathlib.Core.Option.{Option, none, some}
@@ -10,11 +10,12 @@ use Rattle.combinatorics.specs.Stretch.{has, members, tabulate, stretch}
 use Rattle.cells.specs.Cells.{message, pick}
 use Rattle.cells.specs.Codec.{Reading, accepted, refused}
 use Rattle.cells.specs.Digits.{value, places}
-use Rattle.refusals.specs.Refusals.{must, noPattern, valueTooLarge, disagrees}
+use Rattle.cells.specs.Erasures.{hasErasure}
+use Rattle.refusals.specs.Refusals.{must, noPattern, valueTooLarge, disagrees, erased}
 use Rattle.construction_a.specs.Figures.{Params, parts, blocks, headOf, placementCount, indexTail}
 use Rattle.construction_a.specs.Writing.{row, isFixed, indexBlocks, plan, placementOf}
 
--- "A block starting with 0 looks F."
+-- "A block starting with 0 looks F." "As a first symbol such a cell isn't the fixed symbol."
 unfoldable pub looksFixed : Params → List ℕ → ℕ → Bool
 looksFixed f w k = eqb (getD w (headOf f k) 0) 0
 
@@ -76,18 +77,22 @@ written f w ks = value (f .q) (places (f .m) (indexTail f)) (heads f w ks)
 unfoldable pub agrees : Params → List ℕ → List ℕ → List ℕ → Bool
 agrees f w ks ss = sameList (indexBlocks f ss) ks && not (has (blocks f) 0 (λ k. isFixed f ss k && not (looksFixed f w k)))
 
--- "Then the rank gives the placement": 8 and 9 are left to refuse with
+-- "Then the rank gives the placement": 8, 9 and, for "a q among message symbols, after 9", 19 are left to refuse with
 unfoldable pub readRank : Params → List ℕ → List ℕ → ℕ → Reading
 readRank f w ks v =
     let ss = placementOf f v in
     let ms = pick message (plan f ss) w in
     must (ltb v (placementCount f)) (refused valueTooLarge)
     (must (agrees f w ks ss) (refused disagrees)
-    (accepted ss ms))
+    (must (not (hasErasure (f .q) ms)) (refused erased)
+    (accepted ss ms)))
 
+-- "It refuses with 19 a q in an I-block's first r + 1 symbols, between 7 and 8"
 abbrev pub readFrom : Params → List ℕ → Option (List ℕ) → Reading
 readFrom f w none = refused noPattern
-readFrom f w (some ks) = readRank f w ks (written f w ks)
+readFrom f w (some ks) =
+    must (not (hasErasure (f .q) (heads f w ks))) (refused erased)
+    (readRank f w ks (written f w ks))
 
 unfoldable pub read : Params → List ℕ → Reading
 read f w = readFrom f w (indexFound (parts f) (f .m) (looksFixed f w))

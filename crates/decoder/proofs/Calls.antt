@@ -1,21 +1,23 @@
 -- That the reader answers as the definitions do, refusal by refusal. Assumes nothing.
 use mathlib.Core.Path.{_≡_, refl, sym, ap, _∙_}
 use mathlib.Core.Logic.{_≢_}
-use mathlib.Core.Bool.{true, false, _&&_}
+use mathlib.Core.Bool.{true, false, not, _&&_}
 use mathlib.Core.List.{List}
 use mathlib.Core.Option.{none, some}
 use Prim.Native.Nat.{ℕ, suc, _≤_, _<_}
 use native.Mathlib.Omega.{arith}
 use lib.Dec.{eqb}
 use lib.ListN.{length, take}
-use Rattle.refusals.specs.Refusals.{must, wrongLength, badSymbol, noPattern, valueTooLarge, disagrees}
+use Rattle.refusals.specs.Refusals.{must, wrongLength, badSymbol, noPattern, valueTooLarge, disagrees, erased}
 use Rattle.combinatorics.specs.Lists.{allBelow}
 use Rattle.combinatorics.proofs.Cases.{by-eq, by-bool, leb-holds, leb-fails, eqb-same, eqb-other}
 use Rattle.cells.specs.Cells.{message, pick}
 use Rattle.cells.specs.Codec.{Reading, accepted, refused}
+use Rattle.cells.specs.Erasures.{foundBound, hasErasure}
+use Rattle.cells.proofs.Erasures.{erasure-is}
 use Rattle.construction_a.specs.Figures.{Params, inRange, fits, isPlacement, parts, placementCount, messageLen}
 use Rattle.construction_a.specs.Outcomes.{Held, held, unserved, figuresOut, rankIs, refusal, Decoded, unread, decodeAs, decodeOut}
-use Rattle.construction_a.specs.Reading.{looksFixed, indexFound, written, agrees, readRank, read}
+use Rattle.construction_a.specs.Reading.{looksFixed, indexFound, heads, written, agrees, readRank, read}
 use Rattle.construction_a.specs.Writing.{plan, placementOf}
 use Rattle.construction_a.proofs.DemandTwo.{demand-two}
 use Rattle.construction_a.proofs.Figures.{Served, placed-starts}
@@ -38,7 +40,7 @@ module _ (f : Params) (w out : List ℕ) where
   decode-unfit a e =
       refused-alike f a (unread out)
       (must (eqb (length w) (f .n) && eqb (length out) (messageLen f)) (unread out wrongLength)
-      (must (allBelow (f .q) w) (unread out badSymbol)
+      (must (allBelow (foundBound (f .q)) w) (unread out badSymbol)
       (decodeAs f out (read f w)))) e
 
   module _ (range : inRange f ≡ true) (fit : fits f ≡ true) where
@@ -54,15 +56,15 @@ module _ (f : Params) (w out : List ℕ) where
 
       module _ (room : length out ≡ messageLen f) where
         -- 4
-        pub decode-symbol : allBelow (f .q) w ≡ false → decodeOut f w out ≡ unread out badSymbol
+        pub decode-symbol : allBelow (foundBound (f .q)) w ≡ false → decodeOut f w out ≡ unread out badSymbol
         unfolding decodeOut
         decode-symbol e = rw (range, fit, eqb-same (length w) (f .n) whole, eqb-same (length out) (messageLen f) room, e)
 
-        pub decode-read : allBelow (f .q) w ≡ true → decodeOut f w out ≡ decodeAs f out (read f w)
+        pub decode-read : allBelow (foundBound (f .q)) w ≡ true → decodeOut f w out ≡ decodeAs f out (read f w)
         unfolding decodeOut
         decode-read e = rw (range, fit, eqb-same (length w) (f .n) whole, eqb-same (length out) (messageLen f) room, e)
 
--- ---- 7, 8, and what the rank gives
+-- ---- 7, 19 for the index, 8, and what the rank gives
 
 module _ (f : Params) (w : List ℕ) where
   pub read-none : indexFound (parts f) (f .m) (looksFixed f w) ≡ none → read f w ≡ refused noPattern
@@ -70,25 +72,38 @@ module _ (f : Params) (w : List ℕ) where
   read-none e = rw e
 
   module _ (ks : List ℕ) (found : indexFound (parts f) (f .m) (looksFixed f w) ≡ some ks) where
-    pub read-large : placementCount f ≤ written f w ks → read f w ≡ refused valueTooLarge
-    unfolding read readRank
-    read-large l = rw (found, leb-fails (suc (written f w ks)) (placementCount f) (omega arith))
+    -- no value above q is left, so that an erasure is a symbol that is not below q
+    module _ (known : allBelow (foundBound (f .q)) (heads f w ks) ≡ true) where
+      pub read-erased : allBelow (f .q) (heads f w ks) ≡ false → read f w ≡ refused erased
+      unfolding read
+      read-erased e = rw (found, erasure-is (f .q) (heads f w ks) known, e)
 
-    pub read-shown : read f w ≡ readRank f w ks (written f w ks)
-    unfolding read
-    read-shown = rw found
+      module _ (whole : allBelow (f .q) (heads f w ks) ≡ true) where
+        pub read-large : placementCount f ≤ written f w ks → read f w ≡ refused valueTooLarge
+        unfolding read readRank
+        read-large l = rw (found, erasure-is (f .q) (heads f w ks) known, whole, leb-fails (suc (written f w ks)) (placementCount f) (omega arith))
 
--- ---- 9, or the placement and the message
+        pub read-shown : read f w ≡ readRank f w ks (written f w ks)
+        unfolding read
+        read-shown = rw (found, erasure-is (f .q) (heads f w ks) known, whole)
+
+-- ---- 9, 19 for the message, or the placement and the message
 
 module _ (f : Params) (w ks out : List ℕ) (v : ℕ) (below : v < placementCount f) where
   pub disagreeing : agrees f w ks (placementOf f v) ≡ false → decodeAs f out (readRank f w ks v) ≡ unread out disagrees
   unfolding readRank
   disagreeing e = rw (leb-holds (suc v) (placementCount f) below, e)
 
-  pub agreeing : (at : Held) (ms : List ℕ) → Served f → agrees f w ks (placementOf f v) ≡ true → at ≡ held (placementOf f v)
-      → ms ≡ pick message (plan f (placementOf f v)) w → record { answer = rankIs v; placement = at; message = ms } ≡ decodeAs f out (readRank f w ks v)
-  unfolding readRank
-  agreeing at ms ok e h m = rw (leb-holds (suc v) (placementCount f) below, e, h, m, rank-bijection f ok .same v below)
+  module _ (e : agrees f w ks (placementOf f v) ≡ true) (known : allBelow (foundBound (f .q)) (pick message (plan f (placementOf f v)) w) ≡ true) where
+    pub erasing : allBelow (f .q) (pick message (plan f (placementOf f v)) w) ≡ false → decodeAs f out (readRank f w ks v) ≡ unread out erased
+    unfolding readRank
+    erasing g = rw (leb-holds (suc v) (placementCount f) below, e, erasure-is (f .q) (pick message (plan f (placementOf f v)) w) known, g)
+
+    pub agreeing : (at : Held) (ms : List ℕ) → Served f → allBelow (f .q) (pick message (plan f (placementOf f v)) w) ≡ true → at ≡ held (placementOf f v)
+        → ms ≡ pick message (plan f (placementOf f v)) w → record { answer = rankIs v; placement = at; message = ms } ≡ decodeAs f out (readRank f w ks v)
+    unfolding readRank
+    agreeing at ms ok g h m =
+        rw (leb-holds (suc v) (placementCount f) below, e, erasure-is (f .q) (pick message (plan f (placementOf f v)) w) known, g, h, m, rank-bijection f ok .same v below)
 
 -- the placement of a rank
 pub placing : (l : Layout) (v : ℕ) (p : Placement) → Fitting l → v < placementCount (figuresOf l) → heldAs p ≡ held (placementOf (figuresOf l) v) → Placing l p
@@ -118,7 +133,7 @@ pub accepted-count : (f : Params) (w out : List ℕ) (v : ℕ) → inRange f ≡
 accepted-count f w out v range fit r =
     by-eq (length w) (f .n) (λ _. d .placement .count ≡ f .m)
     (λ whole. by-eq (length out) (messageLen f) (λ _. d .placement .count ≡ f .m)
-    (λ room. by-bool (allBelow (f .q) w) (λ low. at whole low (decode-read f w out range fit whole room low))
+    (λ room. by-bool (allBelow (foundBound (f .q)) w) (λ low. at whole low (decode-read f w out range fit whole room low))
     (λ high. refused-not out d badSymbol v (decode-symbol f w out range fit whole room high) r))
     (λ other. refused-not out d wrongLength v (decode-room f w out range fit whole other) r))
     (λ other. refused-not out d wrongLength v (decode-short f w out range fit other) r)
@@ -126,7 +141,7 @@ accepted-count f w out v range fit r =
     d : Decoded
     d = decodeOut f w out
 
-    at : length w ≡ f .n → allBelow (f .q) w ≡ true → d ≡ decodeAs f out (read f w) → d .placement .count ≡ f .m
+    at : length w ≡ f .n → allBelow (foundBound (f .q)) w ≡ true → d ≡ decodeAs f out (read f w) → d .placement .count ≡ f .m
     at whole low e = go (read f w) refl
       where
         go : (x : Reading) → read f w ≡ x → d .placement .count ≡ f .m

@@ -24,7 +24,7 @@ pub record ReadsAsWritten (f : Params) (w out : List ℕ) (d : Decoded) : Type 0
   pub one-pair : (ss ms ss′ ms′ : List ℕ) → LeadsTo (constructionA f) w ss ms → LeadsTo (constructionA f) w ss′ ms′ → (ss ≡ ss′) × (ms ≡ ms′)
   -- and refused where there is none
   pub others : ((ss ms : List ℕ) → LeadsTo (constructionA f) w ss ms → ⊥) → (a : ℕ) × (d ≡ unread out a)
-  -- with 7, 8 or 9: "Each number comes under its condition and under no other."
+  -- with 7, 19, 8 or 9: "Each number comes under its condition and under no other."
   pub listed : (a : ℕ) → (d ≡ unread out a) ↔ Listed f w a
 
 abbrev pub DecodesExactly : Params → List ℕ → List ℕ → Decoded → Type 0

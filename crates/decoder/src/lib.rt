@@ -18,6 +18,7 @@ use placements::Placement;
 use refusals::Refusal;
 
 mod agree;
+mod erasures;
 pub mod starts;
 mod taking;
 
@@ -34,7 +35,7 @@ pub struct Decoded {
 }
 
 // The rank and the placement of a found word of n symbols, and its message in a buffer of k, which keeps its contents where the word is
-// refused. Refusals: 1 2 3 4 7 8 9.
+// refused. Refusals: 1 2 3 4 7 19 8 9 19.
 pub fn decode(figures: Params, word: &[u8], message: &mut [u8]) -> Decoded
     ensures outcome { λ r. ⌜ decodedAs r (now (message .exit)) ≡ decodeOut (given figures) (now (word .entry)) (now (message .entry)) ⌝ }
     ensures exactly { λ r. ⌜ DecodesExactly (given figures) (now (word .entry)) (now (message .entry)) (decodedAs r (now (message .exit))) ⌝ }
@@ -47,7 +48,7 @@ pub fn decode(figures: Params, word: &[u8], message: &mut [u8]) -> Decoded
     }
 }
 
-// The same for figures that fit. Refusals: 3 4 7 8 9.
+// The same for figures that fit. Refusals: 3 4 7 19 8 9 19.
 pub fn decode_fitting(layout: Layout, word: &[u8], message: &mut [u8]) -> Decoded
     requires { ⌜ Fitting layout ⌝ }
     ensures { λ r. ⌜ decodedAs r (now (message .exit)) ≡ decodeOut (figuresOf layout) (now (word .entry)) (now (message .entry)) ⌝ }
@@ -58,20 +59,22 @@ pub fn decode_fitting(layout: Layout, word: &[u8], message: &mut [u8]) -> Decode
     if message.len() != layout.message_len {
         return unread(Refusal::LENGTH);
     }
-    if !symbols::all_below(word, layout.q) {
+    let whole = symbols::all_below(word, layout.q);
+    if !erasures::can_be_found(layout, whole, word) {
         return unread(Refusal::SYMBOL);
     }
-    decode_found(layout, &heads_of(layout), word, message)
+    decode_found(layout, &heads_of(layout), whole, word, message)
 }
 
-// The same for a word that can be found. Refusals: 7 8 9.
+// The same for a word that can be found; it is `whole` where it has no erasure at all. Refusals: 7 19 8 9 19.
 fn decode_found(
     layout: Layout,
     heads: &[u16; Layout::MAX_HEADS],
+    whole: bool,
     word: &[u8],
     message: &mut [u8],
 ) -> Decoded
-    requires { ⌜ Lent layout (now word) (now message) × HeadsOf (figuresOf layout) (now heads) ⌝ }
+    requires { ⌜ Lent layout whole (now word) (now message) × HeadsOf (figuresOf layout) (now heads) ⌝ }
     ensures { λ r. ⌜ decodedAs r (now (message .exit)) ≡ decodeAs (figuresOf layout) (now (message .entry)) (read (figuresOf layout) (now (word .entry))) ⌝ }
 {
     let shown = heads::pattern::index_read(layout, heads, word);
@@ -79,29 +82,36 @@ fn decode_found(
         return unread(Refusal::PATTERN);
     }
     let index = shown.blocks;
+    if !erasures::index_whole(layout, heads, index, whole, word) {
+        return unread(Refusal::ERASED);
+    }
     let rank = heads::written::written_value(layout, heads, word, index);
     if layout.placement_count <= rank {
         return unread(Refusal::VALUE);
     }
-    decode_rank(layout, heads, index, rank, word, message)
+    decode_rank(layout, heads, index, rank, whole, word, message)
 }
 
-// The same for the rank that index blocks spell. Refusal: 9. The message is taken where nothing can be refused any more.
+// The same for the rank that index blocks spell. Refusals: 9 19. The message is taken where nothing can be refused any more.
 fn decode_rank(
     layout: Layout,
     heads: &[u16; Layout::MAX_HEADS],
     index: [u8; Placement::MAX],
     rank: u64,
+    whole: bool,
     word: &[u8],
     message: &mut [u8],
 ) -> Decoded
-    requires { ⌜ Ranked layout rank (now word) (now message) × HeadsOf (figuresOf layout) (now heads) ⌝ }
+    requires { ⌜ Ranked layout (take (layout .m) index) rank whole (now word) (now message) × HeadsOf (figuresOf layout) (now heads) ⌝ }
     ensures { λ r. ⌜ decodedAs r (now (message .exit)) ≡ decodeAs (figuresOf layout) (now (message .entry)) (readRank (figuresOf layout) (now (word .entry)) (take (layout .m) index) rank) ⌝ }
 {
     let placement = Placement::unrank(layout.n as u32, layout.m as u32, layout.b as u32, rank);
     let kinds = blocks::kinds_of(layout, placement);
     if !agree::agrees(layout, heads, &kinds, index, word) {
         return unread(Refusal::DISAGREES);
+    }
+    if !erasures::message_whole(layout, placement, whole, word) {
+        return unread(Refusal::ERASED);
     }
     taking::take_message(layout, placement, heads, &kinds, word, message);
     Decoded {

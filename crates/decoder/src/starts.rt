@@ -13,7 +13,7 @@ use params::bytes::BYTE_VALUES;
 use placements::Placement;
 use refusals::Refusal;
 
-// Word read for figures that fit, with the placement as bytes. Refusals: 3 4 7 8 9.
+// Word read for figures that fit, with the placement as bytes. Refusals: 3 4 7 19 8 9 19.
 pub fn decode_bytes(layout: Layout, word: &[u8], message: &mut [u8], starts: &mut [u8]) -> u8
     requires { ⌜ Fitting layout ⌝ }
     ensures { λ r. ⌜ lentAs r (now (message .exit)) (now (starts .exit)) ≡ exportedOut (figuresOf layout) (now (word .entry)) (now (message .entry)) (now (starts .entry)) ⌝ }

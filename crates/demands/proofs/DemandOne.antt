@@ -7,16 +7,18 @@ use mathlib.Core.Option.{Option, none, some}
 use Prim.Native.Nat.{ℕ, _*_}
 use lib.Dec.{eqb, ltb}
 use lib.ListN.{length, take, drop, replicate}
-use Rattle.refusals.specs.Refusals.{must, served, invalid, unfit, wrongLength, noPattern, valueTooLarge, disagrees, badRecord, jobCancelled, jobHeld, notOpen}
+use Rattle.refusals.specs.Refusals.{must, served, invalid, unfit, wrongLength, noPattern, valueTooLarge, disagrees, erased, badRecord, jobCancelled, jobHeld, notOpen}
 use Rattle.combinatorics.specs.Lists.{all, any, allBelow}
 use Rattle.combinatorics.specs.Bursts.{apart, coverRank}
 use Rattle.combinatorics.proofs.Cases.{by-bool, by-eq, eqb-true, eqb-other}
 use Rattle.combinatorics.proofs.Lists.{both}
 use Rattle.cells.specs.Bytes.{payloadLen}
+use Rattle.cells.specs.Cells.{message, pick}
 use Rattle.cells.specs.Codec.{Reading, accepted, refused}
+use Rattle.cells.specs.Erasures.{foundBound, hasErasure}
 use Rattle.construction_a.specs.Figures.{Params, inRange, fits, parts, placementCount, indexTail, messageLen}
-use Rattle.construction_a.specs.Writing.{placementOf}
-use Rattle.construction_a.specs.Reading.{looksFixed, indexFound, written, agrees, readRank, readFrom, read}
+use Rattle.construction_a.specs.Writing.{plan, placementOf}
+use Rattle.construction_a.specs.Reading.{looksFixed, indexFound, heads, written, agrees, readRank, readFrom, read}
 use Rattle.construction_a.specs.Outcomes.{Held, held, inUse, FiguresOut, figuresNumber, figuresOut, Encoded, unwritten, encodeOut, worn, Covered, coverOut, WordAnswer, rankIs, refusal, answerNumber, Decoded, decodeAs, decodeOut}
 use Rattle.construction_a.specs.DemandTwo.{constructionA}
 use Rattle.construction_a.proofs.DemandTwo.{demand-two}
@@ -106,15 +108,18 @@ cover f map =
     (tested Covers (ltb (coverRank (f .n) (f .m) (f .b) (worn map)) (placementCount f)) (keep refl refl)
     (done refl)))))
 
--- a word is refused with 7, 8 or 9, or accepted
-module _ (f : Params) (w : List ℕ) (P : Reading → Type 0) (seven : P (refused noPattern)) (eight : P (refused valueTooLarge)) (nine : P (refused disagrees))
-    (taken : (ss ms : List ℕ) → P (accepted ss ms)) where
+-- a word is refused with 7, 19, 8 or 9, or accepted
+module _ (f : Params) (w : List ℕ) (P : Reading → Type 0) (seven : P (refused noPattern)) (nineteen : P (refused erased)) (eight : P (refused valueTooLarge))
+    (nine : P (refused disagrees)) (taken : (ss ms : List ℕ) → P (accepted ss ms)) where
   by-found : (found : Option (List ℕ)) → P (readFrom f w found)
   unfolding readRank
   by-found none = seven
   by-found (some ks) =
       let v = written f w ks in
-      tested P (ltb v (placementCount f)) eight (tested P (agrees f w ks (placementOf f v)) nine (taken _ _))
+      tested P (not (hasErasure (f .q) (heads f w ks))) nineteen
+      (tested P (ltb v (placementCount f)) eight
+      (tested P (agrees f w ks (placementOf f v)) nine
+      (tested P (not (hasErasure (f .q) (pick message (plan f (placementOf f v)) w))) nineteen (taken _ _))))
 
   by-read : P (read f w)
   unfolding read
@@ -130,8 +135,8 @@ word-read f w out =
     tested P (inRange f) (keep refl refl)
     (tested P (fits f) (keep refl refl)
     (tested P (eqb (length w) (f .n) && eqb (length out) (messageLen f)) (keep refl refl)
-    (tested P (allBelow (f .q) w) (keep refl refl)
-    (by-read f w (λ d. P (decodeAs f out d)) (keep refl refl) (keep refl refl) (keep refl refl) (λ ss ms. done refl)))))
+    (tested P (allBelow (foundBound (f .q)) w) (keep refl refl)
+    (by-read f w (λ d. P (decodeAs f out d)) (keep refl refl) (keep refl refl) (keep refl refl) (keep refl refl) (λ ss ms. done refl)))))
 
 -- ---- Words side by side
 
@@ -285,8 +290,8 @@ job-read f es w out =
     (tested P (fits f) (keep refl refl)
     (tested P (carriesJob q k) (keep refl refl)
     (tested P (eqb (length w) (f .n) && eqb (length out) (payloadLen q k)) (keep refl refl)
-    (tested P (allBelow q w) (keep refl refl)
-    (by-read f w (λ d. P (jobIn q k es out d)) (keep refl refl) (keep refl refl) (keep refl refl)
+    (tested P (allBelow (foundBound q) w) (keep refl refl)
+    (by-read f w (λ d. P (jobIn q k es out d)) (keep refl refl) (keep refl refl) (keep refl refl) (keep refl refl)
     (λ ss ms. tested P (spellsPayload q k ms) (keep refl refl)
     (where-open P (withhold out) (jobStatus es (payloadIn q k ms)) (keep refl refl) (keep refl refl) (keep refl refl) (done refl))))))))
 

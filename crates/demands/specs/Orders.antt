@@ -4,7 +4,7 @@
 use mathlib.Core.List.{List, [], _∷_}
 use mathlib.Core.Option.{Option, none, some}
 use Prim.Native.Nat.{ℕ}
-use Rattle.refusals.specs.Refusals.{invalid, unfit, wrongLength, badSymbol, badStarts, uncovered, noPattern, valueTooLarge, disagrees, badPayload, badRecord, badDepth, jobCancelled, alreadyOpen, notOpen, tableFull, numberZero, notCancelled, jobHeld, notHeld}
+use Rattle.refusals.specs.Refusals.{invalid, unfit, wrongLength, badSymbol, badStarts, uncovered, noPattern, valueTooLarge, disagrees, erased, badPayload, badRecord, badDepth, jobCancelled, alreadyOpen, notOpen, tableFull, numberZero, notCancelled, jobHeld, notHeld}
 use Rattle.jobs.specs.Jobs.{Kind, opening, cancelling, finishing, reinstating, holding, releasing}
 
 -- "figures alone 1 2"
@@ -19,9 +19,9 @@ wordWrite = invalid ∷ unfit ∷ wrongLength ∷ badStarts ∷ badSymbol ∷ []
 abbrev pub covering : List ℕ
 covering = invalid ∷ unfit ∷ wrongLength ∷ badSymbol ∷ uncovered ∷ []
 
--- "word read 1 2 3 4 7 8 9"
+-- "word read 1 2 3 4 7 8 9", with 19 "between 7 and 8" and "after 9"
 abbrev pub wordRead : List ℕ
-wordRead = invalid ∷ unfit ∷ wrongLength ∷ badSymbol ∷ noPattern ∷ valueTooLarge ∷ disagrees ∷ []
+wordRead = invalid ∷ unfit ∷ wrongLength ∷ badSymbol ∷ noPattern ∷ erased ∷ valueTooLarge ∷ disagrees ∷ erased ∷ []
 
 -- document 02, "Strips side by side": 18 "right after 2 and before 3 and 4"
 abbrev pub rearrangement : List ℕ
@@ -31,10 +31,11 @@ rearrangement = invalid ∷ unfit ∷ badDepth ∷ wrongLength ∷ badSymbol ∷
 abbrev pub jobWrite : List ℕ
 jobWrite = invalid ∷ unfit ∷ badPayload ∷ wrongLength ∷ badStarts ∷ numberZero ∷ jobCancelled ∷ jobHeld ∷ notOpen ∷ []
 
--- "job read 1 2, 10 for K, 3 4 7 8 9, 10, 12 14", with 23 before 14
+-- "job read 1 2, 10 for K, 3 4 7 8 9, 10, 12 14", with 19 as in word read and 23 before 14
 abbrev pub jobRead : List ℕ
 jobRead =
-    invalid ∷ unfit ∷ badPayload ∷ wrongLength ∷ badSymbol ∷ noPattern ∷ valueTooLarge ∷ disagrees ∷ badPayload ∷ jobCancelled ∷ jobHeld ∷ notOpen ∷ []
+    invalid ∷ unfit ∷ badPayload ∷ wrongLength ∷ badSymbol ∷ noPattern ∷ erased ∷ valueTooLarge ∷ disagrees ∷ erased ∷ badPayload
+    ∷ jobCancelled ∷ jobHeld ∷ notOpen ∷ []
 
 -- "open 1 12 13 15; cancel 1 12 15; finish 1 12 14", with 17 before 12 in the first two and 23 before 14 in the third; reinstate 1 20; hold 1 12 23 14;
 -- release 1 12 24

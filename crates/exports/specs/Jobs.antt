@@ -55,7 +55,7 @@ jobWriteBytesOut f table starts payload out =
     (must (isWhole table && eqb (length starts) (2 * f .m)) (unwritten out wrongLength)
     (jobWriteOut f (tableIn table) (held (startsFrom starts)) payload out))))
 
--- "job read 1 2, 10 for K, 3 4 7 8 9, 10, 12 14", with 23 before 14, where 3 stands for the bytes of the table too
+-- "job read 1 2, 10 for K, 3 4 7 8 9, 10, 12 14", with 19 as in word read and 23 before 14, where 3 stands for the bytes of the table too
 unfoldable pub jobReadBytesOut : Params → List ℕ → List ℕ → List ℕ → JobRead
 jobReadBytesOut f table w out =
     must (inRange f && slotsFit table) (withhold out invalid)

@@ -20,7 +20,7 @@ mod table;
 // A length that no message and no payload has.
 const NO_LENGTH: u32 = 4294967295;
 
-// Word read: the message, and the starts of the bursts, 2 bytes each and the high byte first. Refusals: 1 2 3 4 7 8 9.
+// Word read: the message, and the starts of the bursts, 2 bytes each and the high byte first. Refusals: 1 2 3 4 7 19 8 9 19.
 #[no_mangle]
 pub extern "C" fn burgzemi_decode(
     n: u32,
@@ -153,7 +153,7 @@ pub extern "C" fn burgzemi_job_write(
     jobcodec::job_write(figures, held, at, payload, word)
 }
 
-// Job read: the payload of a found word whose job the table has open. Refusals: 1 2, 10 for K, 3 4 7 8 9, 10, 12 23 14.
+// Job read: the payload of a found word whose job the table has open. Refusals: 1 2, 10 for K, 3 4 7 19 8 9 19, 10, 12 23 14.
 #[no_mangle]
 pub extern "C" fn burgzemi_job_read(
     n: u32,

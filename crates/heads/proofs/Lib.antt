@@ -1,3 +1,4 @@
 pub mod Looking
 pub mod Listed
 pub mod Valued
+pub mod Whole

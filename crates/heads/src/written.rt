@@ -1,8 +1,10 @@
-// The value spelled at the heads of the index blocks, by sums that stop at the count of placements, so that none passes 64 bits. Assumes nothing.
+// What the heads of the index blocks hold: whether all of it can be read, and the value that it spells, by sums that stop at the count of placements, so that none passes 64 bits. Assumes nothing.
 ghost use mathlib.Core.Path.{_≡_};
 ghost use Prim.Native.Nat.{_+_, _*_, _<_, min};
 ghost use lib.ListN.{take};
 ghost use Rattle.cells.specs.Digits.{span, value, places};
+ghost use Rattle.combinatorics.specs.Lists.{allBelow};
+ghost use Rattle.construction_a.specs.Reading;
 ghost use Rattle.construction_a.specs.Reading.{written};
 ghost use Rattle.params.specs.Given.{figuresOf, HeadsOf};
 ghost use Rattle.heads.specs.Written.{Shown, LeadsIn};
@@ -29,6 +31,29 @@ pub fn written_value(
         j += 1;
     }
     value
+}
+
+// Whether the first r + 1 symbols of each index block are below q: otherwise refusal 19.
+pub fn heads_below(
+    layout: Layout,
+    heads: &[u16; Layout::MAX_HEADS],
+    word: &[u8],
+    blocks: [u8; Placement::MAX],
+) -> bool
+    requires { ⌜ Shown layout (now word) blocks × HeadsOf (figuresOf layout) (now heads) ⌝ }
+    ensures { λ r. ⌜ r ≡ allBelow (layout .q) (Rattle.construction_a.specs.Reading.heads (figuresOf layout) (now (word .entry)) (take (layout .m) blocks)) ⌝ }
+{
+    let mut j: usize = 0;
+    while j < layout.m {
+        let block = blocks[j] as usize;
+        let head = layout.block_head(heads, block);
+        let end = head + layout.index_tail + 1;
+        if !symbols::all_below(&word[head..end], layout.q) {
+            return false;
+        }
+        j += 1;
+    }
+    true
 }
 
 // A value with the digits of one block behind it: the lead digit, which is stored plus 1, and `tail` plain ones.

@@ -13,9 +13,10 @@ use Rattle.combinatorics.proofs.Cases.{by-bool, eqb-same, eqb-true}
 use Rattle.combinatorics.proofs.Lists.{both}
 use Rattle.cells.specs.Bytes.{payloadLen}
 use Rattle.cells.specs.Codec.{Reading, accepted, refused, Codec, Word, Exact}
+use Rattle.cells.specs.Erasures.{foundBound}
 use Rattle.cells.proofs.Codec.{one-pair}
 use Rattle.construction_a.specs.Figures.{Params, inRange, fits, messageLen}
-use Rattle.construction_a.specs.DemandTwo.{constructionA, Listed, no-pattern, too-large, disagreeing}
+use Rattle.construction_a.specs.DemandTwo.{constructionA, Listed, no-pattern, erased-index, too-large, disagreeing, erased-message}
 use Rattle.construction_a.proofs.Figures.{ranged}
 use Rattle.construction_a.proofs.DemandTwo.{demand-two}
 use Rattle.jobs.specs.declared.Entry.{Entry}
@@ -171,8 +172,10 @@ module _ (c : Codec) (exact : Exact c) (two : 2 ≤ c .alphabet) (listed : (w : 
 listed-refusal : (f : Params) (w : List ℕ) (a : ℕ) → Listed f w a → (isRefusal a ≡ true) × (isWordRefusal a ≡ true)
 unfolding isRefusal isWordRefusal any
 listed-refusal f w a (no-pattern _) = (refl, refl)
+listed-refusal f w a (erased-index _ _ _) = (refl, refl)
 listed-refusal f w a (too-large _ _ _) = (refl, refl)
 listed-refusal f w a (disagreeing _ _ _ _) = (refl, refl)
+listed-refusal f w a (erased-message _ _ _ _) = (refl, refl)
 
 -- a reading that the claim is not about fails one of the tests before the word is read
 turn-away : (f : Params) (es : List Entry) (w out : List ℕ) → twice es ≡ false → (Presented (inRange f && fits f) (constructionA f) w out → ⊥)
@@ -185,7 +188,7 @@ turn-away f es w out once unpresented =
     (λ d. by-bool (carriesJob (f .q) (messageLen f))
     (λ v. by-bool (eqb (length w) (f .n))
     (λ n. by-bool (eqb (length out) K)
-    (λ l. by-bool (allBelow (f .q) w)
+    (λ l. by-bool (allBelow (foundBound (f .q)) w)
     (λ s. absurd (unpresented (record { figures = rw (i, d); carries = v; found = record { complete = eqb-true (length w) (f .n) n; symbols = s }; lent = eqb-true (length out) K l })))
     (λ s. (badSymbol, refl, rw (i, once, d, v, n, l, s))))
     (λ l. (wrongLength, refl, rw (i, once, d, v, n, l))))

@@ -16,6 +16,7 @@ use Rattle.cells.specs.Bytes.{byteWidth, payloadLen}
 use Rattle.cells.specs.Cut.{pieceLen, pieceStart, blockAt, blockHead, blockWith}
 use Rattle.cells.specs.Cells.{weave, pick}
 use Rattle.cells.specs.Digits.{span, spell, value, places}
+use Rattle.cells.specs.Erasures.{foundBound, hasErasure}
 use Rattle.construction_a.specs.Figures.{Params, params, inRange, parts, blockMin, leastTail, indexTail, fits, messageLen}
 use Rattle.construction_a.specs.Writing.{becomes, withBurst, withBursts, isBurst, next, partCount, partWith, chosen, beside, isChosen, isIndexIn, isIndex, indexBlocks, isFixed, cellOf, kindAt, plan, word}
 use Rattle.construction_a.specs.Reading.{looksFixed, later, bareParts, openBlocks, indexInPart, collect, indexFound, heads, written, agrees, readRank, read}
@@ -161,17 +162,20 @@ writeOrder =
     ∷ example (readOut (jobReadOut figures (Open 0 ∷ replicate 63 Free) (word figures (6 ∷ []) (replicate 11 0)) (replicate 11 9))) (0 ∷ replicate 11 0)
     ∷ []
 
--- "job read 1 2, 10 for K, 3 4 7 8 9, 10, 12 14", with 23 before 14
+-- "job read 1 2, 10 for K, 3 4 7 8 9, 10, 12 14", with 19 "between 7 and 8" and "after 9", and 23 before 14
 unfoldable pub readOrder : List Example
 readOrder =
     example (readOut (jobReadOut (params 15 257 1 6) emptyTable [] [])) (1 ∷ [])
     ∷ example (readOut (jobReadOut (params 15 256 1 6) emptyTable [] [])) (2 ∷ [])
     ∷ example (readOut (jobReadOut (small 12) emptyTable [] [])) (10 ∷ [])
     -- the word, the payload
-    ∷ example (readsSmall emptyTable (replicate 13 17)) (3 ∷ replicate 5 9)
-    ∷ example (readOut (jobReadOut (small 14) emptyTable (replicate 14 17) (replicate 4 9))) (3 ∷ replicate 4 9)
-    ∷ example (readsSmall emptyTable (replicate 14 17)) (4 ∷ replicate 5 9)
+    ∷ example (readsSmall emptyTable (replicate 13 18)) (3 ∷ replicate 5 9)
+    ∷ example (readOut (jobReadOut (small 14) emptyTable (replicate 14 18) (replicate 4 9))) (3 ∷ replicate 4 9)
+    ∷ example (readsSmall emptyTable (replicate 14 18)) (4 ∷ replicate 5 9)
     ∷ example (readsSmall emptyTable (replicate 14 0)) (7 ∷ replicate 5 9)
+    -- cells without a reading, q of 17: in every first symbol, and in the message before its bytes are looked at
+    ∷ example (readsSmall emptyTable (replicate 14 17)) (7 ∷ replicate 5 9)
+    ∷ example (readsSmall emptyTable (smallWord (15 ∷ 1 ∷ 17 ∷ []))) (19 ∷ replicate 5 9)
     ∷ example (readsSmall emptyTable (smallWord (15 ∷ 1 ∷ 0 ∷ []))) (10 ∷ replicate 5 9)
     ∷ []
 
@@ -185,7 +189,7 @@ pub record Computed : Type 0 where
   pub handed : jobReadOut figures (after opened) (wordWith 255) buffer .answer ≡ served
 
 pub computed : Computed
-unfolding all any sameList sum has first members tabulate top choose rankFrom unrankDown unrank apart inBurst placements reduceFrom expandFrom rankOf startsOf byteWidth payloadLen pieceLen pieceStart blockAt blockHead blockWith weave pick span spell value places inRange parts blockMin leastTail indexTail fits messageLen becomes withBurst withBursts isBurst next partCount partWith chosen beside isChosen isIndexIn isIndex indexBlocks isFixed cellOf kindAt plan word looksFixed later bareParts openBlocks indexInPart collect indexFound heads written agrees readRank read comesTrue firstEntry replaceFirst put twice decide tableFrom carriesJob jobNumber messageOf payloadIn spellsPayload jobWriteOut jobReading jobReadOut transfer spelling writeOrder readOrder flatMap
+unfolding all any sameList sum has first members tabulate top choose rankFrom unrankDown unrank apart inBurst placements reduceFrom expandFrom rankOf startsOf byteWidth payloadLen pieceLen pieceStart blockAt blockHead blockWith weave pick span spell value places inRange parts blockMin leastTail indexTail fits messageLen becomes withBurst withBursts isBurst next partCount partWith chosen beside isChosen isIndexIn isIndex indexBlocks isFixed cellOf kindAt plan word looksFixed later bareParts openBlocks indexInPart collect indexFound heads written agrees foundBound hasErasure readRank read comesTrue firstEntry replaceFirst put twice decide tableFrom carriesJob jobNumber messageOf payloadIn spellsPayload jobWriteOut jobReading jobReadOut transfer spelling writeOrder readOrder flatMap
 computed =
     record {
       transfer-holds = refl;

@@ -11,6 +11,7 @@ use Rattle.combinatorics.specs.Bursts.{apart}
 use Rattle.combinatorics.proofs.Cases.{eqb-same}
 use Rattle.cells.specs.Bytes.{payloadLen}
 use Rattle.cells.specs.Codec.{Reading, accepted, refused}
+use Rattle.cells.specs.Erasures.{foundBound}
 use Rattle.construction_a.specs.Figures.{Params, inRange, fits, messageLen}
 use Rattle.construction_a.specs.Reading.{read}
 use Rattle.construction_a.specs.Outcomes.{Held, inUse, unserved, figuresOut, encodeOut, WordAnswer, rankIs, refusal, unread, decodeAs, decodeOut}
@@ -93,4 +94,4 @@ module _ (f : Params) (es : List Entry) (w out ms : List ℕ) where
         eqb-same (length out) (payloadLen (f .q) (messageLen f)) lent,
         eqb-same (length ms) (messageLen f) room,
       )
-      (alike (eqb (length w) (f .n)) (allBelow (f .q) w) (read f w))
+      (alike (eqb (length w) (f .n)) (allBelow (foundBound (f .q)) w) (read f w))

@@ -9,7 +9,7 @@ use mathlib.Core.Option.{none, some}
 use Prim.Native.Nat.{ℕ}
 use lib.Dec.{eqb}
 use lib.ListN.{length}
-use Rattle.refusals.specs.Refusals.{served, invalid, unfit, wrongLength, badSymbol, noPattern, valueTooLarge, disagrees, badPayload, jobCancelled, notOpen, jobHeld, refusals}
+use Rattle.refusals.specs.Refusals.{served, invalid, unfit, wrongLength, badSymbol, noPattern, valueTooLarge, disagrees, erased, badPayload, jobCancelled, notOpen, jobHeld, refusals}
 use Rattle.combinatorics.specs.Lists.{any}
 use Rattle.cells.specs.Bytes.{payloadLen}
 use Rattle.cells.specs.Codec.{Codec, Word, LeadsTo}
@@ -49,9 +49,9 @@ pub record BothFacts (c : Codec) (ledger : List Call) (w starts payload : List �
 unfoldable pub isRefusal : ℕ → Bool
 isRefusal a = any (eqb a) refusals
 
--- 7, 8, 9 or 10: what a word is refused with that no pair gives
+-- 7, 19, 8, 9 or 10: what a word is refused with that no pair gives
 unfoldable pub isWordRefusal : ℕ → Bool
-isWordRefusal a = any (eqb a) (noPattern ∷ valueTooLarge ∷ disagrees ∷ badPayload ∷ [])
+isWordRefusal a = any (eqb a) (noPattern ∷ erased ∷ valueTooLarge ∷ disagrees ∷ badPayload ∷ [])
 
 -- 1, 2, 3, 4 or 10: what is refused before a word is read
 unfoldable pub isCallRefusal : ℕ → Bool
@@ -65,7 +65,7 @@ pub record HandsOut (c : Codec) (ledger : List Call) (w out : List ℕ) (r : Job
   pub hands : (starts payload : List ℕ) → BothFacts c ledger w starts payload → r ≡ handOut payload
   -- otherwise it is refused, and the lent buffer keeps what it held; the fields below say with which number
   pub otherwise : ((starts payload : List ℕ) → BothFacts c ledger w starts payload → ⊥) → (a : ℕ) × (isRefusal a ≡ true) × (r ≡ withhold out a)
-  -- where the first fact fails, with 7, 8, 9 or 10; which of them, the word alone says (`jobReadOut`)
+  -- where the first fact fails, with 7, 19, 8, 9 or 10; which of them, the word alone says (`jobReadOut`)
   pub no-pair : ((starts payload : List ℕ) → Gives c w starts payload → ⊥) → (a : ℕ) × (isWordRefusal a ≡ true) × (r ≡ withhold out a)
   -- "Where only the second fact fails, the refusal is 12 after a cancellation, 14 after a finishing or no accepted call."
   pub after-cancelling : (starts payload : List ℕ) → OnlyPair c w starts payload → lastLeft ledger (jobNumber payload) ≡ some cancelling
@@ -80,8 +80,8 @@ pub record HandsOut (c : Codec) (ledger : List Call) (w out : List ℕ) (r : Job
 
 -- ---- The claim
 
--- what the claim is about: figures that fit; a payload of 5 bytes or more ("10: K below 5" otherwise); "A strip is complete at n symbols", "each a
--- byte below q"; "buffers fit where refusal 3 doesn't apply"
+-- what the claim is about: figures that fit; a payload of 5 bytes or more ("10: K below 5" otherwise); "A strip is complete at n symbols", each up to q
+-- ("demands 2 and 3 .. now allow any value up to q"); "buffers fit where refusal 3 doesn't apply"
 pub record Presented (fit : Bool) (c : Codec) (w out : List ℕ) : Type 0 where
   pub figures : fit ≡ true
   pub carries : carriesJob (c .alphabet) (c .messageLen) ≡ true

@@ -40,7 +40,8 @@ abbrev pub jobIn : ℕ → ℕ → List Entry → List ℕ → Reading → JobRe
 jobIn q k es out (refused a) = withhold out a
 jobIn q k es out (accepted ss ms) = jobOf q k es out ms
 
--- "10 for K, 3 4 7 8 9, 10, 12 14"; document 02, ticket 10: "It refuses with 23, after 12 and before 14, reading .. a held job"
+-- "10 for K, 3 4 7 8 9, 10, 12 14", where the word's own refusals have 19 among them; document 02, ticket 10: "It refuses with 23, after 12 and before 14,
+-- reading .. a held job"
 unfoldable pub jobReading : Codec → List Entry → List ℕ → List ℕ → JobRead
 jobReading c es w out =
     let q = c .alphabet in
@@ -50,7 +51,7 @@ jobReading c es w out =
     (must (allBelow (c .foundBound) w) (withhold out badSymbol)
     (jobIn q k es out (c .decode w))))
 
--- ---- Under Construction A: "job read 1 2, 10 for K, 3 4 7 8 9, 10, 12 14", with 23 before 14
+-- ---- Under Construction A: "job read 1 2, 10 for K, 3 4 7 8 9, 10, 12 14", with 19 as in word read and 23 before 14
 
 unfoldable pub jobReadOut : Params → List Entry → List ℕ → List ℕ → JobRead
 jobReadOut f es w out =

@@ -11,7 +11,8 @@ use lib.ListN.{length}
 use Rattle.refusals.specs.Refusals.{must, served, invalid, unfit, wrongLength, badSymbol, badDepth}
 use Rattle.combinatorics.specs.Lists.{all, allBelow}
 use Rattle.combinatorics.proofs.Cases.{by-bool, eqb-same, eqb-other, eqb-true, leb-holds, leb-fails}
-use Rattle.combinatorics.proofs.Lists.{both}
+use Rattle.combinatorics.proofs.Lists.{both, below-more}
+use Rattle.cells.proofs.Erasures.{found-least}
 use Rattle.construction_a.specs.DemandTwo.{constructionA}
 use Rattle.construction_a.specs.Figures.{Params, inRange, fits}
 use Rattle.construction_a.specs.Outcomes.{unserved, figuresOut}
@@ -20,17 +21,6 @@ use Rattle.construction_a.proofs.Outcomes.{refused-alike}
 use Rattle.lanes.specs.Interleaving.{inDepth, interleaved, deinterleaved}
 use Rattle.lanes.specs.Outcomes.{Rearranged, unfilled, rearranged, interleaveOut, deinterleaveOut}
 use Rattle.lanes.proofs.Interleaving.{length-transposed, transposed-below, apart-again, together-again}
-
--- every symbol of the alphabet can be found
-found-least : (f : Params) → f .q ≤ constructionA f .foundBound
-found-least f = omega arith
-
-below-more : (q r : ℕ) (xs : List ℕ) → q ≤ r → allBelow q xs ≡ true → allBelow r xs ≡ true
-unfolding all
-below-more q r [] l h = h
-below-more q r (x ∷ xs) l h =
-    let b = both (ltb x q) (allBelow q xs) h in
-    rw (leb-holds (suc x) r (omega (arith, le-of (suc x) q (b .0)))) (below-more q r xs l (b .1))
 
 -- what passes every test, 1 2 18 3 4
 pub record Passes (f : Params) (d bound : ℕ) (from out : List ℕ) : Type 0 where
@@ -145,7 +135,7 @@ apart-back f d words strip out h l =
       depth = p .depth;
       lent = length-transposed d (f .n) words;
       room = l;
-      symbols = below-more (f .q) (constructionA f .foundBound) laid (found-least f) (transposed-below (f .q) d (f .n) words (p .lent) (p .symbols));
+      symbols = below-more (f .q) (constructionA f .foundBound) laid (found-least (f .q)) (transposed-below (f .q) d (f .n) words (p .lent) (p .symbols));
     })
     ∙ ap (λ (x : List ℕ). record { answer = served; buffer = x }) (apart-again d (f .n) words (p .lent)))
 

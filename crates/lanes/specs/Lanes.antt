@@ -72,7 +72,7 @@ module _ (c : Codec) (m b d : ℕ) (ss : List Wear) where
   abbrev pub writtenStrip : (ℕ → List ℕ) → List ℕ
   writtenStrip messages = interleaved d (c .wordLen) (writtenWords messages)
 
-  -- "after damage in those stretches to any symbols of the alphabet": the strip as it is found
+  -- "after damage in those stretches", which may now leave "any value up to q": the strip as it is found
   pub record FoundStrip (messages : ℕ → List ℕ) (strip : List ℕ) : Type 0 where
     pub complete : length strip ≡ d * c .wordLen
     pub symbols : allBelow (c .foundBound) strip ≡ true

@@ -43,7 +43,7 @@ fn interleave_fitting(layout: Layout, depth: u32, words: &[u8], strip: &mut [u8]
     Refusal::NONE
 }
 
-// The strip to words: the same the other way round. Refusals: 1 2 18 3 4.
+// The strip to words: the same the other way round, of found symbols, which may be q. Refusals: 1 2 18 3 4.
 pub fn deinterleave(figures: Params, depth: u32, strip: &[u8], words: &mut [u8]) -> u8
     ensures { λ r. ⌜ unfilled (now (words .exit)) r ≡ deinterleaveOut (given figures) depth (now (strip .entry)) (now (words .entry)) ⌝ }
 {
@@ -59,7 +59,7 @@ fn deinterleave_fitting(layout: Layout, depth: u32, strip: &[u8], words: &mut [u
     requires { ⌜ Fitting layout ⌝ }
     ensures { λ r. ⌜ unfilled (now (words .exit)) r ≡ deinterleaveOut (figuresOf layout) depth (now (strip .entry)) (now (words .entry)) ⌝ }
 {
-    let refusal = judged(layout, depth, layout.q, strip, words.len());
+    let refusal = judged(layout, depth, layout.found_bound(), strip, words.len());
     if refusal != Refusal::NONE {
         return refusal;
     }

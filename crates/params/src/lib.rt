@@ -5,6 +5,7 @@ ghost use Prim.Native.Nat.{_*_, _≤_};
 ghost use Rattle.construction_a.specs.Figures.{params, inRange, maxCount, placementCount, parts as partsOf};
 ghost use Rattle.construction_a.specs.Outcomes.{figuresNumber, figuresOut};
 ghost use Rattle.cells.specs.Cut.{blockHead, blockWith};
+ghost use Rattle.cells.specs.Erasures.{foundBound};
 ghost use Rattle.params.specs.Bridge.{given};
 ghost use Rattle.params.specs.Answer.{figuredAs, layoutNumber, LaidIn};
 ghost use Rattle.params.specs.Blocks.{HasPosition};
@@ -173,6 +174,17 @@ impl Layout {
 
     // Room for the first position of every block, and for the word's length behind them.
     pub const MAX_HEADS: usize = Layout::MAX_BLOCKS + 1;
+
+    // The bound of what can be found in a cell: q itself is a cell without a reading, where a byte has room for it.
+    pub fn found_bound(self) -> u64
+        ensures { λ r. ⌜ r ≡ foundBound (self .q) ⌝ }
+    {
+        if self.q < bytes::BYTE_VALUES {
+            self.q + 1
+        } else {
+            self.q
+        }
+    }
 
     // The block that has position x.
     pub fn block_of(self, x: usize) -> usize

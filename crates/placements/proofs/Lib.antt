@@ -2,3 +2,4 @@ pub mod Filling
 pub mod Scanning
 pub mod Calls
 pub mod Placing
+pub mod Positions

@@ -17,6 +17,8 @@ use params::LayoutAnswer;
 use params::Params;
 use refusals::Refusal;
 
+pub mod bursts;
+
 // "A placement is held as six starts and the count in use"; document 02, ticket 11: "Raise .. a placement's starts to eight." Starts past the
 // count are 0 in an answer and unread in a call.
 pub struct Placement {

@@ -57,6 +57,10 @@ badRecord = 11
 abbrev pub badDepth : ℕ
 badDepth = 18
 
+-- "It refuses with 19 a q in an I-block's first r + 1 symbols, .., and a q among message symbols" (02, 6)
+abbrev pub erased : ℕ
+erased = 19
+
 -- ---- From the state
 
 -- "12: number cancelled."
@@ -95,7 +99,7 @@ notHeld = 24
 abbrev pub refusals : List ℕ
 refusals =
     invalid ∷ unfit ∷ wrongLength ∷ badSymbol ∷ badStarts ∷ uncovered ∷ noPattern ∷ valueTooLarge ∷ disagrees ∷ badPayload ∷ badRecord
-    ∷ badDepth
+    ∷ badDepth ∷ erased
     ∷ jobCancelled ∷ alreadyOpen ∷ notOpen ∷ tableFull ∷ numberZero ∷ notCancelled ∷ jobHeld ∷ notHeld ∷ []
 
 -- An order of refusals, "1 2 3 ..", reads downward: where a test fails the outcome is `else`, and otherwise the next test decides.

@@ -1,6 +1,6 @@
 // The refusal numbers of documents 01 and 02, one name each. Assumes nothing.
 ghost use mathlib.Core.Path.{_≡_};
-ghost use Rattle.refusals.specs.Refusals.{served, invalid, unfit, wrongLength, badSymbol, badStarts, uncovered, noPattern, valueTooLarge, disagrees, badPayload, badRecord, badDepth, jobCancelled, alreadyOpen, notOpen, tableFull, numberZero, notCancelled, jobHeld, notHeld, refusals};
+ghost use Rattle.refusals.specs.Refusals.{served, invalid, unfit, wrongLength, badSymbol, badStarts, uncovered, noPattern, valueTooLarge, disagrees, badPayload, badRecord, badDepth, erased, jobCancelled, alreadyOpen, notOpen, tableFull, numberZero, notCancelled, jobHeld, notHeld, refusals};
 
 // The numbers stand under this name; 0 stands for an accepted call.
 pub struct Refusal {}
@@ -33,6 +33,8 @@ impl Refusal {
 
     pub const DEPTH: u8 = 18;
 
+    pub const ERASED: u8 = 19;
+
     // From the state.
     pub const CANCELLED: u8 = 12;
 
@@ -51,7 +53,7 @@ impl Refusal {
     pub const NOT_HELD: u8 = 24;
 
     // Both lists, in each document 01's numbers and behind them document 02's. Its contract ties each name here to that of specs/.
-    pub fn all() -> [u8; 20]
+    pub fn all() -> [u8; 21]
         ensures list { λ r. ⌜ r ≡ refusals ⌝ }
         ensures { λ _. do ⌜ (← ⟦Refusal::NONE⟧ .entry) ≡ served ⌝ }
         ensures { λ _. do ⌜ (← ⟦Refusal::INVALID⟧ .entry) ≡ invalid ⌝ }
@@ -66,6 +68,7 @@ impl Refusal {
         ensures { λ _. do ⌜ (← ⟦Refusal::PAYLOAD⟧ .entry) ≡ badPayload ⌝ }
         ensures { λ _. do ⌜ (← ⟦Refusal::RECORD⟧ .entry) ≡ badRecord ⌝ }
         ensures { λ _. do ⌜ (← ⟦Refusal::DEPTH⟧ .entry) ≡ badDepth ⌝ }
+        ensures { λ _. do ⌜ (← ⟦Refusal::ERASED⟧ .entry) ≡ erased ⌝ }
         ensures { λ _. do ⌜ (← ⟦Refusal::CANCELLED⟧ .entry) ≡ jobCancelled ⌝ }
         ensures { λ _. do ⌜ (← ⟦Refusal::ALREADY_OPEN⟧ .entry) ≡ alreadyOpen ⌝ }
         ensures { λ _. do ⌜ (← ⟦Refusal::NOT_OPEN⟧ .entry) ≡ notOpen ⌝ }
@@ -88,6 +91,7 @@ impl Refusal {
             Refusal::PAYLOAD,
             Refusal::RECORD,
             Refusal::DEPTH,
+            Refusal::ERASED,
             Refusal::CANCELLED,
             Refusal::ALREADY_OPEN,
             Refusal::NOT_OPEN,

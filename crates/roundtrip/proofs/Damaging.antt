@@ -1,28 +1,15 @@
--- Laws of looking for the burst that has a position, and of damaging a word position by position. Assumes nothing.
+-- Laws of damaging a word position by position. Assumes nothing.
 use mathlib.Core.Path.{_≡_, refl, sym, ap, _∙_}
 use mathlib.Core.Bool.{Bool, true, false, cond}
-use mathlib.Core.List.{List, [], _∷_}
+use mathlib.Core.List.{List}
 use Prim.Native.Nat.{ℕ, _+_, _≤_, _<_}
 use native.Mathlib.Nat.{zero-add}
 use native.Mathlib.Omega.{arith}
 use lib.ListN.{length, getD, set, take, length-set}
 use lib.Seq.{getD-set-same, getD-set-other, take-length}
-use Rattle.combinatorics.specs.Bursts.{inBurst}
 use Rattle.combinatorics.proofs.Cases.{by-eq}
 use Rattle.combinatorics.proofs.Stretch.{take-is}
-use Rattle.roundtrip.specs.Damage.{damaged, holds}
-
-pub burst-next : (b s x : ℕ) (ss : List ℕ) → holds b s x ≡ false → inBurst b (s ∷ ss) x ≡ inBurst b ss x
-unfolding inBurst
-burst-next b s x ss e = rw e
-
-pub burst-found : (b s x : ℕ) (ss : List ℕ) → holds b s x ≡ true → inBurst b (s ∷ ss) x ≡ true
-unfolding inBurst
-burst-found b s x ss e = rw e
-
-pub burst-none : (b x : ℕ) → inBurst b [] x ≡ false
-unfolding inBurst
-burst-none b x = refl
+use Rattle.roundtrip.specs.Damage.{damaged}
 
 -- ---- A word that is damaged before position x, and as it was from there on
 

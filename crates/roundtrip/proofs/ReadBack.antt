@@ -2,7 +2,7 @@
 use mathlib.Core.Path.{_≡_, sym, ap, _∙_}
 use mathlib.Core.Bool.{Bool, true, false, cond}
 use mathlib.Core.List.{List}
-use Prim.Native.Nat.{ℕ, _<_}
+use Prim.Native.Nat.{ℕ, _≤_, _<_}
 use native.Mathlib.Nat.{zero-add}
 use native.Mathlib.Omega.{arith}
 use lib.Dec.{eqb}
@@ -13,6 +13,8 @@ use Rattle.combinatorics.proofs.Cases.{by-bool}
 use Rattle.combinatorics.proofs.Lists.{both, below-at, at-below}
 use Rattle.combinatorics.proofs.Stretch.{length-tabulate, tabulate-at}
 use Rattle.cells.specs.Codec.{LeadsTo}
+use Rattle.cells.specs.Erasures.{foundBound}
+use Rattle.cells.proofs.Erasures.{found-least}
 use Rattle.construction_a.specs.DemandTwo.{constructionA}
 use Rattle.construction_a.specs.Figures.{Params, isPlacement}
 use Rattle.construction_a.specs.Outcomes.{Held, inUse, Encoded, encodeOut, decodeAs, decodeOut}
@@ -37,11 +39,11 @@ module _ (spoilt : ℕ → Bool) (ds w : List ℕ) where
   sound : (x : ℕ) → x < length w → spoilt x ≡ false → getD (damaged spoilt ds w) x 0 ≡ getD w x 0
   sound x l e = damaged-at x l ∙ rw e
 
-  damaged-below : (q : ℕ) → 0 < q → allBelow q ds ≡ true → allBelow q w ≡ true → allBelow q (damaged spoilt ds w) ≡ true
-  damaged-below q some d s =
-      at-below q (damaged spoilt ds w)
+  damaged-below : (q bound : ℕ) → 0 < q → q ≤ bound → allBelow bound ds ≡ true → allBelow q w ≡ true → allBelow bound (damaged spoilt ds w) ≡ true
+  damaged-below q bound some more d s =
+      at-below bound (damaged spoilt ds w)
       (λ x l. rw (damaged-at x (omega (arith, damaged-length)))
-      (by-bool (spoilt x) (λ e. rw e (below-at q ds some d x)) (λ e. rw e (below-at q w some s x))))
+      (by-bool (spoilt x) (λ e. rw e (below-at bound ds (omega arith) d x)) (λ e. rw e (omega (arith, below-at q w some s x)))))
 
 module _ (f : Params) (at : Held) (ms ds w out : List ℕ) (h : Writable f at ms ds w out) where
   ok : Served f
@@ -67,9 +69,9 @@ module _ (f : Params) (at : Held) (ms ds w out : List ℕ) (h : Writable f at ms
   found-len : length found ≡ f .n
   found-len = damaged-length (inBurst (f .b) (inUse at)) ds codeword ∙ written-len
 
-  found-below : allBelow (f .q) found ≡ true
+  found-below : allBelow (foundBound (f .q)) found ≡ true
   found-below =
-      damaged-below (inBurst (f .b) (inUse at)) ds codeword (f .q) (omega (arith, ok .range .q-least)) (h .damage-symbols)
+      damaged-below (inBurst (f .b) (inUse at)) ds codeword (f .q) (foundBound (f .q)) (omega (arith, ok .range .q-least)) (found-least (f .q)) (h .damage-symbols)
       (writes f ok (inUse at) ms (h .placed) (h .sent) (h .symbols) .1)
 
   leads : LeadsTo (constructionA f) found (inUse at) ms

@@ -1,9 +1,8 @@
 -- Damage inside the bursts of a word. Assumes nothing.
 use mathlib.Core.Path.{_≡_}
-use mathlib.Core.Bool.{Bool, cond, _&&_}
+use mathlib.Core.Bool.{Bool, cond}
 use mathlib.Core.List.{List}
-use Prim.Native.Nat.{ℕ, _+_, _≤_}
-use lib.Dec.{leb, ltb}
+use Prim.Native.Nat.{ℕ, _≤_}
 use lib.ListN.{length, getD}
 use Rattle.combinatorics.specs.Stretch.{tabulate}
 use Rattle.construction_a.specs.Figures.{maxBursts}
@@ -17,7 +16,3 @@ damaged spoilt ds w = tabulate (length w) 0 (λ x. cond (spoilt x) (getD ds x 0)
 pub record Damaging (at : Placement) (ds w : List ℕ) : Type 0 where
   pub few : at .count ≤ maxBursts
   pub room : length ds ≡ length w
-
--- whether the burst from s on has position x
-abbrev pub holds : ℕ → ℕ → ℕ → Bool
-holds b s x = leb s x && ltb x (s + b)

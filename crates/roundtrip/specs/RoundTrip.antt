@@ -6,10 +6,11 @@ use Prim.Native.Nat.{ℕ}
 use lib.ListN.{length}
 use Rattle.combinatorics.specs.Lists.{allBelow}
 use Rattle.cells.specs.Codec.{accepted}
+use Rattle.cells.specs.Erasures.{foundBound}
 use Rattle.construction_a.specs.Figures.{Params, inRange, fits, isPlacement, messageLen}
 use Rattle.construction_a.specs.Outcomes.{Held, inUse, Decoded, decodeAs}
 
--- figures that fit, a placement, a message, any symbols of the alphabet as damage, and room for the word and for what is read
+-- figures that fit, a placement, a message, any value up to q as damage, and room for the word and for what is read
 pub record Writable (f : Params) (at : Held) (ms ds w out : List ℕ) : Type 0 where
   pub range : inRange f ≡ true
   pub fit : fits f ≡ true
@@ -18,7 +19,7 @@ pub record Writable (f : Params) (at : Held) (ms ds w out : List ℕ) : Type 0 w
   pub sent : length ms ≡ messageLen f
   pub symbols : allBelow (f .q) ms ≡ true
   pub damage-len : length ds ≡ f .n
-  pub damage-symbols : allBelow (f .q) ds ≡ true
+  pub damage-symbols : allBelow (foundBound (f .q)) ds ≡ true
   pub word-len : length w ≡ f .n
   pub read-len : length out ≡ messageLen f
 

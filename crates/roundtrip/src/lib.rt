@@ -1,19 +1,18 @@
 // Writing, damage inside the bursts and reading back, as one function on lent buffers. Assumes nothing.
 ghost use mathlib.Core.Path.{_≡_};
-ghost use Prim.Native.Nat.{_^_, _≤_, _<_};
 ghost use Rattle.combinatorics.specs.Bursts.{inBurst};
-ghost use Rattle.construction_a.specs.Figures.{maxBursts};
 ghost use Rattle.construction_a.specs.Writing.{word as wordOf};
 ghost use Rattle.params.specs.Bridge.{given};
 ghost use Rattle.placements.specs.Bridge.{heldAs, startsIn};
 ghost use Rattle.decoder.specs.Answer.{decodedAs};
-ghost use Rattle.roundtrip.specs.Damage.{Damaging, damaged, holds};
+ghost use Rattle.roundtrip.specs.Damage.{Damaging, damaged};
 ghost use Rattle.roundtrip.specs.RoundTrip.{Writable, readBack};
 use decoder::Decoded;
 use params::Params;
 use placements::Placement;
+use placements::bursts::in_burst;
 
-// Demand 2 run as code: writes the word of a placement and a message, puts any symbols of the alphabet into its bursts, and reads what is then
+// Demand 2 run as code: writes the word of a placement and a message, puts any values up to q into its bursts, and reads what is then
 // found. No entry point: what it asks for is what `encode` serves, so that the answer of `encode` is 0.
 pub fn round_trip(
     figures: Params,
@@ -44,33 +43,4 @@ fn spoil(at: Placement, b: u32, damage: &[u8], word: &mut [u8])
         }
         x += 1;
     }
-}
-
-// Whether a burst has the position.
-fn in_burst(at: Placement, b: u32, x: u64) -> bool
-    requires { ⌜ at .count ≤ maxBursts ⌝ }
-    ensures { λ r. ⌜ r ≡ inBurst b (startsIn at) x ⌝ }
-{
-    let count = at.count as usize;
-    let mut j: usize = 0;
-    while j < count {
-        let s = at.starts[j];
-        let start = s as u64;
-        if has(start, b, x) {
-            return true;
-        }
-        j += 1;
-    }
-    false
-}
-
-// Whether the burst from `start` on has the position.
-fn has(start: u64, b: u32, x: u64) -> bool
-    requires { ⌜ start < 2 ^ 16 ⌝ }
-    ensures { λ r. ⌜ r ≡ holds b start x ⌝ }
-{
-    if x < start {
-        return false;
-    }
-    x < start + b as u64
 }

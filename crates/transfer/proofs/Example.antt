@@ -11,6 +11,7 @@ use Rattle.cells.specs.Bytes.{byteWidth, payloadLen}
 use Rattle.cells.specs.Cut.{pieceLen, pieceStart, blockAt, blockHead, blockWith}
 use Rattle.cells.specs.Cells.{weave, pick}
 use Rattle.cells.specs.Digits.{span, spell, value, places}
+use Rattle.cells.specs.Erasures.{foundBound, hasErasure}
 use Rattle.construction_a.specs.Figures.{inRange, parts, blockMin, leastTail, indexTail, fits, messageLen}
 use Rattle.construction_a.specs.Writing.{becomes, withBurst, withBursts, isBurst, next, partCount, partWith, chosen, beside, isChosen, isIndexIn, isIndex, indexBlocks, isFixed, cellOf, kindAt, plan, word}
 use Rattle.construction_a.specs.Reading.{looksFixed, later, bareParts, openBlocks, indexInPart, collect, indexFound, heads, written, agrees, readRank, read}
@@ -26,5 +27,5 @@ use Rattle.transfer.specs.Program.{printedFrom, printed}
 use Rattle.transfer.specs.Example.{exampleInput, examplePrinted, rows, RowsHold}
 
 pub rows-hold : RowsHold
-unfolding all any sameList sum has first members tabulate top choose rankFrom unrankDown unrank apart inBurst placements reduceFrom expandFrom rankOf startsOf byteWidth payloadLen pieceLen pieceStart blockAt blockHead blockWith weave pick span spell value places inRange parts blockMin leastTail indexTail fits messageLen becomes withBurst withBursts isBurst next partCount partWith chosen beside isChosen isIndexIn isIndex indexBlocks isFixed cellOf kindAt plan word looksFixed later bareParts openBlocks indexInPart collect indexFound heads written agrees readRank read figuresOut firstEntry replaceFirst put twice decide kindOf carriesJob jobNumber messageOf payloadIn spellsPayload jobWriteOut jobReading jobReadOut decimalLen decimal hexDigit hexByte hex flatMap recordLen serveOut readable printedFrom printed exampleInput examplePrinted rows comesTrue
+unfolding all any sameList sum has first members tabulate top choose rankFrom unrankDown unrank apart inBurst placements reduceFrom expandFrom rankOf startsOf byteWidth payloadLen pieceLen pieceStart blockAt blockHead blockWith weave pick span spell value places foundBound hasErasure inRange parts blockMin leastTail indexTail fits messageLen becomes withBurst withBursts isBurst next partCount partWith chosen beside isChosen isIndexIn isIndex indexBlocks isFixed cellOf kindAt plan word looksFixed later bareParts openBlocks indexInPart collect indexFound heads written agrees readRank read figuresOut firstEntry replaceFirst put twice decide kindOf carriesJob jobNumber messageOf payloadIn spellsPayload jobWriteOut jobReading jobReadOut decimalLen decimal hexDigit hexByte hex flatMap recordLen serveOut readable printedFrom printed exampleInput examplePrinted rows comesTrue
 rows-hold = refl

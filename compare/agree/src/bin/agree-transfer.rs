@@ -71,7 +71,7 @@ struct Tally {
     lines: u64,
     differences: u64,
     /// How often each answer was printed, by letter (the place in LETTERS) and number.
-    answers: [[u64; 18]; LETTERS.len()],
+    answers: [[u64; 25]; LETTERS.len()],
 }
 
 const LETTERS: &[u8; 7] = b"SOCFWRs";
@@ -82,7 +82,7 @@ const POSSIBLE: [&[usize]; 7] = [
     &[0, 12, 15, 17],
     &[0, 12, 14],
     &[0, 5, 10, 12, 14, 17],
-    &[0, 4, 7, 8, 9, 10, 12, 14],
+    &[0, 4, 7, 8, 9, 10, 12, 14, 19],
     &[11],
 ];
 

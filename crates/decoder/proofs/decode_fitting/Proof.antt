@@ -31,31 +31,41 @@ returns-2 c =
 all-below-requires : tie.Need-all-below-requires
 all-below-requires c κs = search needs
 
+can-be-found-requires : tie.Need-can-be-found-requires
+can-be-found-requires c κs = c .all-below .ensures
+
 unread-requires-3 : tie.Need-unread-requires-3
 unread-requires-3 c κs = search needs
 
 returns-3 : tie.Need-returns-3
 returns-3 c =
-    let s = c .before .before .before .before .before .before .before .before .before in
+    let s = c .before .before .before .before .before .before .before .before .before .before in
     c .unread3 .ensures (s .args .message .now)
-    ∙ sym (decode-symbol (f s) (s .args .word .now) (s .args .message .now) (s .pre .range) (s .pre .fit) (c .before .before .before .before .before .if1 .left) (c .before .before .before .if2 .left ∙ s .pre .laid .len-is) (sym (c .before .before .all-below .ensures) ∙ not-true _ (c .before .if3 .taken)))
+    ∙ sym (decode-symbol (f s) (s .args .word .now) (s .args .message .now) (s .pre .range) (s .pre .fit) (c .before .before .before .before .before .before .if1 .left) (c .before .before .before .before .if2 .left ∙ s .pre .laid .len-is) (sym (c .before .before .can-be-found .ensures) ∙ not-true _ (c .before .if3 .taken)))
 
 heads-of-requires : tie.Need-heads-of-requires
 heads-of-requires c κs = search needs
 
 decode-found-requires : tie.Need-decode-found-requires
 decode-found-requires c κs =
-    let s = c .before .before .before .before .before .before .before .before .before .before .before in
-    (record { finding = record { layout = s .pre; complete = c .before .before .before .before .before .before .before .if1 .left }; room = c .before .before .before .before .before .if2 .left ∙ s .pre .laid .len-is }, c .before .before .heads-of .ensures)
+    let s = c .before .before .before .before .before .before .before .before .before .before .before .before in (
+      record {
+        finding = record { layout = s .pre; complete = c .before .before .before .before .before .before .before .before .if1 .left };
+        found = sym (c .before .before .before .before .can-be-found .ensures) ∙ not-false _ (c .before .before .before .if3 .left);
+        scanned = c .before .before .before .before .before .all-below .ensures;
+        room = c .before .before .before .before .before .before .if2 .left ∙ s .pre .laid .len-is;
+      },
+      c .before .before .heads-of .ensures,
+    )
 
 same-length : tie.Need-same-length
 same-length c = search needs
 
 returns-4 : tie.Need-returns-4
 returns-4 c =
-    let s = c .before .before .before .before .before .before .before .before .before .before .before .before .before .before in
+    let s = c .before .before .before .before .before .before .before .before .before .before .before .before .before .before .before in
     c .before .before .decode-found .ensures
-    ∙ sym (decode-read (f s) (s .args .word .now) (s .args .message .now) (s .pre .range) (s .pre .fit) (c .before .before .before .before .before .before .before .before .before .before .if1 .left) (c .before .before .before .before .before .before .before .before .if2 .left ∙ s .pre .laid .len-is) (sym (c .before .before .before .before .before .before .before .all-below .ensures) ∙ not-false _ (c .before .before .before .before .before .before .if3 .left)))
+    ∙ sym (decode-read (f s) (s .args .word .now) (s .args .message .now) (s .pre .range) (s .pre .fit) (c .before .before .before .before .before .before .before .before .before .before .before .if1 .left) (c .before .before .before .before .before .before .before .before .before .if2 .left ∙ s .pre .laid .len-is) (sym (c .before .before .before .before .before .before .before .can-be-found .ensures) ∙ not-false _ (c .before .before .before .before .before .before .if3 .left)))
 
 pub decode-fitting-spec : {M : Type 1} → statement M
 decode-fitting-spec =
@@ -66,6 +76,7 @@ decode-fitting-spec =
     unread-requires-2
     returns-2
     all-below-requires
+    can-be-found-requires
     unread-requires-3
     returns-3
     heads-of-requires

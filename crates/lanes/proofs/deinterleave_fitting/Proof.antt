@@ -1,5 +1,5 @@
 -- `deinterleave_fitting` meets its contract: what is refused, and otherwise the table transposed. Assumes nothing.
-use mathlib.Core.Path.{refl, sym, ap, _∙_}
+use mathlib.Core.Path.{_≡_, refl, sym, ap, _∙_}
 use mathlib.Core.List.{List}
 use Prim.Native.Nat.{ℕ}
 use native.Mathlib.Nat.{mul-comm}
@@ -7,11 +7,22 @@ use Rattle.refusals.specs.Refusals.{served}
 use Rattle.construction_a.specs.DemandTwo.{constructionA}
 use Rattle.params.specs.Given.{figuresOf}
 use Rattle.lanes.specs.Interleaving.{deinterleaved}
-use Rattle.lanes.specs.Outcomes.{unfilled, deinterleaveOut}
+use Rattle.lanes.specs.Outcomes.{unfilled, rearranged, deinterleaveOut}
 use Rattle.lanes.proofs.Outcomes.{passes, judged-refused, judged-passed}
 use borrow.Author.Needs.{needs}
 use Rattle.lanes.proofs.deinterleave_fitting.Statement.{statement}
 use Rattle.lanes.proofs.deinterleave_fitting.Tie as tie
+
+-- the test of the symbols is by the bound of what can be found
+told : (c : tie.After-judged) (taken : List ℕ) → (let a = c .before .before .before .before .args in let f = figuresOf (a .layout) in
+    c .judged .result ≡ rearranged f (a .depth) (constructionA f .foundBound) (a .strip .now) (a .words .now) taken .answer)
+told c taken =
+    let a = c .before .before .before .before .args in
+    c .judged .ensures (a .words .now) taken refl
+    ∙ ap (λ (n : ℕ). rearranged (figuresOf (a .layout)) (a .depth) n (a .strip .now) (a .words .now) taken .answer) (c .before .found-bound .ensures)
+
+found-bound-requires : tie.Need-found-bound-requires
+found-bound-requires c κs = search needs
 
 judged-requires : tie.Need-judged-requires
 judged-requires c κs = search needs
@@ -19,21 +30,19 @@ judged-requires c κs = search needs
 returns : tie.Need-returns
 unfolding deinterleaveOut
 returns c =
-    let s = c .before .before .before .before in
-    let taken = deinterleaved (s .args .depth) (s .args .layout .n) (s .args .strip .now) in
-    let f = figuresOf (s .args .layout) in
-    let told = c .before .judged .ensures (s .args .words .now) taken refl in
-    judged-refused f (s .args .depth) (constructionA f .foundBound) (s .args .strip .now)
-    (s .args .words .now) taken (c .before .judged .result) told (c .if1 .taken)
-
-transpose-requires : tie.Need-transpose-requires
-transpose-requires c κs =
     let s = c .before .before .before .before .before in
     let taken = deinterleaved (s .args .depth) (s .args .layout .n) (s .args .strip .now) in
     let f = figuresOf (s .args .layout) in
-    let told = c .before .before .judged .ensures (s .args .words .now) taken refl in
+    judged-refused f (s .args .depth) (constructionA f .foundBound) (s .args .strip .now)
+    (s .args .words .now) taken (c .before .judged .result) (told (c .before) taken) (c .if1 .taken)
+
+transpose-requires : tie.Need-transpose-requires
+transpose-requires c κs =
+    let s = c .before .before .before .before .before .before in
+    let taken = deinterleaved (s .args .depth) (s .args .layout .n) (s .args .strip .now) in
+    let f = figuresOf (s .args .layout) in
     let p = judged-passed f (s .args .depth) (constructionA f .foundBound)
-    (s .args .strip .now) (s .args .words .now) taken (c .before .before .judged .result) told (c .before .if1 .left) in
+    (s .args .strip .now) (s .args .words .now) taken (c .before .before .judged .result) (told (c .before .before) taken) (c .before .if1 .left) in
     let swap = mul-comm (s .args .depth) (s .args .layout .n) in
     (record { source = p .lent ∙ swap; room = p .room ∙ swap })
 
@@ -43,17 +52,16 @@ same-length c = search needs
 returns-2 : tie.Need-returns-2
 unfolding deinterleaveOut
 returns-2 c =
-    let s = c .before .before .before .before .before .before .before .before in
+    let s = c .before .before .before .before .before .before .before .before .before in
     let taken = deinterleaved (s .args .depth) (s .args .layout .n) (s .args .strip .now) in
     let f = figuresOf (s .args .layout) in
-    let told = c .before .before .before .before .before .judged .ensures (s .args .words .now) taken refl in
     ap (λ (x : List ℕ). unfilled x served) (c .before .before .transpose .ensures)
     ∙ sym (passes f (s .args .depth) (constructionA f .foundBound) (s .args .strip .now)
     (s .args .words .now) taken
     (judged-passed f (s .args .depth) (constructionA f .foundBound) (s .args .strip .now)
     (s .args .words .now) taken
-    (c .before .before .before .before .before .judged .result) told (c .before .before .before .before .if1 .left)))
+    (c .before .before .before .before .before .judged .result) (told (c .before .before .before .before .before) taken) (c .before .before .before .before .if1 .left)))
 
 pub deinterleave-fitting-spec : {M : Type 1} → statement M
 deinterleave-fitting-spec =
-    tie.close (tie.spec judged-requires returns transpose-requires same-length returns-2)
+    tie.close (tie.spec found-bound-requires judged-requires returns transpose-requires same-length returns-2)

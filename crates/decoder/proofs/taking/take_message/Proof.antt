@@ -45,7 +45,7 @@ loop-holds c =
     let s = c .before .before .before in
     let l = s .args .layout in
     let p = s .pre .0 .placing in
-    let complete = s .pre .0 .lent .finding .complete in (
+    let complete = s .pre .0 .finding .complete in (
       blocks-is l (p .layout),
       omega arith,
       entering-first (w s),
@@ -54,7 +54,7 @@ loop-holds c =
         whole = complete;
         so-far =
             taken-start (l .n) (messageLen (figuresOf l)) (kindAt (figuresOf l) (startsIn (s .args .at))) (s .args .word .now) complete (all l (s .args .at) p) (s .args .message .now)
-            (s .pre .0 .lent .room);
+            (s .pre .0 .room);
       },
     )
 
@@ -79,7 +79,7 @@ loop-again c =
     (t .inv .0, omega arith, rw (add-one (t .block)) (r .1), r .0)
 
 same-length : tie.Need-same-length Inv-loop μ-loop
-same-length c = c .before .loop .inv .3 .so-far .size ∙ sym (c .before .before .before .before .before .pre .0 .lent .room)
+same-length c = c .before .loop .inv .3 .so-far .size ∙ sym (c .before .before .before .before .before .pre .0 .room)
 
 returns : tie.Need-returns Inv-loop μ-loop
 unfolding plan

@@ -10,10 +10,10 @@ use lib.ListN.{length, drop, getD}
 use Rattle.combinatorics.specs.Bursts.{inBurst}
 use Rattle.combinatorics.proofs.Loops.{left-next, left-none}
 use Rattle.construction_a.specs.Figures.{maxBursts}
 use Rattle.placements.specs.Bridge.{startsIn}
-use Rattle.roundtrip.proofs.Damaging.{burst-next, burst-found, burst-none}
-use Rattle.roundtrip.proofs.in_burst.Statement.{statement}
-use Rattle.roundtrip.proofs.in_burst.Tie as tie
+use Rattle.placements.proofs.Positions.{burst-next, burst-found, burst-none}
+use Rattle.placements.proofs.bursts.in_burst.Statement.{statement}
+use Rattle.placements.proofs.bursts.in_burst.Tie as tie
 
 abbrev Inv-loop : tie.InvT-loop
 Inv-loop b x at count j₀ j = (j ≤ at .count) × (inBurst b (drop j (startsIn at)) x ≡ inBurst b (startsIn at) x)

@@ -2,8 +2,8 @@
 use native.Mathlib.Omega.{arith}
 use borrow.Author.Needs.{needs}
 use Rattle.combinatorics.proofs.Cases.{leb-holds, leb-fails}
-use Rattle.roundtrip.proofs.has.Statement.{statement}
-use Rattle.roundtrip.proofs.has.Tie as tie
+use Rattle.placements.proofs.bursts.has.Statement.{statement}
+use Rattle.placements.proofs.bursts.has.Tie as tie
 
 returns : tie.Need-returns
 returns c = rw (leb-fails (c .before .args .start) (c .before .args .x) (c .if1 .taken))

@@ -1,0 +1,189 @@
+//! Document 02's change request 6: cells without a reading.
+
+use std::collections::HashMap;
+
+use second::codec::{decode, encode};
+use second::job::read_job;
+use second::{Book, Figures};
+
+fn figures(n: u32, q: u32, m: u32, b: u32) -> Figures {
+    Figures::new(n, q, m, b).expect("these figures fit")
+}
+
+/// The answer for a word, whose message and starts are kept where it is refused.
+fn answer(f: &Figures, word: &[u8]) -> u8 {
+    let (mut message, mut starts) = (vec![0xEE; f.k], vec![0xEEEE; f.m]);
+    let answer = decode(f, word, &mut message, &mut starts);
+    let kept =
+        message.iter().all(|&symbol| symbol == 0xEE) && starts.iter().all(|&start| start == 0xEEEE);
+    assert!(answer == 0 || kept);
+    answer
+}
+
+/// The word with these cells changed.
+fn changed(word: &[u8], cells: &[usize], value: u8) -> Vec<u8> {
+    let mut word = word.to_vec();
+    cells.iter().for_each(|&cell| word[cell] = value);
+    word
+}
+
+/// Document 01's first strip, with blocks of 10: block 0 is F, block 1 has the run at 12, block 2 is I.
+fn first() -> (Figures, Vec<u8>) {
+    let f = figures(30, 2, 1, 3);
+    let mut word = vec![0; 30];
+    assert_eq!(encode(&f, &[12], &[1; 20], &mut word), 0);
+    (f, word)
+}
+
+#[test]
+fn one_silent_cell() {
+    let (f, word) = first();
+    for cell in 0..30 {
+        let wanted = match cell {
+            // No block looks F any more.
+            0 => 7,
+            12..=14 => 0,
+            // A message cell, block 1's first one too, or one of the I-block's first 6.
+            _ => 19,
+        };
+        assert_eq!(
+            answer(&f, &changed(&word, &[cell], 2)),
+            wanted,
+            "cell {cell}"
+        );
+        // A value above q goes first.
+        assert_eq!(answer(&f, &changed(&word, &[cell], 3)), 4);
+    }
+    assert_eq!(answer(&f, &changed(&word, &[12, 13, 14], 2)), 0);
+    assert_eq!(answer(&f, &[2; 30]), 7);
+}
+
+#[test]
+fn the_order() {
+    let (f, word) = first();
+    // The I-block's symbols spell T or more: 8, but 19 where one of them is silent, whichever it is.
+    let value = changed(&word, &[21, 24, 25], 1);
+    assert_eq!(answer(&f, &value), 8);
+    for cell in 20..26 {
+        assert_eq!(answer(&f, &changed(&value, &[cell], 2)), 19);
+    }
+    // A silent message cell comes after 8 and after 9.
+    assert_eq!(answer(&f, &changed(&value, &[29], 2)), 8);
+    let other = changed(&word, &[21, 22, 23, 24, 25], 0);
+    assert_eq!(answer(&f, &other), 9);
+    assert_eq!(answer(&f, &changed(&other, &[29], 2)), 9);
+    assert_eq!(answer(&f, &changed(&other, &[25], 2)), 19);
+    // Block 0 looks F no more, and then 7 goes before 19.
+    assert_eq!(answer(&f, &changed(&word, &[0, 25, 29], 2)), 7);
+}
+
+/// With two blocks to a part, an F-block's silent first symbol can leave the pattern as it was.
+#[test]
+fn a_silent_fixed_symbol() {
+    let f = figures(60, 4, 2, 4);
+    let mut word = vec![0; 60];
+    assert_eq!(encode(&f, &[8, 12], &[3; 44], &mut word), 0);
+    for cell in [40, 50] {
+        assert_eq!(word[cell], 0);
+        assert_eq!(answer(&f, &changed(&word, &[cell], 4)), 9);
+        // 9 goes before the message's 19, and the I-blocks' before 9.
+        assert_eq!(answer(&f, &changed(&word, &[cell, 59], 4)), 9);
+        assert_eq!(answer(&f, &changed(&word, &[cell, 22], 4)), 19);
+    }
+    // Parts 1 and 2 have no block that looks F, which gives part 2; with block 1 no part has one.
+    assert_eq!(answer(&f, &changed(&word, &[40, 50], 4)), 19);
+    assert_eq!(answer(&f, &changed(&word, &[10, 40, 50], 4)), 7);
+}
+
+/// Every value of a byte is a symbol where q is 256, and 255 is the only silent one where q is 255.
+#[test]
+fn the_largest_alphabets() {
+    for (q, wanted) in [(256, 0), (255, 19), (254, 4)] {
+        let f = figures(15, q, 1, 2);
+        let mut word = vec![0; 15];
+        assert_eq!(encode(&f, &[6], &vec![7; f.k], &mut word), 0);
+        assert_eq!(answer(&f, &changed(&word, &[14], 255)), wanted);
+        let inside = if wanted == 4 { 4 } else { 0 };
+        assert_eq!(answer(&f, &changed(&word, &[6, 7], 255)), inside);
+    }
+}
+
+/// The list of digits of each number below base^len.
+fn lists(base: u32, len: usize) -> impl Iterator<Item = Vec<u8>> {
+    let digit = move |value: u32, i: usize| (value / base.pow(i as u32) % base) as u8;
+    (0..base.pow(len as u32)).map(move |value| (0..len).map(|i| digit(value, i)).collect())
+}
+
+/// A word is accepted exactly where one placement and message, with any values up to q inside the runs, lead to it, and it is read as those.
+#[test]
+fn every_word_of_small_figures() {
+    let small = [
+        (3, 4, 1, 1),
+        (4, 5, 1, 1),
+        (5, 6, 1, 1),
+        (6, 3, 1, 1),
+        (6, 4, 1, 1),
+        (6, 5, 1, 1),
+        (6, 5, 2, 1),
+        (6, 6, 1, 2),
+        (7, 4, 1, 1),
+    ];
+    for (n, q, m, b) in small {
+        let f = figures(n, q, m, b);
+        let written = all_found(&f);
+        for word in lists(q + 2, f.n) {
+            let (mut message, mut starts) = (vec![0; f.k], vec![0; f.m]);
+            let answer = decode(&f, &word, &mut message, &mut starts);
+            let read = (answer == 0).then_some((starts, message));
+            assert_eq!(read.as_ref(), written.get(&word), "{f:?} {word:?}");
+            assert_eq!(answer == 4, word.iter().any(|&value| value as u32 > q));
+            assert!([0, 4, 7, 8, 9, 19].contains(&answer));
+            assert!(answer != 19 || f.silent(&word));
+        }
+    }
+}
+
+/// Every word that can be found, with its placement and message.
+fn all_found(f: &Figures) -> HashMap<Vec<u8>, (Vec<u16>, Vec<u8>)> {
+    let mut found = HashMap::new();
+    for rank in 0..f.t {
+        let starts = second::choose::unrank(f, rank)[..f.m].to_vec();
+        for message in lists(f.q, f.k) {
+            let mut word = vec![0; f.n];
+            assert_eq!(encode(f, &starts, &message, &mut word), 0);
+            for damage in lists(f.q + 1, f.m * f.b) {
+                for (run, values) in starts.iter().zip(damage.chunks_exact(f.b)) {
+                    let run = *run as usize;
+                    word[run..run + f.b].copy_from_slice(values);
+                }
+                let former = found.insert(word.clone(), (starts.clone(), message.clone()));
+                assert!(former.is_none(), "two lead to {word:?}");
+            }
+        }
+    }
+    found
+}
+
+#[test]
+fn jobs() {
+    let f = figures(30, 255, 1, 2);
+    let mut book = Book::default();
+    assert_eq!(book.open(7), 0);
+    let mut message = vec![0; f.k];
+    // A byte takes two symbols.
+    (message[7], message[9]) = (7, 65);
+    let mut word = vec![0; 30];
+    assert_eq!(encode(&f, &[6], &message, &mut word), 0);
+    let read = |word: &[u8]| {
+        let mut payload = vec![0xEE; f.k / 2];
+        let answer = read_job(&f, &book, word, &mut payload);
+        assert_eq!(answer != 0, payload[0] == 0xEE);
+        answer
+    };
+    assert_eq!(read(&word), 0);
+    assert_eq!(read(&changed(&word, &[6, 7], 255)), 0);
+    // Two symbols that spell 256 or more are 10; a silent cell elsewhere goes before.
+    let odd = changed(&word, &[28], 254);
+    assert_eq!(read(&odd), 10);
+    assert_eq!(read(&changed(&odd, &[29], 255)), 19);
+}
