@@ -47,6 +47,41 @@ static void first_strip(const char *what, unsigned wanted, uint32_t q, uint32_t 
     see(what, answer, wanted, word + 30, untouched + 30, sizeof word - 30);
 }
 
+/* The check of that word against its placement and message, with one of its symbols altered. */
+static void check(const char *what, unsigned wanted, uint32_t q, uint32_t b, uint16_t start, size_t starts_len, uint8_t last, size_t message_len, size_t at, uint8_t value, size_t word_len)
+{
+    uint8_t starts[4] = {(uint8_t)(start >> 8), (uint8_t)start, 0, 0}, message[24], word[32];
+    memset(message, 1, sizeof message);
+    message[19] = last;
+    memset(word, 0, sizeof word);
+    memcpy(word, first_word, 30);
+    word[at] = value;
+    unsigned answer = burgzemi_verify(30, q, 1, b, starts, starts_len, message, message_len, word, word_len);
+    see(what, answer, wanted, untouched, untouched, 1);
+}
+
+static void checks(void)
+{
+    check("as it is written", BURGZEMI_SERVED, 2, 3, 12, 2, 1, 20, 0, 0, 30);
+    check("damage in the burst", BURGZEMI_SERVED, 2, 3, 12, 2, 1, 20, 14, 1, 30);
+    check("a silent cell in the burst", BURGZEMI_SERVED, 2, 3, 12, 2, 1, 20, 12, 2, 30);
+    check("another symbol in the message", BURGZEMI_DIFFERS, 2, 3, 12, 2, 1, 20, 29, 0, 30);
+    check("another fixed symbol", BURGZEMI_DIFFERS, 2, 3, 12, 2, 1, 20, 0, 1, 30);
+    check("another digit", BURGZEMI_DIFFERS, 2, 3, 12, 2, 1, 20, 25, 1, 30);
+    check("a silent cell before the burst", BURGZEMI_DIFFERS, 2, 3, 12, 2, 1, 20, 11, 2, 30);
+    check("another message", BURGZEMI_DIFFERS, 2, 3, 12, 2, 0, 20, 0, 0, 30);
+    check("another start", BURGZEMI_DIFFERS, 2, 3, 11, 2, 1, 20, 0, 0, 30);
+    check("q of 1", BURGZEMI_INVALID, 1, 6, 12, 1, 2, 21, 13, 3, 29);
+    check("b of 6", BURGZEMI_UNFIT, 2, 6, 12, 1, 2, 21, 13, 3, 29);
+    check("starts short", BURGZEMI_LENGTH, 2, 3, 28, 1, 2, 20, 13, 3, 30);
+    check("message long", BURGZEMI_LENGTH, 2, 3, 28, 2, 2, 21, 13, 3, 30);
+    check("word short", BURGZEMI_LENGTH, 2, 3, 28, 2, 2, 20, 13, 3, 29);
+    check("word long", BURGZEMI_LENGTH, 2, 3, 28, 2, 2, 20, 13, 3, 31);
+    check("start past the end", BURGZEMI_STARTS, 2, 3, 28, 2, 2, 20, 13, 3, 30);
+    check("a message symbol of 2", BURGZEMI_SYMBOL, 2, 3, 12, 2, 2, 20, 0, 1, 30);
+    check("a value of 3 in the burst", BURGZEMI_SYMBOL, 2, 3, 12, 2, 1, 20, 13, 3, 30);
+}
+
 static void words(void)
 {
     first_strip("first strip", BURGZEMI_SERVED, 2, 3, 12, 2, 1, 20, 30);
@@ -470,6 +505,7 @@ static void transfer_example(void)
 int main(void)
 {
     words();
+    checks();
     large_strip("4096 symbols, 6 bursts", BURGZEMI_MAX_WORD, 6, 112, 3388);
     large_strip("999 symbols, 8 bursts", 999, BURGZEMI_MAX_BURSTS, 15, 823);
     maps();

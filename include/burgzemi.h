@@ -51,6 +51,9 @@ enum burgzemi_answer {
 /* The most words that lie side by side: BURGZEMI_MAX_DEPTH * BURGZEMI_MAX_WORD bytes hold any strip of them. */
 #define BURGZEMI_MAX_DEPTH 16
 
+/* What burgzemi_verify answers for a word that disagrees; no refusal has this number. */
+#define BURGZEMI_DIFFERS 255
+
 /* What burgzemi_message_len and burgzemi_payload_len answer for figures that are refused. */
 #define BURGZEMI_NO_LENGTH UINT32_MAX
 
@@ -106,6 +109,18 @@ uint8_t burgzemi_encode(uint32_t n, uint32_t q, uint32_t m, uint32_t b,
                         const uint8_t *starts, size_t starts_len,
                         const uint8_t *message, size_t message_len,
                         uint8_t *word, size_t word_len);
+
+/*
+ * Checks a found word of n values against the placement and the message that it should hold: BURGZEMI_SERVED, yes, where it agrees with the word that
+ * burgzemi_encode would write at every position outside the bursts; BURGZEMI_DIFFERS, no, where it doesn't. What the cells inside the bursts hold makes
+ * no difference; a silent cell, q, disagrees outside them. Only 0 is yes.
+ *
+ * Refusals: those of burgzemi_encode, in its order; 3 also where word_len is not n, and 4 also for a value above q anywhere in the word.
+ */
+uint8_t burgzemi_verify(uint32_t n, uint32_t q, uint32_t m, uint32_t b,
+                        const uint8_t *starts, size_t starts_len,
+                        const uint8_t *message, size_t message_len,
+                        const uint8_t *word, size_t word_len);
 
 /*
  * Puts the starts of the placement of least rank whose bursts cover every defect into `starts`, 2 bytes each. `map` has n bytes, 1 where a position is

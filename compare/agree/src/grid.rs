@@ -97,6 +97,7 @@ pub fn run(judge: &mut Judge) {
         judge.lengths(f);
         judge.decode(f, &[], 0, 0);
         judge.encode(f, &[], &[], 0);
+        judge.verify(f, &[], &[], &[]);
         judge.cover(f, &[], 0);
         judge.interleave(f, depth, &[], 0);
         judge.deinterleave(f, depth, &[], 0);

@@ -1,5 +1,6 @@
 //! The judge: makes each call on both sides, compares answers and every byte of the buffers, and counts.
 
+use second::raw::DIFFERS;
 use second::Figures;
 
 use crate::lent::Lent;
@@ -14,6 +15,7 @@ pub enum Op {
     Figures,
     Encode,
     Decode,
+    Verify,
     Cover,
     Interleave,
     Deinterleave,
@@ -44,10 +46,11 @@ impl Op {
 }
 
 /// Each kind of call, its name, and the answers that it can give, each of which a gate run must see.
-pub const OPS: [(Op, &str, &[u8]); 15] = [
+pub const OPS: [(Op, &str, &[u8]); 16] = [
     (Op::Figures, "figures", &[0, 1, 2]),
     (Op::Encode, "word write", &[0, 1, 2, 3, 4, 5]),
     (Op::Decode, "word read", &[0, 1, 2, 3, 4, 7, 8, 9, 19]),
+    (Op::Verify, "verify", &[0, 1, 2, 3, 4, 5, DIFFERS]),
     (Op::Cover, "covering", &[0, 1, 2, 3, 4, 6]),
     (Op::Interleave, "interleave", &[0, 1, 2, 3, 4, 18]),
     (Op::Deinterleave, "deinterleave", &[0, 1, 2, 3, 4, 18]),
@@ -195,6 +198,19 @@ impl Judge {
         answer
     }
 
+    /// The word and the message are lent as written buffers are, and must be left as they were.
+    pub fn verify(&mut self, f: Numbers, starts: &[u8], message: &[u8], word: &[u8]) -> u8 {
+        let bytes = [starts, message, word];
+        let inputs = || format!("{f:?} starts, message, word {}", all(&bytes));
+        let lent = (Lent::holding(word), Lent::holding(message));
+        let answer = self.both(Op::Verify, lent.0, lent.1, &inputs, &|side, out, also| {
+            (side.verify)(f, starts, also, out)
+        });
+        let kept = answer.out == word && answer.also == message;
+        self.expect(Op::Verify, kept, &inputs, "a list or a word was touched");
+        answer.number
+    }
+
     pub fn cover(&mut self, f: Numbers, map: &[u8], starts: usize) -> Answer {
         let inputs = || format!("{f:?} map {} starts {starts}", hex(map));
         self.both(
@@ -272,7 +288,8 @@ impl Judge {
     }
 }
 
-fn all(lists: &[&[u8]]) -> String {
+/// Several lists of bytes, as printed in a difference.
+pub fn all(lists: &[&[u8]]) -> String {
     let lists: Vec<String> = lists.iter().map(|bytes| hex(bytes)).collect();
     lists.join("  ")
 }

@@ -13,7 +13,7 @@ const PAYLOAD: usize = 11;
 type Call<'a> = &'a mut dyn FnMut(&mut [u8]) -> u8;
 
 /// Each call without a table, with one length replaced; `with` lends a buffer that is too long.
-fn word_calls(side: &Side, with: &mut dyn FnMut(usize, Call) -> u8) -> [u8; 8] {
+fn word_calls(side: &Side, with: &mut dyn FnMut(usize, Call) -> u8) -> [u8; 11] {
     let f = FIGURES;
     let (mut word, mut payload, mut starts) = ([0; WORD], [0; PAYLOAD], [0; 2]);
     [
@@ -29,6 +29,9 @@ fn word_calls(side: &Side, with: &mut dyn FnMut(usize, Call) -> u8) -> [u8; 8] {
             (side.decode)(f, &word, long, &mut starts)
         }),
         with(2, &mut |long| (side.decode)(f, &word, &mut payload, long)),
+        with(2, &mut |long| (side.verify)(f, long, &payload, &word)),
+        with(PAYLOAD, &mut |long| (side.verify)(f, &starts, long, &word)),
+        with(WORD, &mut |long| (side.verify)(f, &starts, &payload, long)),
         with(WORD, &mut |long| (side.cover)(f, long, &mut starts)),
         with(2, &mut |long| (side.cover)(f, &word, long)),
     ]

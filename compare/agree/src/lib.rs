@@ -16,4 +16,5 @@ pub mod silent;
 pub mod streams;
 pub mod strips;
 mod tally;
+pub mod verify;
 pub mod words;

@@ -2,7 +2,7 @@
 
 use second::blocks::{burst_blocks, index_blocks, Layout};
 
-use crate::judge::{Judge, Op};
+use crate::judge::{hex, Judge, Op};
 use crate::make::{damage, numbers, silent_value};
 use crate::rng::Rng;
 use crate::words::Strip;
@@ -60,6 +60,6 @@ pub fn outside(judge: &mut Judge, rng: &mut Rng, strip: &Strip) {
         Use::Fixed => [7, 8, 9, 19].contains(&read.number),
         _ => read.number == 19,
     };
-    let inputs = || format!("{f:?} {:?} word {word:?}", strip.starts);
+    let inputs = || format!("{f:?} {:?} word {}", strip.starts, hex(&word));
     judge.expect(Op::Decode, right, &inputs, "a silent cell outside the runs");
 }

@@ -11,7 +11,7 @@ use crate::make::{
 };
 use crate::rng::Rng;
 use crate::sides::{PROVED, SECOND};
-use crate::silent;
+use crate::{silent, verify};
 
 /// A strip: figures, a placement, a message and its word.
 pub struct Strip {
@@ -26,10 +26,11 @@ pub fn round(judge: &mut Judge, rng: &mut Rng) {
     let f = figures(rng);
     let strip = written(judge, rng, f);
     read_back(judge, rng, &strip);
-    for _ in 0..3 {
+    for _ in 0..2 {
         altered(judge, rng, &strip);
     }
     silent::outside(judge, rng, &strip);
+    verify::round(judge, rng, &strip);
     other_value(judge, rng, &strip);
     any_word(judge, rng, &f);
     refused_writing(judge, rng, &strip);

@@ -1,4 +1,4 @@
-//! The word writer and the word reader.
+//! The word writer, the check of words from elsewhere, and the word reader.
 
 use crate::blocks::{burst_blocks, index_blocks, pattern, Layout, Reserved};
 use crate::choose::{rank, unrank};
@@ -59,6 +59,24 @@ fn write_rank(f: &Figures, layout: &Layout, index: u64, rank: u64, word: &mut [u
         word[begin] = (left % (q - 1)) as u8 + 1;
         left /= q - 1;
     }
+}
+
+/// Whether a found word agrees with the word of a placement and a message at every position outside the runs. Refusals 3 5 4.
+pub fn verify(f: &Figures, starts: &[u16], message: &[u8], word: &[u8]) -> Result<bool, u8> {
+    let mut wanted = vec![0; f.n];
+    if word.len() != f.n {
+        return Err(3);
+    }
+    match encode(f, starts, message, &mut wanted) {
+        0 if f.found(word) => {}
+        0 => return Err(4),
+        refusal => return Err(refusal),
+    }
+    let inside = |at: usize| {
+        let mut runs = starts.iter().map(|&start| start as usize);
+        runs.any(|start| (start..start + f.b).contains(&at))
+    };
+    Ok((0..f.n).all(|at| word[at] == wanted[at] || inside(at)))
 }
 
 /// Reads a found word: its message and the placement. Refusals 3 4 7 19 8 9 19.

@@ -9,6 +9,8 @@ use crate::{codec, cover as planner, job, lanes};
 pub const SLOT: usize = 5;
 pub const TABLE: usize = PLACES * SLOT;
 pub const NO_LENGTH: u32 = u32::MAX;
+/// What `verify` answers for a word that doesn't agree.
+pub const DIFFERS: u8 = 255;
 
 /// The four figures as numbers.
 pub type Numbers = (u32, u32, u32, u32);
@@ -101,6 +103,21 @@ pub fn decode(numbers: Numbers, word: &[u8], message: &mut [u8], starts: &mut [u
         put_starts(&found[..f.m], starts);
     }
     answer
+}
+
+pub fn verify(numbers: Numbers, starts: &[u8], message: &[u8], word: &[u8]) -> u8 {
+    let f = match figures(numbers) {
+        Ok(f) => f,
+        Err(refusal) => return refusal,
+    };
+    if starts.len() != 2 * f.m {
+        return 3;
+    }
+    match codec::verify(&f, &starts_of(starts)[..f.m], message, word) {
+        Ok(true) => 0,
+        Ok(false) => DIFFERS,
+        Err(refusal) => refusal,
+    }
 }
 
 pub fn cover(numbers: Numbers, map: &[u8], starts: &mut [u8]) -> u8 {

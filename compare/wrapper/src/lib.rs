@@ -148,6 +148,16 @@ pub fn decode(f: &Figures, word: &[u8], message: &mut [u8]) -> Result<Placement,
     Ok(Placement::of(starts))
 }
 
+/// Whether a word from elsewhere agrees with the word of a placement and a message at every position outside the runs, where a cell without a
+/// reading agrees with nothing. What the runs hold doesn't matter.
+pub fn verify(f: &Figures, starts: &[u16], message: &[u8], word: &[u8]) -> Result<bool, Refusal> {
+    let starts = StartBytes::of(starts);
+    match raw::verify(f.numbers, starts.get(), message, word) {
+        raw::DIFFERS => Ok(false),
+        answer => Refusal::of(answer).map(|()| true),
+    }
+}
+
 /// The placement of least rank that covers every cell that is 1 in the map.
 pub fn cover(f: &Figures, map: &[u8]) -> Result<Placement, Refusal> {
     let mut starts = [0; 2 * MAX_RUNS];

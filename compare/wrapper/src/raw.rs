@@ -7,6 +7,9 @@ pub type Numbers = (u32, u32, u32, u32);
 /// What `message_len` and `payload_len` answer for figures that are refused.
 pub const NO_LENGTH: u32 = u32::MAX;
 
+/// What `verify` answers for a word that doesn't agree.
+pub const DIFFERS: u8 = 255;
+
 #[rustfmt::skip]
 mod c {
     extern "C" {
@@ -28,6 +31,12 @@ mod c {
             n: u32, q: u32, m: u32, b: u32,
             map: *const u8, map_len: usize,
             starts: *mut u8, starts_len: usize,
+        ) -> u8;
+        pub fn burgzemi_verify(
+            n: u32, q: u32, m: u32, b: u32,
+            starts: *const u8, starts_len: usize,
+            message: *const u8, message_len: usize,
+            word: *const u8, word_len: usize,
         ) -> u8;
         pub fn burgzemi_interleave(
             n: u32, q: u32, m: u32, b: u32, depth: u32,
@@ -90,6 +99,15 @@ pub fn cover((n, q, m, b): Numbers, map: &[u8], starts: &mut [u8]) -> u8 {
     let (s, t) = (starts.as_mut_ptr(), starts.len());
     // SAFETY: each pointer is a slice's own, never null, with its length; the one written to is lent alone.
     unsafe { c::burgzemi_cover(n, q, m, b, map.as_ptr(), map.len(), s, t) }
+}
+
+/// Checks a word against starts and a message: 0 where it agrees, `DIFFERS` where it doesn't, or the refusal.
+pub fn verify((n, q, m, b): Numbers, starts: &[u8], message: &[u8], word: &[u8]) -> u8 {
+    let (s, t) = (starts.as_ptr(), starts.len());
+    let (listed, size) = (message.as_ptr(), message.len());
+    let (from, len) = (word.as_ptr(), word.len());
+    // SAFETY: each pointer is a slice's own, never null, with its length; none is written to.
+    unsafe { c::burgzemi_verify(n, q, m, b, s, t, listed, size, from, len) }
 }
 
 /// Lays words side by side.

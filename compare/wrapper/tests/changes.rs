@@ -1,8 +1,8 @@
 //! Document 02's change requests, through the wrapper.
 
 use burgzemi::{
-    cover, decode, deinterleave, encode, interleave, job_read, job_write, Figures, Refusal, Table,
-    MAX_DEPTH,
+    cover, decode, deinterleave, encode, interleave, job_read, job_write, verify, Figures, Refusal,
+    Table, MAX_DEPTH,
 };
 
 /// Change request 7.
@@ -199,4 +199,33 @@ fn silent_cells_side_by_side() {
         Ok(())
     );
     assert_eq!(out, [4, 1, 3, 0, 2, 4]);
+}
+
+/// Change request 13.
+#[test]
+fn words_from_the_frame_maker() {
+    let strip = Figures::new(15, 16, 1, 2).expect("these figures fit");
+    let (message, mut word) = ([7; 11], [0; 15]);
+    assert_eq!(encode(&strip, &[6], &message, &mut word), Ok(()));
+    assert_eq!(verify(&strip, &[6], &message, &word), Ok(true));
+    assert_eq!(verify(&strip, &[7], &message, &word), Ok(false));
+    assert_eq!(verify(&strip, &[6], &[8; 11], &word), Ok(false));
+    for (cell, value) in (0..15).flat_map(|cell| (0..=17).map(move |value| (cell, value))) {
+        let mut found = word;
+        found[cell] = value;
+        let wanted = match value {
+            17 => Err(Refusal::SYMBOL),
+            _ => Ok(value == word[cell] || cell == 6 || cell == 7),
+        };
+        assert_eq!(verify(&strip, &[6], &message, &found), wanted);
+    }
+    for (starts, message, word, refusal) in [
+        (&[6, 9][..], &message[..], &word[..], Refusal::LENGTH),
+        (&[6], &message[1..], &word, Refusal::LENGTH),
+        (&[6], &message, &word[1..], Refusal::LENGTH),
+        (&[14], &[16; 11], &[17; 15], Refusal::STARTS),
+        (&[6], &[16; 11], &word, Refusal::SYMBOL),
+    ] {
+        assert_eq!(verify(&strip, starts, message, word), Err(refusal));
+    }
 }

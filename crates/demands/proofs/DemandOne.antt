@@ -16,6 +16,7 @@ use Rattle.cells.specs.Bytes.{payloadLen}
 use Rattle.cells.specs.Cells.{message, pick}
 use Rattle.cells.specs.Codec.{Reading, accepted, refused}
 use Rattle.cells.specs.Erasures.{foundBound, hasErasure}
+use Rattle.construction_a.specs.DemandTwo.{constructionA}
 use Rattle.construction_a.specs.Figures.{Params, inRange, fits, parts, placementCount, indexTail, messageLen}
 use Rattle.construction_a.specs.Writing.{plan, placementOf}
 use Rattle.construction_a.specs.Reading.{looksFixed, indexFound, heads, written, agrees, readRank, readFrom, read}
@@ -38,7 +39,8 @@ use Rattle.jobcodec.specs.JobRead.{JobRead, withhold, jobIn, jobReading, jobRea
 use Rattle.jobcodec.specs.ListRead.{ListOut, listOut}
 use Rattle.lanes.specs.Interleaving.{inDepth, interleaved, deinterleaved}
 use Rattle.lanes.specs.Outcomes.{Rearranged, rearranged, interleaveOut, deinterleaveOut}
-use Rattle.exports.specs.Words.{CoverLent, encodeBytesOut, coverBytesOut}
+use Rattle.verifier.specs.Verify.{agreesOutside, Verdict, agreeing, differing, verdictRefusal, verifyOut}
+use Rattle.exports.specs.Words.{CoverLent, encodeBytesOut, verifyBytesOut, coverBytesOut}
 use Rattle.exports.specs.Table.{tableLen, statesKnown, tableIn}
 use Rattle.exports.specs.Jobs.{CallLent, called, calledAs, isWhole as wholeTable, slotsFit, callBytesOut, jobWriteBytesOut, jobReadBytesOut}
 use Rattle.text.specs.Text.{decimal, hex}
@@ -137,6 +139,24 @@ word-read f w out =
     (tested P (eqb (length w) (f .n) && eqb (length out) (messageLen f)) (keep refl refl)
     (tested P (allBelow (foundBound (f .q)) w) (keep refl refl)
     (by-read f w (λ d. P (decodeAs f out d)) (keep refl refl) (keep refl refl) (keep refl refl) (keep refl refl) (λ ss ms. done refl)))))
+
+abbrev Checks : Verdict → Type 0
+Checks o = AnswersBy {A = Unit {0}} wordWrite (verdictRefusal o) tt tt
+
+told : (b : Bool) → Checks (cond b agreeing differing)
+unfolding isRefusal all any
+told true = done refl
+told false = done refl
+
+verify : (f : Params) (at : Held) (ms w : List ℕ) → Checks (verifyOut f at ms w)
+unfolding verifyOut isRefusal all any
+verify f at ms w =
+    tested Checks (inRange f) (keep refl refl)
+    (tested Checks (fits f) (keep refl refl)
+    (tested Checks (eqb (at .count) (f .m) && eqb (length ms) (messageLen f) && eqb (length w) (f .n)) (keep refl refl)
+    (tested Checks (apart (f .b) (f .n) 0 (inUse at)) (keep refl refl)
+    (tested Checks (allBelow (f .q) ms && allBelow (foundBound (f .q)) w) (keep refl refl)
+    (told (agreesOutside (constructionA f) w (inUse at) ms))))))
 
 -- ---- Words side by side
 
@@ -315,6 +335,14 @@ word-write-bytes f starts ms out =
     (tested P (fits f) (keep refl refl)
     (tested P (eqb (length starts) (2 * f .m)) (keep refl refl)
     (word-write f _ ms out)))
+
+verify-bytes : (f : Params) (starts ms w : List ℕ) → Checks (verifyBytesOut f starts ms w)
+unfolding verifyBytesOut isRefusal all any
+verify-bytes f starts ms w =
+    tested Checks (inRange f) (keep refl refl)
+    (tested Checks (fits f) (keep refl refl)
+    (tested Checks (eqb (length starts) (2 * f .m)) (keep refl refl)
+    (verify f _ ms w)))
 
 module _ (starts : List ℕ) where
   abbrev CoversIn : CoverLent → Type 0
@@ -506,6 +534,7 @@ demand-one =
       word-write = word-write;
       cover = cover;
       word-read = word-read;
+      verify = verify;
       interleave = interleave;
       deinterleave = deinterleave;
       open-job = open-job;
@@ -521,6 +550,7 @@ demand-one =
       list-and-read = list-and-read;
       word-read-bytes = λ f w out starts. word-read-bytes out starts f w;
       word-write-bytes = word-write-bytes;
+      verify-bytes = verify-bytes;
       cover-bytes = λ f map starts. cover-bytes starts f map;
       call-bytes = call-bytes;
       job-write-bytes = job-write-bytes;

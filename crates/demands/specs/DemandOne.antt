@@ -25,7 +25,8 @@ use Rattle.jobcodec.specs.JobWrite.{jobWriteOut}
 use Rattle.jobcodec.specs.JobRead.{jobReadOut}
 use Rattle.jobcodec.specs.ListRead.{ListSaid, listRefused, jobAnswer, ListOut, listOut}
 use Rattle.lanes.specs.Outcomes.{interleaveOut, deinterleaveOut}
-use Rattle.exports.specs.Words.{encodeBytesOut, coverBytesOut}
+use Rattle.verifier.specs.Verify.{verdictRefusal, verifyOut}
+use Rattle.exports.specs.Words.{encodeBytesOut, verifyBytesOut, coverBytesOut}
 use Rattle.exports.specs.Jobs.{callBytesOut, jobWriteBytesOut, jobReadBytesOut}
 use Rattle.transfer.specs.Session.{Session, after}
 use Rattle.transfer.specs.Lines.{refusalLine, servedLine}
@@ -65,6 +66,8 @@ pub record DemandOne : Type 0 where
   pub word-read : (f : Params) (w out : List ℕ)
       → AnswersBy {A = Held × List ℕ} wordRead (answerNumber (decodeOut f w out .answer)) (held [], out)
       (decodeOut f w out .placement, decodeOut f w out .message)
+  -- the check of a word lends nothing either, and "no" is no refusal
+  pub verify : (f : Params) (at : Held) (ms w : List ℕ) → AnswersBy {A = Unit {0}} wordWrite (verdictRefusal (verifyOut f at ms w)) tt tt
   -- ---- Words side by side; the functions for other languages have these outcomes too
   pub interleave : (f : Params) (d : ℕ) (words out : List ℕ)
       → AnswersBy rearrangement (interleaveOut f d words out .answer) out (interleaveOut f d words out .buffer)
@@ -93,6 +96,7 @@ pub record DemandOne : Type 0 where
       (exportedOut f w out starts .message, exportedOut f w out starts .starts)
   pub word-write-bytes : (f : Params) (starts ms out : List ℕ)
       → AnswersBy wordWrite (encodeBytesOut f starts ms out .answer) out (encodeBytesOut f starts ms out .word)
+  pub verify-bytes : (f : Params) (starts ms w : List ℕ) → AnswersBy {A = Unit {0}} wordWrite (verdictRefusal (verifyBytesOut f starts ms w)) tt tt
   pub cover-bytes : (f : Params) (map starts : List ℕ) → AnswersBy covering (coverBytesOut f map starts .answer) starts (coverBytesOut f map starts .starts)
   pub call-bytes : (table : List ℕ) (letter number : ℕ)
       → AnswersBy (callOnBytes (listKind letter)) (callBytesOut table letter number .answer) table (callBytesOut table letter number .table)

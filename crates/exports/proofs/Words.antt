@@ -23,7 +23,9 @@ use Rattle.placements.proofs.Calls.{cover-length, cover-symbol, cover-none, cov
 use Rattle.decoder.specs.Exported.{startBytes}
 use Rattle.encoder.proofs.Outcomes.{encode-unfit, encode-count}
 use Rattle.exports.specs.Starts.{startsFrom, placementFrom}
-use Rattle.exports.specs.Words.{encodeBytesOut, covers, coveredAs, coverBytesOut}
+use Rattle.verifier.specs.Verify.{verifyOut}
+use Rattle.verifier.proofs.Calls.{verify-unfit, verify-count}
+use Rattle.exports.specs.Words.{encodeBytesOut, verifyBytesOut, covers, coveredAs, coverBytesOut}
 
 -- ---- The placement that is given
 
@@ -54,6 +56,23 @@ encode-bytes f starts ms out =
     (encode-count f (held []) ms out i d (λ z. absurd (omega (arith, ranged f i .m-least, z))))))
     (λ d. rw (i, d) (encode-unfit f at ms out unfit (figures-unfit f i d))))
     (λ i. rw i (encode-unfit f at ms out invalid (figures-invalid f i)))
+  where
+    at : Held
+    at = placementFrom (f .m) starts
+
+-- ---- The check of a word, likewise
+
+pub verify-bytes : (f : Params) (starts ms w : List ℕ) → verifyOut f (placementFrom (f .m) starts) ms w ≡ verifyBytesOut f starts ms w
+unfolding verifyBytesOut
+verify-bytes f starts ms w =
+    by-bool (inRange f)
+    (λ i. by-bool (fits f)
+    (λ d. by-eq (length starts) (2 * f .m) (λ _. verifyOut f at ms w ≡ verifyBytesOut f starts ms w)
+    (λ e. rw (i, d, leb-holds (f .m) maxBursts (ranged f i .m-most), eqb-same (length starts) (2 * f .m) e))
+    (λ e. rw (i, d, leb-holds (f .m) maxBursts (ranged f i .m-most), eqb-other (length starts) (2 * f .m) e)
+    (verify-count f (held []) ms w i d (λ z. absurd (omega (arith, ranged f i .m-least, z))))))
+    (λ d. rw (i, d) (verify-unfit f at ms w unfit (figures-unfit f i d))))
+    (λ i. rw i (verify-unfit f at ms w invalid (figures-invalid f i)))
   where
     at : Held
     at = placementFrom (f .m) starts

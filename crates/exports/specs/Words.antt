@@ -1,4 +1,4 @@
--- What word write and covering answer a program in another language, and what their lent buffers hold afterwards, for every input. The word reader's
+-- What word write, covering and the check of a word answer a program in another language, and what lent buffers hold afterwards, for every input. The word reader's
 -- outcome is `exportedOut` of the decoder. Assumes nothing.
 use mathlib.Core.List.{List}
 use Prim.Native.Nat.{ℕ, _*_}
@@ -9,6 +9,7 @@ use Rattle.cells.specs.Bytes.{payloadLen}
 use Rattle.construction_a.specs.Figures.{Params, inRange, fits}
 use Rattle.construction_a.specs.Outcomes.{inUse, held, FiguresOut, figured, unserved, figuresOut, Encoded, unwritten, encodeOut, Covered, coverOut}
 use Rattle.decoder.specs.Exported.{startBytes, noLength}
+use Rattle.verifier.specs.Verify.{Verdict, agreeing, differing, unchecked, verifyOut}
 use Rattle.exports.specs.Starts.{startsFrom}
 
 -- ---- "word write 1 2 3 5 4", where 3 stands for the bytes of the starts too
@@ -48,3 +49,22 @@ payloadLenIn q (unserved a) = noLength
 
 abbrev pub payloadLenOut : Params → ℕ
 payloadLenOut f = payloadLenIn (f .q) (figuresOut f)
+
+-- ---- The check of a word, "1 2 3 5 4", where 3 stands for the bytes of the starts too
+
+unfoldable pub verifyBytesOut : Params → List ℕ → List ℕ → List ℕ → Verdict
+verifyBytesOut f starts ms w =
+    must (inRange f) (unchecked invalid)
+    (must (fits f) (unchecked unfit)
+    (must (eqb (length starts) (2 * f .m)) (unchecked wrongLength)
+    (verifyOut f (held (startsFrom starts)) ms w)))
+
+-- the number for "no", which is none of a refusal
+abbrev pub differs : ℕ
+differs = 255
+
+-- the answer as a number: 0 is "yes", and nothing else is
+abbrev pub verdictNumber : Verdict → ℕ
+verdictNumber agreeing = served
+verdictNumber differing = differs
+verdictNumber (unchecked a) = a

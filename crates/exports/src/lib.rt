@@ -6,19 +6,23 @@ ghost use Rattle.construction_a.specs.Outcomes.{unwritten};
 ghost use Rattle.decoder.specs.Exported.{lentAs, exportedOut, messageLenOut};
 ghost use Rattle.jobcodec.specs.Given.{seen};
 ghost use Rattle.lanes.specs.Outcomes.{unfilled, interleaveOut, deinterleaveOut};
-ghost use Rattle.exports.specs.Words.{encodeBytesOut, covers, coverBytesOut, payloadLenOut};
+ghost use Rattle.exports.specs.Words.{encodeBytesOut, verifyBytesOut, verdictNumber, covers, coverBytesOut, payloadLenOut};
 ghost use Rattle.exports.specs.Jobs.{called, callBytesOut, jobWriteBytesOut, jobReadBytesOut};
 use decoder::starts::decode_bytes;
 use params::LayoutAnswer;
 use params::Params;
 use params::bytes;
 use refusals::Refusal;
+use verifier::VerifyAnswer;
 
 mod starts;
 mod table;
 
 // A length that no message and no payload has.
 const NO_LENGTH: u32 = 4294967295;
+
+// What the check of a word answers for "no".
+const DIFFERS: u8 = 255;
 
 // Word read: the message, and the starts of the bursts, 2 bytes each and the high byte first. Refusals: 1 2 3 4 7 19 8 9 19.
 #[no_mangle]
@@ -80,6 +84,30 @@ pub extern "C" fn burgzemi_encode(
     let figures = Params { n, q, m, b };
     let at = starts::placement_from(starts, m);
     encoder::encode(figures, at, message, word)
+}
+
+// The check of a word against a placement and a message: 0 where it agrees outside the bursts with the word that they give, DIFFERS where it doesn't.
+// Refusals: 1 2 3 5 4.
+#[no_mangle]
+pub extern "C" fn burgzemi_verify(
+    n: u32,
+    q: u32,
+    m: u32,
+    b: u32,
+    starts: &[u8],
+    message: &[u8],
+    word: &[u8],
+) -> u8
+    ensures { λ r. ⌜ r ≡ verdictNumber (verifyBytesOut (params n q m b) (now (starts .entry)) (now (message .entry)) (now (word .entry))) ⌝ }
+{
+    let figures = Params { n, q, m, b };
+    let at = starts::placement_from(starts, m);
+    let answer = verifier::verify(figures, at, message, word);
+    match answer {
+        VerifyAnswer::Agrees => Refusal::NONE,
+        VerifyAnswer::Differs => DIFFERS,
+        VerifyAnswer::Refused(number) => number,
+    }
 }
 
 // Covering: the starts of the placement of least rank that covers the defect map. Refusals: 1 2 3 4 6.

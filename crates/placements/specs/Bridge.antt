@@ -1,9 +1,10 @@
 -- A placement of the code as the definitions hold it, what a call may be given, and what covering answers. Assumes nothing.
 use mathlib.Core.Path.{_≡_}
-use mathlib.Core.Bool.{Bool, true, cond, _&&_}
+use mathlib.Core.Bool.{Bool, true, not, cond, _&&_}
 use mathlib.Core.List.{List, []}
 use Prim.Native.Nat.{ℕ, _+_, _*_, _≤_}
-use lib.Dec.{leb, ltb}
+use lib.Dec.{leb, ltb, eqb}
+use lib.ListN.{getD}
 use Rattle.combinatorics.specs.Bursts.{apart, placements, rankOf, startsOf, coverRank}
 use Rattle.construction_a.specs.Figures.{maxWord, maxBursts, maxCount, isPlacement}
 use Rattle.construction_a.specs.Outcomes.{Held, inUse, held, worn, Covered}
@@ -23,6 +24,10 @@ startsIn p = inUse (heldAs p)
 -- whether the burst from s on has position x
 abbrev pub holds : ℕ → ℕ → ℕ → Bool
 holds b s x = leb s x && ltb x (s + b)
+
+-- the positions at which two words differ
+abbrev pub differAt : List ℕ → List ℕ → ℕ → Bool
+differAt v w x = not (eqb (getD v x 0) (getD w x 0))
 
 -- a placement that has a rank: its bursts are apart, and within the longest word, and the rank is no larger than a count can be
 pub record Rankable (p : Placement) (b : ℕ) : Type 0 where

@@ -5,7 +5,7 @@ ghost use lib.ListN.{length};
 ghost use Rattle.combinatorics.specs.Bursts.{inBurst, covers};
 ghost use Rattle.cells.specs.Erasures.{erasedAt};
 ghost use Rattle.construction_a.specs.Figures.{maxBursts};
-ghost use Rattle.placements.specs.Bridge.{startsIn, holds};
+ghost use Rattle.placements.specs.Bridge.{startsIn, holds, differAt};
 use crate::Placement;
 
 // Whether every symbol of a word that is q or more lies in a burst.
@@ -17,6 +17,23 @@ pub fn cover_erasures(at: Placement, b: u32, q: u64, word: &[u8]) -> bool
     while x < word.len() {
         let symbol = word[x];
         if q <= symbol as u64 {
+            if !in_burst(at, b, x as u64) {
+                return false;
+            }
+        }
+        x += 1;
+    }
+    true
+}
+
+// Whether two words of one length differ only inside the bursts.
+pub fn cover_differences(at: Placement, b: u32, word: &[u8], other: &[u8]) -> bool
+    requires { ⌜ (at .count ≤ maxBursts) × (length (now other) ≡ length (now word)) ⌝ }
+    ensures { λ r. ⌜ r ≡ covers (length (now (word .entry))) b (differAt (now (word .entry)) (now (other .entry))) (startsIn at) ⌝ }
+{
+    let mut x: usize = 0;
+    while x < word.len() {
+        if word[x] != other[x] {
             if !in_burst(at, b, x as u64) {
                 return false;
             }
