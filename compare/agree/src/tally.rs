@@ -12,6 +12,8 @@ pub struct Tally {
     seen: [[u64; 256]; OPS.len()],
     /// Accepted words, by m and by how many parts have no block that looks F.
     accepted: [[u64; 3]; MAX_RUNS + 1],
+    /// Words with altered message cells: with none, one, several, or all of several.
+    slips: [u64; 4],
 }
 
 impl Default for Tally {
@@ -19,6 +21,7 @@ impl Default for Tally {
         Tally {
             seen: [[0; 256]; OPS.len()],
             accepted: Default::default(),
+            slips: Default::default(),
         }
     }
 }
@@ -30,6 +33,15 @@ impl Tally {
 
     pub fn count_accepted(&mut self, f: Numbers, word: &[u8]) {
         self.accepted[f.2 as usize][parts_without_fixed(f, word)] += 1;
+    }
+
+    pub fn count_slips(&mut self, slips: usize, symbols: usize) {
+        let kind = match slips {
+            0 | 1 => slips,
+            _ if slips < symbols => 2,
+            _ => 3,
+        };
+        self.slips[kind] += 1;
     }
 
     /// How many words were written or read, or refused for more than their figures and lengths.
@@ -61,7 +73,17 @@ impl Tally {
                 complete = false;
             }
         }
-        complete & self.accepted_summary()
+        complete & self.accepted_summary() & self.slips_summary()
+    }
+
+    fn slips_summary(&self) -> bool {
+        let [none, one, several, all] = self.slips;
+        println!("altered message cells: none {none}, one {one}, several {several}, all {all}");
+        let complete = self.slips.iter().all(|&seen| seen > 0);
+        if !complete {
+            println!("never seen: some number of altered message cells");
+        }
+        complete
     }
 
     /// Prints how often each kind of pattern was accepted, and tells whether all were.

@@ -11,7 +11,7 @@ use crate::make::{
 };
 use crate::rng::Rng;
 use crate::sides::{PROVED, SECOND};
-use crate::{silent, verify};
+use crate::{silent, slips, verify};
 
 /// A strip: figures, a placement, a message and its word.
 pub struct Strip {
@@ -31,6 +31,7 @@ pub fn round(judge: &mut Judge, rng: &mut Rng) {
     }
     silent::outside(judge, rng, &strip);
     verify::round(judge, rng, &strip);
+    slips::round(judge, rng, &strip);
     other_value(judge, rng, &strip);
     any_word(judge, rng, &f);
     refused_writing(judge, rng, &strip);

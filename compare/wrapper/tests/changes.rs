@@ -229,3 +229,25 @@ fn words_from_the_frame_maker() {
         assert_eq!(verify(&strip, starts, message, word), Err(refusal));
     }
 }
+
+/// Change request 14: one altered message cell or several, with damage inside the run.
+#[test]
+fn what_a_slip_can_spoil() {
+    let strip = Figures::new(15, 16, 1, 2).expect("these figures fit");
+    let cells = [1, 2, 3, 4, 5, 8, 9, 11, 12, 13, 14];
+    for slips in 0..1 << cells.len() {
+        let (mut message, mut word, mut read) = ([7; 11], [0; 15], [0; 11]);
+        assert_eq!(encode(&strip, &[6], &message, &mut word), Ok(()));
+        word[6..8].fill(16);
+        for (i, cell) in cells
+            .iter()
+            .enumerate()
+            .filter(|(i, _)| slips >> i & 1 == 1)
+        {
+            message[i] = (i as u8 + 8) % 16;
+            word[*cell] = message[i];
+        }
+        let placement = decode(&strip, &word, &mut read).expect("a slip is read");
+        assert_eq!((&placement[..], read), (&[6][..], message));
+    }
+}

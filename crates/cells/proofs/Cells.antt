@@ -142,13 +142,18 @@ no-burst kind fixed h e = refl
 no-burst kind digit h e = refl
 no-burst kind message h e = refl
 
--- what is taken depends on the cells of that kind alone, and those of no burst agree
+-- what is taken depends on the cells of that kind alone
+pub pick-alike : (kind : Cell) (n : ℕ) (kd : ℕ → Cell) (v w : List ℕ) → ((x : ℕ) → x < n → is kind (kd x) ≡ true → getD v x 0 ≡ getD w x 0)
+    → pick kind (tabulate n 0 kd) v ≡ pick kind (tabulate n 0 kd) w
+pick-alike kind n kd v w h =
+    pick-at kind n 0 kd v
+    ∙ map-members n 0 (λ x. is kind (kd x)) (λ x. getD v x 0) (λ x. getD w x 0) (λ x _ l t. h x (omega arith) t)
+    ∙ sym (pick-at kind n 0 kd w)
+
+-- and those of no burst agree
 pub pick-agrees : (kind : Cell) (n : ℕ) (kd : ℕ → Cell) (v w : List ℕ) → is kind burst ≡ false
     → ((x : ℕ) → x < n → is burst (kd x) ≡ false → getD v x 0 ≡ getD w x 0) → pick kind (tabulate n 0 kd) v ≡ pick kind (tabulate n 0 kd) w
-pick-agrees kind n kd v w k h =
-    pick-at kind n 0 kd v
-    ∙ map-members n 0 (λ x. is kind (kd x)) (λ x. getD v x 0) (λ x. getD w x 0) (λ x _ l t. h x (omega arith) (no-burst kind (kd x) k t))
-    ∙ sym (pick-at kind n 0 kd w)
+pick-agrees kind n kd v w k h = pick-alike kind n kd v w (λ x l t. h x l (no-burst kind (kd x) k t))
 
 -- what is taken is below q where the cells of that kind hold symbols below q
 pub pick-small : (kind : Cell) (n : ℕ) (kd : ℕ → Cell) (w : List ℕ) (q : ℕ) → ((x : ℕ) → x < n → is kind (kd x) ≡ true → getD w x 0 < q)

@@ -1,0 +1,4 @@
+pub mod Kept
+pub mod Slips
+pub mod Reading
+mod Examples

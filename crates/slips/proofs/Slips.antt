@@ -1,0 +1,188 @@
+-- Altered message cells spoil their own symbols and nothing else. Assumes nothing.
+use mathlib.Core.Path.{_≡_, refl, sym, ap, ap₂, _∙_}
+use mathlib.Core.Bool.{Bool, true, false, not, true≢false}
+use mathlib.Core.List.{List, [], map}
+use Prim.Native.Nat.{ℕ, suc, _≤_, _<_}
+use native.Mathlib.Omega.{arith}
+use lib.Dec.{eqb}
+use lib.ListN.{length, getD, length-map}
+use Rattle.combinatorics.specs.Lists.{allBelow}
+use Rattle.combinatorics.specs.Stretch.{count, members, tabulate}
+use Rattle.combinatorics.proofs.Cases.{by-bool, by-eq, eqb-same}
+use Rattle.combinatorics.proofs.Lists.{below-at, some-below, at-below}
+use Rattle.combinatorics.proofs.Stretch.{members-ext, length-members}
+use Rattle.cells.specs.Cells.{Cell, burst, fixed, digit, message, is, weave, pick}
+use Rattle.cells.specs.Codec.{Codec, accepted, Word, LeadsTo, Exact}
+use Rattle.cells.specs.Digits.{spell, places}
+use Rattle.cells.proofs.Cells.{Clean, pick-at, pick-alike, pick-small, length-pick, no-burst, digits-woven, message-woven, woven-clean, clean-at, at-clean, clean-agrees, agree-at}
+use Rattle.cells.proofs.Digits.{length-spell, length-places}
+use Rattle.cells.proofs.Erasures.{found-least}
+use Rattle.construction_a.specs.DemandTwo.{constructionA}
+use Rattle.construction_a.specs.Figures.{Params, inRange, fits, indexTail}
+use Rattle.construction_a.specs.Writing.{kindAt, plan, rank, word}
+use Rattle.construction_a.proofs.DemandTwo.{demand-two}
+use Rattle.construction_a.proofs.Figures.{serve, placed-starts}
+use Rattle.construction_a.proofs.Plan.{kind-burst, digit-count, message-cells}
+use Rattle.slips.specs.Slips.{differences, messagePositions, Planned, Slips, Stays, SlipsStay, SlipsStayA}
+use Rattle.slips.proofs.Kept.{kept, kept-members, kept-places, at-map}
+
+-- a cell of one kind is of no other
+other-kind : (kind c : Cell) → is kind message ≡ false → is kind c ≡ true → is message c ≡ false
+other-kind kind burst h e = refl
+other-kind kind fixed h e = refl
+other-kind kind digit h e = refl
+other-kind kind message h e = absurd (true≢false (sym e ∙ h))
+
+module _ (c : Codec) (kind : List ℕ → ℕ → Cell) (digits : List ℕ → List ℕ) (planned : Planned c kind digits) (exact : Exact c)
+    (starts ms w w′ : List ℕ) (d : ℕ) (seen : Word c w) (l : LeadsTo c w starts ms) (s : Slips c (kind starts) w w′ d) where
+  n : ℕ
+  n = c .wordLen
+
+  kd : ℕ → Cell
+  kd = kind starts
+
+  cells : List Cell
+  cells = tabulate n 0 kd
+
+  ms′ : List ℕ
+  ms′ = pick message cells w′
+
+  -- w agrees with the woven word at every cell that is in no burst
+  agrees : (x : ℕ) → x < n → is burst (kd x) ≡ false → getD w x 0 ≡ getD (weave cells (digits starts) ms) x 0
+  unfolding n kd cells
+  agrees x lx e =
+      l .outside x lx (sym (planned .bursts starts x) ∙ e) ∙ ap (λ (v : List ℕ). getD v x 0) (planned .woven starts ms)
+
+  message-there : pick message cells w ≡ ms
+  unfolding n kd cells
+  message-there =
+      pick-alike message (c .wordLen) (kind starts) w (weave (tabulate (c .wordLen) 0 (kind starts)) (digits starts) ms)
+      (λ x lx t. agrees x lx (no-burst message (kind starts x) refl t))
+      ∙ message-woven (tabulate (c .wordLen) 0 (kind starts)) (digits starts) ms
+      (l .count ∙ sym (planned .message-cells starts (l .placement)) ∙ sym (length-pick message (c .wordLen) (kind starts) []))
+
+  digits-there : pick digit cells w′ ≡ digits starts
+  unfolding n kd cells
+  digits-there =
+      pick-alike digit (c .wordLen) (kind starts) w′ (weave (tabulate (c .wordLen) 0 (kind starts)) (digits starts) ms)
+      (λ x lx t. s .elsewhere x lx (other-kind digit (kind starts x) refl t) ∙ agrees x lx (no-burst digit (kind starts x) refl t))
+      ∙ digits-woven (tabulate (c .wordLen) 0 (kind starts)) (digits starts) ms
+      (sym (planned .digit-cells starts (l .placement)) ∙ sym (length-pick digit (c .wordLen) (kind starts) []))
+
+  clean : Clean cells w′
+  unfolding n kd cells
+  clean =
+      at-clean (c .wordLen) 0 (kind starts) w′
+      (λ x _ lx t.
+      let k : x < c .wordLen = omega arith in
+      s .elsewhere x k (other-kind fixed (kind starts x) refl t)
+      ∙ agrees x k (no-burst fixed (kind starts x) refl t)
+      ∙ clean-at (c .wordLen) 0 x (kind starts) (weave (tabulate (c .wordLen) 0 (kind starts)) (digits starts) ms)
+      (woven-clean (tabulate (c .wordLen) 0 (kind starts)) (digits starts) ms) (omega arith) (omega arith) t)
+
+  -- what is found now is the word of another message, spoilt in the same bursts
+  leads : LeadsTo c w′ starts ms′
+  unfolding n kd cells ms′
+  leads =
+      record {
+        placement = l .placement;
+        count = length-pick message (c .wordLen) (kind starts) w′ ∙ planned .message-cells starts (l .placement);
+        symbols = pick-small message (c .wordLen) (kind starts) w′ (c .alphabet) (s .symbols);
+        outside = λ x lx out.
+            rw (planned .woven starts (pick message (tabulate (c .wordLen) 0 (kind starts)) w′), ← digits-there)
+            (agree-at (c .wordLen) 0 x (kind starts) w′
+            (weave (tabulate (c .wordLen) 0 (kind starts)) (pick digit (tabulate (c .wordLen) 0 (kind starts)) w′) (pick message (tabulate (c .wordLen) 0 (kind starts)) w′))
+            (clean-agrees (tabulate (c .wordLen) 0 (kind starts)) w′ clean) (omega arith) (omega arith) (planned .bursts starts x ∙ out));
+      }
+
+  pub found : Word c w′
+  found =
+      record {
+        complete = s .complete;
+        symbols = at-below (c .foundBound) w′
+            (λ x lx.
+            let k : x < c .wordLen = omega (arith, s .complete) in
+            by-bool (is message (kind starts x))
+            (λ t. omega (arith, s .symbols x k t, planned .found))
+            (λ t. rw (s .elsewhere x k t) (below-at (c .foundBound) w (some-below (c .foundBound) w (seen .symbols) (omega (arith, seen .complete))) (seen .symbols) x)));
+      }
+
+  -- the cells that differ
+  differs : ℕ → Bool
+  differs x = not (eqb (getD w x 0) (getD w′ x 0))
+
+  -- are message cells
+  in-message : (x : ℕ) → x < c .wordLen → differs x ≡ true → is message (kind starts x) ≡ true
+  unfolding differs
+  in-message x lx e =
+      by-bool (is message (kind starts x)) (λ t. t)
+      (λ t. absurd (true≢false (sym e ∙ ap not (eqb-same (getD w x 0) (getD w′ x 0) (sym (s .elsewhere x lx t))))))
+
+  -- message symbol i is what stands at the message position with number i
+  positions : List ℕ
+  positions = members (c .wordLen) 0 (λ x. is message (kind starts x))
+
+  was : ms ≡ map (λ x. getD w x 0) positions
+  unfolding n kd cells positions
+  was = sym message-there ∙ pick-at message (c .wordLen) 0 (kind starts) w
+
+  becomes : ms′ ≡ map (λ x. getD w′ x 0) positions
+  unfolding n kd cells ms′ positions
+  becomes = pick-at message (c .wordLen) 0 (kind starts) w′
+
+  -- so the message differs where these cells do
+  by-position : differences ms ms′ ≡ members (length positions) 0 (λ i. differs (getD positions i 0))
+  unfolding differences differs
+  by-position =
+      ap (λ (k : ℕ). members k 0 (λ i. not (eqb (getD ms i 0) (getD ms′ i 0)))) (ap length was ∙ length-map positions (λ x. getD w x 0))
+      ∙ members-ext (length positions) 0 (λ i. not (eqb (getD ms i 0) (getD ms′ i 0))) (λ i. differs (getD positions i 0))
+      (λ i _ li.
+      let k : i < length positions = omega arith in
+      ap₂ (λ (a b : ℕ). not (eqb a b))
+      (ap (λ (v : List ℕ). getD v i 0) was ∙ at-map (λ x. getD w x 0) positions i k)
+      (ap (λ (v : List ℕ). getD v i 0) becomes ∙ at-map (λ x. getD w′ x 0) positions i k))
+
+  those : map (λ i. getD positions i 0) (differences ms ms′) ≡ differences w w′
+  unfolding differences positions differs
+  those =
+      ap (map (λ i. getD positions i 0)) by-position
+      ∙ kept-places differs positions
+      ∙ kept-members (c .wordLen) 0 (λ x. is message (kind starts x)) differs (λ x _ lx e. in-message x (omega arith) e)
+      ∙ ap (λ (k : ℕ). members k 0 differs) (sym (seen .complete))
+
+  stays : Stays c (kind starts) starts ms w w′ d ms′
+  unfolding messagePositions positions
+  stays =
+      record {
+        same-placement = exact w′ starts ms′ found .1 leads;
+        those = those;
+        as-many = sym (length-map (differences ms ms′) (λ i. getD positions i 0)) ∙ ap length those ∙ s .altered;
+      }
+
+pub slips-stay : SlipsStay
+slips-stay c kind digits planned exact starts ms w w′ d seen l s =
+    (ms′ c kind digits planned exact starts ms w w′ d seen l s, stays c kind digits planned exact starts ms w w′ d seen l s)
+
+-- ---- Construction A
+
+-- the digits of a placement
+abbrev pub spelled : Params → List ℕ → List ℕ
+spelled f starts = spell (f .q) (places (f .m) (indexTail f)) (rank f starts)
+
+pub planned-a : (f : Params) → inRange f ≡ true → fits f ≡ true → Planned (constructionA f) (kindAt f) (spelled f)
+unfolding word plan
+planned-a f i h =
+    let ok = serve f i h in
+    record {
+      woven = λ starts ms. refl;
+      bursts = λ starts x. kind-burst f starts x;
+      digit-cells = λ starts e.
+          let p = placed-starts f starts e in
+          digit-count f ok starts (p .0) (p .1)
+          ∙ sym (length-spell (f .q) (places (f .m) (indexTail f)) (rank f starts) ∙ length-places (f .m) (indexTail f));
+      message-cells = λ starts e. let p = placed-starts f starts e in message-cells f ok starts (p .0) (p .1);
+      found = found-least (f .q);
+    }
+
+pub slips-stay-a : SlipsStayA
+slips-stay-a f i h = slips-stay (constructionA f) (kindAt f) (spelled f) (planned-a f i h) (demand-two f i h .exactly)
