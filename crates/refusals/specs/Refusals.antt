@@ -53,6 +53,11 @@ badPayload = 10
 abbrev pub badRecord : ℕ
 badRecord = 11
 
+-- document 02, ticket 2: "The prescription calls refuse with 16, after all other input refusals, any text or value in memory outside these rules (minus zero
+-- and a part of an eighth included) or a payload below 17 bytes."
+abbrev pub badPrescription : ℕ
+badPrescription = 16
+
 -- "It refuses with 18, .., a depth outside 1 to 16." (02, 5)
 abbrev pub badDepth : ℕ
 badDepth = 18
@@ -99,7 +104,7 @@ notHeld = 24
 abbrev pub refusals : List ℕ
 refusals =
     invalid ∷ unfit ∷ wrongLength ∷ badSymbol ∷ badStarts ∷ uncovered ∷ noPattern ∷ valueTooLarge ∷ disagrees ∷ badPayload ∷ badRecord
-    ∷ badDepth ∷ erased
+    ∷ badPrescription ∷ badDepth ∷ erased
     ∷ jobCancelled ∷ alreadyOpen ∷ notOpen ∷ tableFull ∷ numberZero ∷ notCancelled ∷ jobHeld ∷ notHeld ∷ []
 
 -- An order of refusals, "1 2 3 ..", reads downward: where a test fails the outcome is `else`, and otherwise the next test decides.

@@ -1,6 +1,6 @@
 // The refusal numbers of documents 01 and 02, one name each. Assumes nothing.
 ghost use mathlib.Core.Path.{_≡_};
-ghost use Rattle.refusals.specs.Refusals.{served, invalid, unfit, wrongLength, badSymbol, badStarts, uncovered, noPattern, valueTooLarge, disagrees, badPayload, badRecord, badDepth, erased, jobCancelled, alreadyOpen, notOpen, tableFull, numberZero, notCancelled, jobHeld, notHeld, refusals};
+ghost use Rattle.refusals.specs.Refusals.{served, invalid, unfit, wrongLength, badSymbol, badStarts, uncovered, noPattern, valueTooLarge, disagrees, badPayload, badRecord, badPrescription, badDepth, erased, jobCancelled, alreadyOpen, notOpen, tableFull, numberZero, notCancelled, jobHeld, notHeld, refusals};
 
 // The numbers stand under this name; 0 stands for an accepted call.
 pub struct Refusal {}
@@ -31,6 +31,8 @@ impl Refusal {
 
     pub const RECORD: u8 = 11;
 
+    pub const PRESCRIPTION: u8 = 16;
+
     pub const DEPTH: u8 = 18;
 
     pub const ERASED: u8 = 19;
@@ -53,7 +55,7 @@ impl Refusal {
     pub const NOT_HELD: u8 = 24;
 
     // Both lists, in each document 01's numbers and behind them document 02's. Its contract ties each name here to that of specs/.
-    pub fn all() -> [u8; 21]
+    pub fn all() -> [u8; 22]
         ensures list { λ r. ⌜ r ≡ refusals ⌝ }
         ensures { λ _. do ⌜ (← ⟦Refusal::NONE⟧ .entry) ≡ served ⌝ }
         ensures { λ _. do ⌜ (← ⟦Refusal::INVALID⟧ .entry) ≡ invalid ⌝ }
@@ -67,6 +69,7 @@ impl Refusal {
         ensures { λ _. do ⌜ (← ⟦Refusal::DISAGREES⟧ .entry) ≡ disagrees ⌝ }
         ensures { λ _. do ⌜ (← ⟦Refusal::PAYLOAD⟧ .entry) ≡ badPayload ⌝ }
         ensures { λ _. do ⌜ (← ⟦Refusal::RECORD⟧ .entry) ≡ badRecord ⌝ }
+        ensures { λ _. do ⌜ (← ⟦Refusal::PRESCRIPTION⟧ .entry) ≡ badPrescription ⌝ }
         ensures { λ _. do ⌜ (← ⟦Refusal::DEPTH⟧ .entry) ≡ badDepth ⌝ }
         ensures { λ _. do ⌜ (← ⟦Refusal::ERASED⟧ .entry) ≡ erased ⌝ }
         ensures { λ _. do ⌜ (← ⟦Refusal::CANCELLED⟧ .entry) ≡ jobCancelled ⌝ }
@@ -90,6 +93,7 @@ impl Refusal {
             Refusal::DISAGREES,
             Refusal::PAYLOAD,
             Refusal::RECORD,
+            Refusal::PRESCRIPTION,
             Refusal::DEPTH,
             Refusal::ERASED,
             Refusal::CANCELLED,

@@ -1,0 +1,12 @@
+pub mod Fractions
+pub mod Arithmetic
+pub mod Counting
+pub mod Storing
+pub mod Lenses
+pub mod LensOfEye
+pub mod InMemory
+pub mod Reading
+pub mod Writing
+pub mod TextBack
+pub mod BytesBack
+pub mod Example
