@@ -11,7 +11,7 @@
 extern "C" {
 #endif
 
-/* What a call answers: 0, or why it was refused. Each function below says which of these it answers, in the order in which they are looked for. */
+/* What a call answers: 0, or why it was refused; burgzemi_verify has a third answer, below. Each function below says which of these it answers, in the order in which they are looked for. */
 enum burgzemi_answer {
     BURGZEMI_SERVED = 0,
     /* from the input */
@@ -177,7 +177,7 @@ uint8_t burgzemi_job_read(uint32_t n, uint32_t q, uint32_t m, uint32_t b,
  * (rounded down) of word t % depth.
  *
  * Where at most m stretches of the strip are worn, each of at most depth * b cells, each word's share of the strip's map, found by burgzemi_deinterleave
- * on the map, can be covered; and each word that is written on its cover reads back, whatever symbols the worn cells hold.
+ * on the map, can be covered; and each word that is written on its cover reads back, whatever values up to q the worn cells hold.
  *
  * Refusals: 1 and 2 for the figures; 18 for the depth; 3 where words_len or strip_len is not depth * n; 4 for a symbol of q or more.
  */

@@ -14,8 +14,8 @@ fn main() -> ExitCode {
     if run(&args).is_some() {
         return ExitCode::SUCCESS;
     }
-    eprintln!("usage: bench --times | --rows | --count ours|second encode|decode ROW CALLS");
-    eprintln!("       bench --time ours|second encode|decode ROW | --transfer OURS SECOND");
+    eprintln!("usage: bench --times | --rows | --count ours|second encode|decode|silent ROW CALLS");
+    eprintln!("       bench --time ours|second encode|decode|silent ROW | --transfer OURS SECOND");
     eprintln!("       bench --lanes | --count ours-interleave|second-interleave|ours-deinterleave|second-deinterleave|copy|byte-loop Q CALLS");
     ExitCode::from(2)
 }

@@ -2,7 +2,7 @@
 
 use std::hint::black_box;
 
-use agree::make::{damage, numbers, placement, start_bytes};
+use agree::make::{numbers, placement, start_bytes};
 use agree::rng::Rng;
 use agree::sides::{Numbers, Side, PROVED, SECOND};
 use second::Figures;
@@ -39,7 +39,9 @@ pub fn list() {
 struct Strip {
     starts: Vec<u8>,
     message: Vec<u8>,
+    /// Damaged in its runs by symbols, and by silent cells too.
     found: Vec<u8>,
+    silent: Vec<u8>,
 }
 
 /// Strips ready to be written and read, and buffers that are never cleared between calls.
@@ -78,6 +80,10 @@ impl Work {
                     let numbers = black_box(self.numbers);
                     (side.decode)(numbers, &strip.found, &mut self.message, &mut self.starts)
                 }
+                Measured::Silent(side) => {
+                    let numbers = black_box(self.numbers);
+                    (side.decode)(numbers, &strip.silent, &mut self.message, &mut self.starts)
+                }
                 Measured::Copy => {
                     self.word.copy_from_slice(black_box(&strip.found));
                     0
@@ -94,6 +100,8 @@ impl Work {
 pub enum Measured {
     Encode(&'static Side),
     Decode(&'static Side),
+    /// Reading a word with silent cells in its runs.
+    Silent(&'static Side),
     Copy,
 }
 
@@ -104,11 +112,23 @@ fn strip(rng: &mut Rng, f: &Figures) -> Strip {
     let mut found = vec![0; f.n];
     let answer = (SECOND.encode)(numbers(f), &starts, &message, &mut found);
     assert_eq!(answer, 0, "a placement is written");
-    damage(rng, f, &placement, &mut found);
+    let mut silent = found.clone();
+    for &start in &placement {
+        for x in start as usize..start as usize + f.b {
+            found[x] = rng.below(f.q as u64) as u8;
+            // every second cell; where no byte is left for it, a symbol
+            silent[x] = if x % 2 == 0 && f.q < 256 {
+                f.q as u8
+            } else {
+                found[x]
+            };
+        }
+    }
     Strip {
         starts,
         message,
         found,
+        silent,
     }
 }
 
@@ -122,6 +142,7 @@ pub fn asked(side: &str, call: &str, row: &str) -> Option<(Measured, Work)> {
     let measured = match call {
         "encode" => Measured::Encode(side),
         "decode" => Measured::Decode(side),
+        "silent" => Measured::Silent(side),
         _ => return None,
     };
     let rows = rows();

@@ -4,7 +4,8 @@ use mathlib.Core.Logic.{_≢_}
 use mathlib.Core.Bool.{Bool, true, false, not, cond, _&&_, _||_, false≢true}
 use mathlib.Core.List.{List, [], _∷_}
 use mathlib.Core.Option.{Option, none, some}
-use Prim.Native.Nat.{ℕ, _*_}
+use Prim.Native.Nat.{ℕ, suc, _*_}
+use native.Mathlib.Omega.{arith}
 use lib.Dec.{eqb, ltb}
 use lib.ListN.{length, take, drop, replicate}
 use Rattle.refusals.specs.Refusals.{must, served, invalid, unfit, wrongLength, noPattern, valueTooLarge, disagrees, erased, badRecord, jobCancelled, jobHeld, notOpen}
@@ -39,8 +40,8 @@ use Rattle.jobcodec.specs.JobRead.{JobRead, withhold, jobIn, jobReading, jobRea
 use Rattle.jobcodec.specs.ListRead.{ListOut, listOut}
 use Rattle.lanes.specs.Interleaving.{inDepth, interleaved, deinterleaved}
 use Rattle.lanes.specs.Outcomes.{Rearranged, rearranged, interleaveOut, deinterleaveOut}
-use Rattle.verifier.specs.Verify.{agreesOutside, Verdict, agreeing, differing, verdictRefusal, verifyOut}
-use Rattle.exports.specs.Words.{CoverLent, encodeBytesOut, verifyBytesOut, coverBytesOut}
+use Rattle.verifier.specs.Verify.{agreesOutside, agreeing, differing, unchecked, verifyOut}
+use Rattle.exports.specs.Words.{CoverLent, encodeBytesOut, differs, verifyBytesOut, coverBytesOut}
 use Rattle.exports.specs.Table.{tableLen, statesKnown, tableIn}
 use Rattle.exports.specs.Jobs.{CallLent, called, calledAs, isWhole as wholeTable, slotsFit, callBytesOut, jobWriteBytesOut, jobReadBytesOut}
 use Rattle.text.specs.Text.{decimal, hex}
@@ -48,7 +49,7 @@ use Rattle.transfer.specs.Session.{Session, maxRecords, after}
 use Rattle.transfer.specs.Lines.{refusalLine, servedLine}
 use Rattle.transfer.specs.Records.{letterS, letterW, letterR, headLen, letterOf, isEmpty, current, Step, stopped, ended, goesOn, figuresIn, figuresStep, callStep, jobStep, startsIn, payloadOf, writeOut, readOut, serveOut, readable, stepOut}
 use Rattle.demands.specs.Orders.{figuresAlone, wordWrite, covering, wordRead, rearrangement, jobWrite, jobRead, call, callByLetter, callOnBytes, listOfCalls}
-use Rattle.demands.specs.DemandOne.{AnswersBy, ListAnswers, StepAnswers, at-end, stops, refuses, serves, DemandOne}
+use Rattle.demands.specs.DemandOne.{AnswersBy, ChecksBy, ListAnswers, StepAnswers, at-end, stops, refuses, serves, DemandOne}
 
 -- ---- The two ways to answer, and an order of refusals test by test
 
@@ -140,22 +141,24 @@ word-read f w out =
     (tested P (allBelow (foundBound (f .q)) w) (keep refl refl)
     (by-read f w (λ d. P (decodeAs f out d)) (keep refl refl) (keep refl refl) (keep refl refl) (keep refl refl) (λ ss ms. done refl)))))
 
-abbrev Checks : Verdict → Type 0
-Checks o = AnswersBy {A = Unit {0}} wordWrite (verdictRefusal o) tt tt
+-- a refusal of the check: its number is not 0
+turned-away : (a : ℕ) → any (eqb (suc a)) (served ∷ wordWrite) ≡ true → any (eqb (suc a)) (served ∷ differs ∷ wordWrite) ≡ true → ChecksBy (unchecked (suc a))
+unfolding isRefusal any
+turned-away a r n = record { refusal = r; number = n; only-yes = λ e. absurd (omega (arith, e)); no-refusal = refl }
 
-told : (b : Bool) → Checks (cond b agreeing differing)
-unfolding isRefusal all any
-told true = done refl
-told false = done refl
+told : (b : Bool) → ChecksBy (cond b agreeing differing)
+unfolding isRefusal any
+told true = record { refusal = refl; number = refl; only-yes = λ _. refl; no-refusal = refl }
+told false = record { refusal = refl; number = refl; only-yes = λ e. absurd (omega (arith, e)); no-refusal = refl }
 
-verify : (f : Params) (at : Held) (ms w : List ℕ) → Checks (verifyOut f at ms w)
-unfolding verifyOut isRefusal all any
+verify : (f : Params) (at : Held) (ms w : List ℕ) → ChecksBy (verifyOut f at ms w)
+unfolding verifyOut any
 verify f at ms w =
-    tested Checks (inRange f) (keep refl refl)
-    (tested Checks (fits f) (keep refl refl)
-    (tested Checks (eqb (at .count) (f .m) && eqb (length ms) (messageLen f) && eqb (length w) (f .n)) (keep refl refl)
-    (tested Checks (apart (f .b) (f .n) 0 (inUse at)) (keep refl refl)
-    (tested Checks (allBelow (f .q) ms && allBelow (foundBound (f .q)) w) (keep refl refl)
+    tested ChecksBy (inRange f) (turned-away 0 refl refl)
+    (tested ChecksBy (fits f) (turned-away 1 refl refl)
+    (tested ChecksBy (eqb (at .count) (f .m) && eqb (length ms) (messageLen f) && eqb (length w) (f .n)) (turned-away 2 refl refl)
+    (tested ChecksBy (apart (f .b) (f .n) 0 (inUse at)) (turned-away 4 refl refl)
+    (tested ChecksBy (allBelow (f .q) ms && allBelow (foundBound (f .q)) w) (turned-away 3 refl refl)
     (told (agreesOutside (constructionA f) w (inUse at) ms))))))
 
 -- ---- Words side by side
@@ -336,12 +339,12 @@ word-write-bytes f starts ms out =
     (tested P (eqb (length starts) (2 * f .m)) (keep refl refl)
     (word-write f _ ms out)))
 
-verify-bytes : (f : Params) (starts ms w : List ℕ) → Checks (verifyBytesOut f starts ms w)
-unfolding verifyBytesOut isRefusal all any
+verify-bytes : (f : Params) (starts ms w : List ℕ) → ChecksBy (verifyBytesOut f starts ms w)
+unfolding verifyBytesOut any
 verify-bytes f starts ms w =
-    tested Checks (inRange f) (keep refl refl)
-    (tested Checks (fits f) (keep refl refl)
-    (tested Checks (eqb (length starts) (2 * f .m)) (keep refl refl)
+    tested ChecksBy (inRange f) (turned-away 0 refl refl)
+    (tested ChecksBy (fits f) (turned-away 1 refl refl)
+    (tested ChecksBy (eqb (length starts) (2 * f .m)) (turned-away 2 refl refl)
     (verify f _ ms w)))
 
 module _ (starts : List ℕ) where

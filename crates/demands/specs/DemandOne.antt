@@ -1,9 +1,10 @@
 -- Demand 1, of the outcome of every entry point and for every input: the answer is 0 or a listed number, and where it is not 0 nothing has changed. That
 -- each call ends and touches lent memory alone is what a proved function has; that its answer and lent memory are these outcomes is its contract. The
--- proof is `demand-one` of proofs/DemandOne.antt. The lengths for other languages refuse nothing and have no field. Assumes nothing.
+-- proof is `demand-one` of proofs/DemandOne.antt. The lengths for other languages refuse nothing and have no field; two readings one after the other (`decode_both`) are
+-- two times word read; a prescription in memory or as a text joins with the calls that carry it. Assumes nothing.
 use mathlib.Core.Path.{_≡_}
 use mathlib.Core.Logic.{_≢_}
-use mathlib.Core.Bool.{true}
+use mathlib.Core.Bool.{true, false}
 use mathlib.Core.List.{List, [], _∷_}
 use mathlib.Core.Option.{Option}
 use Prim.Native.Nat.{ℕ}
@@ -25,8 +26,8 @@ use Rattle.jobcodec.specs.JobWrite.{jobWriteOut}
 use Rattle.jobcodec.specs.JobRead.{jobReadOut}
 use Rattle.jobcodec.specs.ListRead.{ListSaid, listRefused, jobAnswer, ListOut, listOut}
 use Rattle.lanes.specs.Outcomes.{interleaveOut, deinterleaveOut}
-use Rattle.verifier.specs.Verify.{verdictRefusal, verifyOut}
-use Rattle.exports.specs.Words.{encodeBytesOut, verifyBytesOut, coverBytesOut}
+use Rattle.verifier.specs.Verify.{Verdict, agreeing, verdictRefusal, verifyOut}
+use Rattle.exports.specs.Words.{encodeBytesOut, differs, verdictNumber, verifyBytesOut, coverBytesOut}
 use Rattle.exports.specs.Jobs.{callBytesOut, jobWriteBytesOut, jobReadBytesOut}
 use Rattle.transfer.specs.Session.{Session, after}
 use Rattle.transfer.specs.Lines.{refusalLine, servedLine}
@@ -41,6 +42,14 @@ pub record AnswersBy {A : Type 0} (order : List ℕ) (a : ℕ) (lent left : A) :
   pub answer : any (eqb a) (served ∷ order) ≡ true
   -- "Every refusal returns its number only; output buffers and book keep their contents."
   pub keeps : a ≢ served → left ≡ lent
+
+-- The check of a word: what it refuses with is in the order of word write, and "no" is no refusal. As a number for other languages 0 is "yes" and nothing
+-- else, and "no" is none of the listed numbers.
+pub record ChecksBy (o : Verdict) : Type 0 where
+  pub refusal : any (eqb (verdictRefusal o)) (served ∷ wordWrite) ≡ true
+  pub number : any (eqb (verdictNumber o)) (served ∷ differs ∷ wordWrite) ≡ true
+  pub only-yes : verdictNumber o ≡ served → o ≡ agreeing
+  pub no-refusal : isRefusal differs ≡ false
 
 -- A list of calls and the job reading after it: a list that is refused leaves both buffers; a reading that is refused leaves its own, and the calls
 -- were made.
@@ -66,8 +75,8 @@ pub record DemandOne : Type 0 where
   pub word-read : (f : Params) (w out : List ℕ)
       → AnswersBy {A = Held × List ℕ} wordRead (answerNumber (decodeOut f w out .answer)) (held [], out)
       (decodeOut f w out .placement, decodeOut f w out .message)
-  -- the check of a word lends nothing either, and "no" is no refusal
-  pub verify : (f : Params) (at : Held) (ms w : List ℕ) → AnswersBy {A = Unit {0}} wordWrite (verdictRefusal (verifyOut f at ms w)) tt tt
+  -- nothing that is lent to the check of a word is written
+  pub verify : (f : Params) (at : Held) (ms w : List ℕ) → ChecksBy (verifyOut f at ms w)
   -- ---- Words side by side; the functions for other languages have these outcomes too
   pub interleave : (f : Params) (d : ℕ) (words out : List ℕ)
       → AnswersBy rearrangement (interleaveOut f d words out .answer) out (interleaveOut f d words out .buffer)
@@ -96,7 +105,7 @@ pub record DemandOne : Type 0 where
       (exportedOut f w out starts .message, exportedOut f w out starts .starts)
   pub word-write-bytes : (f : Params) (starts ms out : List ℕ)
       → AnswersBy wordWrite (encodeBytesOut f starts ms out .answer) out (encodeBytesOut f starts ms out .word)
-  pub verify-bytes : (f : Params) (starts ms w : List ℕ) → AnswersBy {A = Unit {0}} wordWrite (verdictRefusal (verifyBytesOut f starts ms w)) tt tt
+  pub verify-bytes : (f : Params) (starts ms w : List ℕ) → ChecksBy (verifyBytesOut f starts ms w)
   pub cover-bytes : (f : Params) (map starts : List ℕ) → AnswersBy covering (coverBytesOut f map starts .answer) starts (coverBytesOut f map starts .starts)
   pub call-bytes : (table : List ℕ) (letter number : ℕ)
       → AnswersBy (callOnBytes (listKind letter)) (callBytesOut table letter number .answer) table (callBytesOut table letter number .table)
@@ -107,7 +116,7 @@ pub record DemandOne : Type 0 where
   -- ---- The transfer program
   pub step : (s : Session) (bytes : List ℕ) → StepAnswers s (letterOf bytes) (stepOut s bytes)
   -- ---- "Each number comes under its condition and under no other": those of the table as the ledger has them, 6 where no placement covers the map,
-  -- and 7, 8 and 9 as the found word has them. The others' conditions are the tests in the outcomes themselves.
+  -- and 7, 8, 9 and 19 as the found word has them. The others' conditions are the tests in the outcomes themselves.
   pub table-conditions : Simulation
   pub cover-conditions : (f : Params) → inRange f ≡ true → fits f ≡ true → (map : List ℕ) → CoversLeast f (worn map)
   pub read-conditions : DemandTwo

@@ -1,5 +1,5 @@
 // The entry points for programs in other languages, on figures as numbers and lent bytes. Each but the lengths answers 0 or the refusal, which leaves
-// every lent buffer as it was. Assumes nothing.
+// every lent buffer as it was; the check of a word has 255 for "no" besides. Assumes nothing.
 ghost use mathlib.Core.Path.{_≡_};
 ghost use Rattle.construction_a.specs.Figures.{params};
 ghost use Rattle.construction_a.specs.Outcomes.{unwritten};

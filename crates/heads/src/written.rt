@@ -45,8 +45,8 @@ pub fn heads_below(
 {
     let mut j: usize = 0;
     while j < layout.m {
-        let block = blocks[j] as usize;
-        let head = layout.block_head(heads, block);
+        let number = blocks[j];
+        let head = layout.block_head(heads, number as usize);
         let end = head + layout.index_tail + 1;
         if !symbols::all_below(&word[head..end], layout.q) {
             return false;

@@ -77,6 +77,7 @@ module _ (c : Codec) (h : List Call) (w out : List ℕ) where
         after-finishing = λ starts y u _. absurd (no-pair starts y (u .gives));
         after-holding = λ starts y u _. absurd (no-pair starts y (u .gives));
         none-accepted = λ starts y u _. absurd (no-pair starts y (u .gives));
+        by-left = λ starts y u. absurd (no-pair starts y (u .gives));
       }
 
   -- one pair does, and the table stands for the calls: the last of what is left of those on its number decides
@@ -120,6 +121,8 @@ module _ (c : Codec) (h : List Call) (w out : List ℕ) where
           after-finishing = λ starts′ y′ u e. by-last (some finishing) (same-last starts′ y′ (some finishing) (u .gives) e);
           after-holding = λ starts′ y′ u e. by-last (some holding) (same-last starts′ y′ (some holding) (u .gives) e);
           none-accepted = λ starts′ y′ u e. by-last none (same-last starts′ y′ none (u .gives) e);
+          by-left = λ starts′ y′ u.
+              is ∙ ap (λ (z : List ℕ). unless (answerAfter (lastLeft h (jobNumber z))) (withhold out) (handOut z)) (sym (only .no-other starts′ y′ (u .gives) .1));
         }
 
 -- ---- The job reading, under any exact codec whose refusals are document 01's

@@ -18,9 +18,10 @@ use Rattle.construction_a.specs.DemandTwo.{constructionA}
 use Rattle.jobs.specs.declared.Entry.{Entry}
 use Rattle.jobs.specs.Jobs.{opening, cancelling, finishing, holding, Call}
 use Rattle.jobs.specs.Table.{answersFrom, tableFrom}
-use Rattle.jobs.specs.Ledger.{lastLeft, verdictsFrom, acceptedBy}
+use Rattle.jobs.specs.Ledger.{lastLeft, answerAfter, verdictsFrom, acceptedBy}
 use Rattle.jobs.specs.Simulation.{Start}
 use Rattle.payloads.specs.Payload.{IsPayload, carriesJob, jobNumber, messageOf}
+use Rattle.jobcodec.specs.JobWrite.{unless}
 use Rattle.jobcodec.specs.JobRead.{JobRead, handOut, withhold, jobReadOut}
 
 -- ---- The first fact, under any codec
@@ -77,6 +78,9 @@ pub record HandsOut (c : Codec) (ledger : List Call) (w out : List ℕ) (r : Job
       → r ≡ withhold out jobHeld
   pub none-accepted : (starts payload : List ℕ) → OnlyPair c w starts payload → lastLeft ledger (jobNumber payload) ≡ none
       → r ≡ withhold out notOpen
+  -- and so whatever is left of its calls: "12 and 14 go by what is left", by `answerAfter`
+  pub by-left : (starts payload : List ℕ) → OnlyPair c w starts payload
+      → r ≡ unless (answerAfter (lastLeft ledger (jobNumber payload))) (withhold out) (handOut payload)
 
 -- ---- The claim
 

@@ -74,7 +74,7 @@ hasPair [] = false
 hasPair (k ∷ []) = false
 hasPair (k ∷ j ∷ ks) = takesBack k j || hasPair (j ∷ ks)
 
--- so that pairs may be struck out in any order, until there is none
+-- so that pairs may be struck out in any order, until there is none; its proof is `strikes-pairs` of proofs/Striking.antt
 pub record StrikesPairs : Type 0 where
   pub any-pair : (newer older : List Kind) (k j : Kind) → takesBack k j ≡ true → whatIsLeft (newer ++ k ∷ j ∷ older) ≡ whatIsLeft (newer ++ older)
   pub no-pair : (ks : List Kind) → hasPair ks ≡ false → whatIsLeft ks ≡ ks

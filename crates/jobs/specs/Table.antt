@@ -200,7 +200,8 @@ tableFrom es (c ∷ cs) = tableFrom (callOut es c .table) cs
 
 -- ---- Taking a call back
 
--- document 02, ticket 7: "Reinstating restores the book to what it was for that number before its cancellation", slot for slot
+-- document 02, ticket 7: "Reinstating restores the book to what it was for that number before its cancellation", slot for slot; its proof is `restores` of
+-- proofs/Restoring.antt
 abbrev pub Restores : Type 0
 Restores = (es : List Entry) (n : ℕ) → cancelOut es n .answer ≡ served → reinstateOut (cancelOut es n .table) n ≡ accept es
 

@@ -19,7 +19,7 @@ use Rattle.construction_a.specs.Outcomes.{unserved, figuresOut}
 use Rattle.construction_a.proofs.Figures.{le-of}
 use Rattle.construction_a.proofs.Outcomes.{refused-alike}
 use Rattle.lanes.specs.Interleaving.{inDepth, interleaved, deinterleaved}
-use Rattle.lanes.specs.Outcomes.{Rearranged, unfilled, rearranged, interleaveOut, deinterleaveOut}
+use Rattle.lanes.specs.Outcomes.{UndoEachOther, Rearranged, unfilled, rearranged, interleaveOut, deinterleaveOut}
 use Rattle.lanes.proofs.Interleaving.{length-transposed, transposed-below, apart-again, together-again}
 
 -- what passes every test, 1 2 18 3 4
@@ -157,3 +157,6 @@ together-back f d strip words out h s l =
       symbols = transposed-below (f .q) (f .n) d strip (p .lent ∙ mul-comm d (f .n)) s;
     })
     ∙ ap (λ (x : List ℕ). record { answer = served; buffer = x }) (together-again d (f .n) strip (p .lent)))
+
+pub inverse : UndoEachOther
+inverse = record { words-back = apart-again; strip-back = together-again; taken-apart = apart-back; laid-again = together-back }

@@ -4,7 +4,7 @@ use mathlib.Core.Bool.{Bool, true, not, cond, _&&_}
 use mathlib.Core.List.{List, []}
 use Prim.Native.Nat.{ℕ, _+_, _*_, _≤_}
 use lib.Dec.{leb, ltb, eqb}
-use lib.ListN.{getD}
+use lib.ListN.{length, getD}
 use Rattle.combinatorics.specs.Bursts.{apart, placements, rankOf, startsOf, coverRank}
 use Rattle.construction_a.specs.Figures.{maxWord, maxBursts, maxCount, isPlacement}
 use Rattle.construction_a.specs.Outcomes.{Held, inUse, held, worn, Covered}
@@ -28,6 +28,11 @@ holds b s x = leb s x && ltb x (s + b)
 -- the positions at which two words differ
 abbrev pub differAt : List ℕ → List ℕ → ℕ → Bool
 differAt v w x = not (eqb (getD v x 0) (getD w x 0))
+
+-- a placement whose bursts are apart, and within a word
+pub record Within (p : Placement) (b : ℕ) (w : List ℕ) : Type 0 where
+  pub few : p .count ≤ maxBursts
+  pub valid : apart b (length w) 0 (startsIn p) ≡ true
 
 -- a placement that has a rank: its bursts are apart, and within the longest word, and the rank is no larger than a count can be
 pub record Rankable (p : Placement) (b : ℕ) : Type 0 where

@@ -1,29 +1,31 @@
-// The positions that the bursts of a placement have. Assumes nothing.
+// The positions that the bursts of a placement have. Inner functions. Assumes nothing.
 ghost use mathlib.Core.Path.{_≡_};
 ghost use Prim.Native.Nat.{_^_, _≤_, _<_};
 ghost use lib.ListN.{length};
 ghost use Rattle.combinatorics.specs.Bursts.{inBurst, covers};
 ghost use Rattle.cells.specs.Erasures.{erasedAt};
 ghost use Rattle.construction_a.specs.Figures.{maxBursts};
-ghost use Rattle.placements.specs.Bridge.{startsIn, holds, differAt};
+ghost use Rattle.placements.specs.Bridge.{startsIn, holds, differAt, Within};
 use crate::Placement;
 
-// Whether every symbol of a word that is q or more lies in a burst.
+// Whether every symbol of a word that is q or more lies in a burst: what stands before, between and behind the bursts is below q.
 pub fn cover_erasures(at: Placement, b: u32, q: u64, word: &[u8]) -> bool
-    requires { ⌜ at .count ≤ maxBursts ⌝ }
+    requires { ⌜ Within at b (now word) ⌝ }
     ensures { λ r. ⌜ r ≡ covers (length (now (word .entry))) b (erasedAt q (now (word .entry))) (startsIn at) ⌝ }
 {
-    let mut x: usize = 0;
-    while x < word.len() {
-        let symbol = word[x];
-        if q <= symbol as u64 {
-            if !in_burst(at, b, x as u64) {
-                return false;
-            }
+    let count = at.count as usize;
+    let mut from: usize = 0;
+    let mut j: usize = 0;
+    while j < count {
+        let s = at.starts[j];
+        let start = s as usize;
+        if !symbols::all_below(&word[from..start], q) {
+            return false;
         }
-        x += 1;
+        from = start + b as usize;
+        j += 1;
     }
-    true
+    symbols::all_below(&word[from..], q)
 }
 
 // Whether two words of one length differ only inside the bursts.

@@ -21,7 +21,7 @@ unfit = 2
 abbrev pub wrongLength : ℕ
 wrongLength = 3
 
--- "4: a symbol of q or more, or a map byte above 1."
+-- "4: a symbol of q or more, or a map byte above 1." Document 02, ticket 6: "Refusal 4 is, in reading and in taking lanes apart, for values above q"
 abbrev pub badSymbol : ℕ
 badSymbol = 4
 

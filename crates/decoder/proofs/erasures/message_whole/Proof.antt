@@ -5,11 +5,14 @@ use Prim.Native.Nat.{ℕ, suc}
 use native.Mathlib.Omega.{arith}
 use borrow.Author.Needs.{needs}
 use lib.ListN.{getD}
-use Rattle.combinatorics.specs.Bursts.{covers}
+use Rattle.combinatorics.specs.Bursts.{apart, covers}
+use Rattle.combinatorics.proofs.Bursts.{of-placed}
 use Rattle.combinatorics.proofs.Cases.{leb-holds}
 use Rattle.combinatorics.proofs.Cover.{of-covers}
 use Rattle.combinatorics.proofs.Lists.{below-at}
 use Rattle.cells.specs.Erasures.{erasedAt}
+use Rattle.construction_a.proofs.Figures.{placed-starts}
+use Rattle.params.specs.Given.{figuresOf}
 use Rattle.params.proofs.Fitting.{bound, long}
 use Rattle.placements.specs.Bridge.{startsIn}
 use Rattle.decoder.proofs.erasures.message_whole.Statement.{statement}
@@ -32,7 +35,12 @@ cast-cover-erasures c =
 cover-erasures-requires : tie.Need-cover-erasures-requires
 cover-erasures-requires c κs =
     let s = c .before .before .before in
-    omega (arith, s .pre .2 .count, bound (s .args .layout) (s .pre .1 .layout) .m-most)
+    let l = s .args .layout in
+    let placed = placed-starts (figuresOf l) (startsIn (s .args .at)) (s .pre .2 .placed) .0 in
+    record {
+      few = omega (arith, s .pre .2 .count, bound l (s .pre .1 .layout) .m-most);
+      valid = ap (λ (n : ℕ). apart (l .b) n 0 (startsIn (s .args .at))) (s .pre .1 .complete) ∙ of-placed (l .b) (l .n) 0 (startsIn (s .args .at)) placed;
+    }
 
 returns-2 : tie.Need-returns-2
 returns-2 c =

@@ -56,11 +56,11 @@ module _ (s : tie.Start Inv-loop μ-loop) (j : ℕ) (l : j < s .args .layout .m)
 loop-holds : tie.Need-loop-holds Inv-loop μ-loop
 loop-holds c = let s = c .before in (omega arith, tested-none (figuresOf (s .args .layout)) (s .args .word .now) (s .args .t4))
 
-array-read-block : tie.Need-array-read-block Inv-loop μ-loop
-array-read-block c = omega (arith, bound (c .before .before .before .before .args .layout) (c .before .before .before .before .pre .0 .finding .layout) .m-most)
+array-read-number : tie.Need-array-read-number Inv-loop μ-loop
+array-read-number c = omega (arith, bound (c .before .before .before .before .args .layout) (c .before .before .before .before .pre .0 .finding .layout) .m-most)
 
-cast-block : tie.Need-cast-block Inv-loop μ-loop
-cast-block c =
+cast-block-head : tie.Need-cast-block-head Inv-loop μ-loop
+cast-block-head c =
     let s = c .before .before .before .before in
     omega (arith, is-block s (c .before .before .loop .j) (c .if1 .taken), bound (s .args .layout) (s .pre .0 .finding .layout))
 
@@ -135,8 +135,8 @@ heads-below-spec =
     Inv-loop
     μ-loop
     loop-holds
-    array-read-block
-    cast-block
+    array-read-number
+    cast-block-head
     block-head-requires
     add-end
     add-end-2
