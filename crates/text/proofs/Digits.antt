@@ -1,23 +1,19 @@
--- Laws of numbers and bytes as text: how many digits there are, the library's digits, and hex byte by byte. Assumes nothing.
+-- Laws of numbers as text: how many digits there are, and the library's digits. Assumes nothing.
 use mathlib.Core.Path.{_≡_, refl, sym, ap, _∙_}
-use mathlib.Core.List.{List, [], _∷_, _++_, map, map-append, flatMap, append-assoc, append-nil}
+use mathlib.Core.List.{List, [], _∷_, _++_, map, map-append}
 use Prim.Native.Nat.{ℕ, zero, suc, _+_, _-_, _*_, _/_, _%_, _^_, _≤_, _<_}
 use native.Mathlib.Nat.{div-lt-iff-lt-mul, mod-lt, pow-zero, pow-suc, pow-le-pow-right, one-le-pow}
 use native.Mathlib.Numerals.{add-one}
 use native.Mathlib.Omega.{arith}
 use lib.Dec.{ltb}
-use lib.ListN.{length, getD, take, replicate, length-map, length-replicate, replicate-append-replicate}
-use lib.Seq.{length-take-le, take-all, take-suc}
+use lib.ListN.{length, replicate, length-map, length-replicate, replicate-append-replicate}
 use Rattle.io.specs.Digits.{digits, Fewest}
 use Rattle.combinatorics.specs.Stretch.{first}
 use Rattle.combinatorics.proofs.Cases.{by-le, leb-holds, leb-fails}
-use Rattle.combinatorics.proofs.Stretch.{first-is, first-most, first-within, length-flat}
+use Rattle.combinatorics.proofs.Stretch.{first-is, first-most, first-within}
 use Rattle.cells.specs.Digits.{plain, span, spell}
 use Rattle.cells.proofs.Digits.{span-plain, spell-snoc, length-spell}
-use Rattle.text.specs.Text.{zeroChar, decimalLen, decimal, hexByte, hex, overwrite}
-use Rattle.text.proofs.Line.{Put, put-none, put-then}
-
--- ---- Decimal
+use Rattle.text.specs.Text.{zeroChar, decimalLen, decimal}
 
 pub length-decimal : (v : ℕ) → length (decimal v) ≡ decimalLen v
 unfolding decimal
@@ -73,39 +69,3 @@ digits-spell (suc k) v l =
 pub digits-decimal : (v k : ℕ) → Fewest 10 1 v k → digits 10 k v ≡ decimal v
 unfolding decimal
 digits-decimal v k (h, l, f) = rw (fewest-is v k (h, l, f)) (digits-spell k v l)
-
--- ---- Hex
-
-length-hex-byte : (b : ℕ) → length (hexByte b) ≡ 2
-unfolding hexByte
-length-hex-byte b = refl
-
-pub length-hex : (bytes : List ℕ) → length (hex bytes) ≡ 2 * length bytes
-unfolding hex
-length-hex bytes = omega (arith, length-flat 2 hexByte bytes length-hex-byte)
-
-hex-snoc : (bytes : List ℕ) (b : ℕ) → hex (bytes ++ (b ∷ [])) ≡ hex bytes ++ hexByte b
-unfolding hex flatMap
-hex-snoc [] b = append-nil (hexByte b)
-hex-snoc (c ∷ cs) b = rw (hex-snoc cs b) (sym (append-assoc (hexByte c) (hex cs) (hexByte b)))
-
--- as a loop goes, byte by byte
-pub hex-none : (at : ℕ) (line : List ℕ) → Put at (hex []) line line at
-unfolding hex flatMap
-hex-none at line = put-none at line
-
-module _ (at : ℕ) (bytes before line : List ℕ) (i behind : ℕ) (room : at + 2 * length bytes ≤ length before) (p : Put at (hex (take i bytes)) before line behind) where
-  pub hex-room : i < length bytes → behind + 2 ≤ length line
-  hex-room h =
-      let n : length (take i bytes) ≡ i = length-take-le i bytes (omega arith) in
-      omega (arith, p .size, p .behind-is, length-hex (take i bytes))
-
-  pub hex-turn : (next : List ℕ) (end : ℕ) → i < length bytes → next ≡ overwrite behind (hexByte (getD bytes i 0)) line → end ≡ behind + 2
-      → Put at (hex (take (i + 1) bytes)) before next end
-  hex-turn next end h e n =
-      let two : length (hexByte (getD bytes i 0)) ≡ 2 = length-hex-byte (getD bytes i 0) in
-      rw (add-one i, take-suc bytes i 0 h, hex-snoc (take i bytes) (getD bytes i 0))
-      (put-then at (hex (take i bytes)) (hexByte (getD bytes i 0)) before line next behind end (omega (arith, hex-room h, p .size)) p e (omega arith))
-
-  pub hex-all : length bytes ≤ i → Put at (hex bytes) before line behind
-  hex-all h = rw (take-all i bytes h) at p

@@ -1,3 +1,4 @@
 pub mod Line
 pub mod Digits
+pub mod Hex
 mod Examples

@@ -1,72 +1,69 @@
--- `put_hex` meets its contract: the first i bytes stand in the line. Assumes nothing.
-use mathlib.Core.Path.{_∙_}
-use Prim.Native.Nat.{_-_, _≤_}
+-- `put_hex` meets its contract: whole chunks, then what is left. Assumes nothing.
+use mathlib.Core.Path.{refl}
 use native.Mathlib.Omega.{arith}
 use borrow.Author.Needs.{needs}
-use lib.ListN.{length, take}
-use Rattle.text.specs.Text.{hex}
-use Rattle.text.proofs.Line.{Put}
-use Rattle.text.proofs.Digits.{length-hex, hex-none, hex-room, hex-turn, hex-all}
+use lib.ListN.{length}
+use lib.Seq.{take-all}
+use Rattle.text.proofs.Hex.{chunks-put, chunk-turn}
 use Rattle.text.proofs.put_hex.Statement.{statement}
 use Rattle.text.proofs.put_hex.Tie as tie
 
-abbrev Inv-loop : tie.InvT-loop
-Inv-loop line₀ at bytes behind₀ i₀ line behind i = (i ≤ length bytes) × Put at (hex (take i bytes)) line₀ line behind
+put-hex-chunks-requires : tie.Need-put-hex-chunks-requires
+put-hex-chunks-requires c κs = search needs
 
-abbrev μ-loop : tie.MeasureT-loop
-μ-loop line₀ at bytes behind₀ i₀ line behind i = length bytes - i
+mul-put-hex-chunk : tie.Need-mul-put-hex-chunk
+mul-put-hex-chunk c = search needs
 
-loop-holds : tie.Need-loop-holds Inv-loop μ-loop
-loop-holds c =
-    let a = c .before .before .args in
-    (omega arith, hex-none (a .at) (a .line .now))
+add-put-hex-chunk : tie.Need-add-put-hex-chunk
+add-put-hex-chunk c = search needs
 
-shared-slice-read-put-hex-byte : tie.Need-shared-slice-read-put-hex-byte Inv-loop μ-loop
-shared-slice-read-put-hex-byte c = search needs
+sub-put-hex-chunk : tie.Need-sub-put-hex-chunk
+sub-put-hex-chunk c = search needs
 
-put-hex-byte-requires : tie.Need-put-hex-byte-requires Inv-loop μ-loop
-put-hex-byte-requires c κs =
-    let s = c .before .before .before .before .before .before in
-    let a = s .args in
-    let t = c .before .before .before .loop in
-    hex-room (a .at) (a .bytes .now) (a .line .now) (t .line) (t .i) (t .behind) (s .pre) (t .inv .1) (omega arith)
+part-put-hex-chunk-start : tie.Need-part-put-hex-chunk-start
+part-put-hex-chunk-start c = search needs
 
-add-i : tie.Need-add-i Inv-loop μ-loop
-add-i c = search needs
+part-put-hex-chunk-end : tie.Need-part-put-hex-chunk-end
+part-put-hex-chunk-end c = search needs
 
-loop-less : tie.Need-loop-less Inv-loop μ-loop
-loop-less c = search needs
+put-hex-chunk-requires : tie.Need-put-hex-chunk-requires
+put-hex-chunk-requires c κs = search needs
 
-loop-again : tie.Need-loop-again Inv-loop μ-loop
-loop-again c =
-    let s = c .before .before .before .before .before .before .before .before .before in
-    let a = s .args in
-    let t = c .before .before .before .before .before .before .loop in
-    let one = c .before .before .put-hex-byte in
-    (omega arith, hex-turn (a .at) (a .bytes .now) (a .line .now) (t .line) (t .i) (t .behind) (s .pre) (t .inv .1) (one .last .0) (one .result) (omega arith) (one .ensures .0) (one .ensures .1))
+mul-result : tie.Need-mul-result
+mul-result c = search needs
 
-same-length : tie.Need-same-length Inv-loop μ-loop
-same-length c = c .before .loop .inv .1 .size
+add-result : tie.Need-add-result
+add-result c = search needs
 
-returns : tie.Need-returns Inv-loop μ-loop
+same-length : tie.Need-same-length
+same-length c = search needs
+
+returns : tie.Need-returns
 returns c =
-    let s = c .before .before .before .before in
+    let s = c .before .before .before .before .before .before .before .before .before .before .before in
     let a = s .args in
-    let t = c .before .loop in
-    let p = hex-all (a .at) (a .bytes .now) (a .line .now) (t .line) (t .i) (t .behind) (s .pre) (t .inv .1) (omega arith) in
-    (p .put, p .behind-is ∙ omega (arith, length-hex (a .bytes .now)))
+    let bytes = a .bytes .now in
+    let whole = c .before .before .before .before .before .before .before .put-hex-chunks in
+    let rest = c .before .before .put-hex-chunk in
+    let within = whole .ensures .1 .0 in
+    let p = chunks-put (a .at) bytes (a .line .now) (whole .last .0) (whole .result) (s .pre) within (whole .ensures .0) in
+    let q =
+    chunk-turn (a .at) bytes (a .line .now) (whole .last .0) (whole .result) (s .pre) within (length bytes) within (omega arith) (rest .last .0) p
+    (rest .ensures) in
+    (rw (take-all (length bytes) bytes (omega arith)) at (q .put), refl)
 
 pub put-hex-spec : {M : Type 1} → statement M
 put-hex-spec =
     tie.close
     (tie.spec
-    Inv-loop
-    μ-loop
-    loop-holds
-    shared-slice-read-put-hex-byte
-    put-hex-byte-requires
-    add-i
-    loop-less
-    loop-again
+    put-hex-chunks-requires
+    mul-put-hex-chunk
+    add-put-hex-chunk
+    sub-put-hex-chunk
+    part-put-hex-chunk-start
+    part-put-hex-chunk-end
+    put-hex-chunk-requires
+    mul-result
+    add-result
     same-length
     returns)

@@ -3,7 +3,7 @@ use mathlib.Core.List.{[], _∷_}
 use native.Mathlib.Omega.{arith}
 use borrow.Author.Needs.{needs}
 use Rattle.text.specs.Text.{hex}
-use Rattle.text.proofs.Digits.{length-hex}
+use Rattle.text.proofs.Hex.{length-hex}
 use Rattle.text.proofs.Line.{put-none, put-then}
 use Rattle.transfer.specs.Lines.{space}
 use Rattle.transfer.proofs.lines.put_bytes.Statement.{statement}

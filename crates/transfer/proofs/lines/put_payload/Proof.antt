@@ -7,7 +7,7 @@ use borrow.Author.Needs.{needs}
 use lib.ListN.{length, take, drop, length-drop}
 use lib.Seq.{length-take-le}
 use Rattle.text.specs.Text.{decimal, hex, overwrite}
-use Rattle.text.proofs.Digits.{length-hex}
+use Rattle.text.proofs.Hex.{length-hex}
 use Rattle.text.proofs.Line.{put-then}
 use Rattle.transfer.specs.Lines.{space, lineFeed}
 use Rattle.transfer.specs.Records.{letterR}

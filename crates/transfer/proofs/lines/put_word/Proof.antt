@@ -3,7 +3,7 @@ use mathlib.Core.List.{[], _∷_, _++_}
 use native.Mathlib.Omega.{arith}
 use borrow.Author.Needs.{needs}
 use Rattle.text.specs.Text.{decimal, hex}
-use Rattle.text.proofs.Digits.{length-hex}
+use Rattle.text.proofs.Hex.{length-hex}
 use Rattle.text.proofs.Line.{put-then}
 use Rattle.transfer.specs.Lines.{space, lineFeed}
 use Rattle.transfer.specs.Records.{letterW}
