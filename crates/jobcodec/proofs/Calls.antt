@@ -2,7 +2,7 @@
 use mathlib.Core.Path.{_≡_, refl, sym, ap, _∙_}
 use mathlib.Core.Logic.{_≢_}
 use mathlib.Core.Bool.{Bool, true, false, not, _&&_}
-use mathlib.Core.List.{List, []}
+use mathlib.Core.List.{List}
 use Prim.Native.Nat.{ℕ, _≤_, _<_}
 use native.Mathlib.Omega.{arith}
 use lib.Dec.{eqb}
@@ -12,7 +12,6 @@ use Rattle.refusals.specs.Refusals.{must, served, invalid, unfit, wrongLength, 
 use Rattle.combinatorics.specs.Bursts.{apart}
 use Rattle.combinatorics.proofs.Cases.{eqb-same, eqb-other, leb-holds, leb-fails}
 use Rattle.cells.specs.Bytes.{payloadLen}
-use Rattle.cells.specs.Codec.{accepted}
 use Rattle.construction_a.specs.Figures.{Params, maxWord, inRange, fits, messageLen}
 use Rattle.construction_a.specs.Writing.{word}
 use Rattle.construction_a.specs.Outcomes.{Held, inUse, Encoded, unwritten, unserved, figuresOut}
@@ -27,9 +26,9 @@ use Rattle.jobs.specs.declared.Entry.{Entry}
 use Rattle.jobs.specs.Jobs.{isJob, Status, unknown, opened, onHold, cancelled, needsOpen}
 use Rattle.jobs.specs.Replay.{ReplayOut, replayOut}
 use Rattle.jobs.specs.Table.{twice}
-use Rattle.payloads.specs.Payload.{carriesJob, jobNumber, messageOf, payloadIn, spellsPayload}
+use Rattle.payloads.specs.Payload.{carriesJob, jobNumber, messageOf}
 use Rattle.jobcodec.specs.JobWrite.{jobStatus, whereOpen, jobWriteOut}
-use Rattle.jobcodec.specs.JobRead.{JobRead, handOut, withhold, jobIn, jobReading, jobReadOut}
+use Rattle.jobcodec.specs.JobRead.{JobRead, handOut, withhold, jobOfPayload, jobReading, jobReadOut}
 use Rattle.jobcodec.specs.Given.{Laid, Ready}
 use Rattle.jobcodec.specs.ListRead.{listUnread, listRead, listOut}
 use Rattle.jobcodec.proofs.Outcomes.{both-false, figures-refused}
@@ -83,7 +82,7 @@ module _ (f : Params) (l : Layout) (es : List Entry) (h : Laid f l es) where
   ready count e five =
       record { range = h .range; once = h .once; fit = h .fit; carries = leb-holds 5 (payloadLen (f .q) (messageLen f)) (omega (arith, bytes-are count e)) }
 
-  carries-not : (count : ℕ) → count ≡ payloadLen (l .q) (l .«message_len») → count < 5 → carriesJob (f .q) (messageLen f) ≡ false
+  pub carries-not : (count : ℕ) → count ≡ payloadLen (l .q) (l .«message_len») → count < 5 → carriesJob (f .q) (messageLen f) ≡ false
   unfolding carriesJob
   carries-not count e few = leb-fails 5 (payloadLen (f .q) (messageLen f)) (omega (arith, bytes-are count e))
 
@@ -185,16 +184,11 @@ unfolding jobReadOut jobReading
 read-length f es w out r n =
     rw (r .range, r .once, r .fit, r .carries, eqb-other (length out) (payloadLen (f .q) (messageLen f)) n, both-false (eqb (length w) (f .n)))
 
-module _ (q k : ℕ) (es : List Entry) (out ms : List ℕ) where
-  pub no-payload : spellsPayload q k ms ≡ false → jobIn q k es out (accepted [] ms) ≡ withhold out badPayload
-  no-payload e = rw e
+pub not-open : (es : List Entry) (out payload : List ℕ) (a : ℕ) → a ≡ needsOpen (jobStatus es payload) → a ≢ served → jobOfPayload es out payload ≡ withhold out a
+not-open es out payload a n d = rw (← n, eqb-other a served d)
 
-  module _ (e : spellsPayload q k ms ≡ true) where
-    pub not-open : (a : ℕ) → a ≡ needsOpen (jobStatus es (payloadIn q k ms)) → a ≢ served → jobIn q k es out (accepted [] ms) ≡ withhold out a
-    not-open a n d = rw (e, ← n, eqb-other a served d)
-
-    pub handed : needsOpen (jobStatus es (payloadIn q k ms)) ≡ served → jobIn q k es out (accepted [] ms) ≡ handOut (payloadIn q k ms)
-    handed n = rw (e, n)
+pub handed : (es : List Entry) (out payload : List ℕ) → needsOpen (jobStatus es payload) ≡ served → jobOfPayload es out payload ≡ handOut payload
+handed es out payload n = rw n
 
 -- ---- A list of calls, and the job reading after it
 

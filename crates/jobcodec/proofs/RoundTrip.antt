@@ -44,7 +44,7 @@ pub record Written (f : Params) (es : List Entry) (at : Held) (payload out : Lis
   pub is-open : jobStatus es payload ≡ opened
 
 -- a test of an order that ends in acceptance was passed
-passed : (t : Bool) (out : List ℕ) (a : ℕ) (rest : Encoded) → isRefusal a ≡ true → must t (unwritten out a) rest .answer ≡ served
+pub passed : (t : Bool) (out : List ℕ) (a : ℕ) (rest : Encoded) → isRefusal a ≡ true → must t (unwritten out a) rest .answer ≡ served
     → (t ≡ true) × (rest .answer ≡ served)
 passed true out a rest r e = (refl, e)
 passed false out a rest r e = not-served a r e

@@ -4,13 +4,15 @@ use mathlib.Core.Bool.{true, false}
 use mathlib.Core.List.{List}
 use Prim.Native.Nat.{ℕ, _≤_}
 use lib.ListN.{length}
+use Rattle.refusals.specs.Refusals.{must, badPayload}
 use Rattle.cells.specs.Bytes.{payloadLen}
 use Rattle.construction_a.specs.Figures.{Params, maxAlphabet, inRange, fits, messageLen}
+use Rattle.construction_a.specs.Outcomes.{WordAnswer, rankIs, refusal, Decoded}
 use Rattle.params.specs.Answer.{LaidOut}
 use Rattle.params.specs.declared.Layout.{Layout}
 use Rattle.jobs.specs.declared.Entry.{Entry}
 use Rattle.jobs.specs.Table.{twice}
-use Rattle.payloads.specs.Payload.{carriesJob}
+use Rattle.payloads.specs.Payload.{carriesJob, spellsPayload}
 use Rattle.jobcodec.specs.JobRead.{JobRead}
 
 -- what was seen of a job reading: its answer, and the lent payload
@@ -42,9 +44,18 @@ pub record Readable (f : Params) (es : List Entry) (message payload : List ℕ) 
   pub room : length message ≡ messageLen f
   pub lent : length payload ≡ payloadLen (f .q) (messageLen f)
 
--- a message that holds as many bytes as the payload has, a job number at least
+abbrev pub spelledAs : ℕ → ℕ → List ℕ → WordAnswer → WordAnswer
+spelledAs q k ms (rankIs v) = must (spellsPayload q k ms) (refusal badPayload) (rankIs v)
+spelledAs q k ms (refusal a) = refusal a
+
+-- what a word is answered with where its message is to spell a payload: 10 behind the word's own refusals
+abbrev pub spelledAnswer : ℕ → ℕ → Decoded → WordAnswer
+spelledAnswer q k d = spelledAs q k (d .message) (d .answer)
+
+-- a message that spells as many bytes as the payload has, a job number at least
 pub record Holding (q : ℕ) (message payload : List ℕ) : Type 0 where
   pub alphabet : 2 ≤ q
   pub bytes : q ≤ maxAlphabet
   pub count : length payload ≡ payloadLen q (length message)
   pub number : 4 ≤ length payload
+  pub spelled : spellsPayload q (length message) message ≡ true

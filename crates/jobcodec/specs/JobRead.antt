@@ -29,12 +29,13 @@ withhold out a = record { answer = a; payload = out }
 
 -- ---- Under any codec with alphabet q and messages of k symbols
 
--- "The job reader goes on only with an accepted word": of its message 10, 12, 23 and 14 are left to refuse with
+-- "Writing or reading a job requires it open": of a payload 12, 23 and 14 are left to refuse with
+abbrev pub jobOfPayload : List Entry → List ℕ → List ℕ → JobRead
+jobOfPayload es out payload = whereOpen (jobStatus es payload) (withhold out) (handOut payload)
+
+-- "The job reader goes on only with an accepted word": of its message 10, and then those of its payload
 abbrev pub jobOf : ℕ → ℕ → List Entry → List ℕ → List ℕ → JobRead
-jobOf q k es out ms =
-    must (spellsPayload q k ms) (withhold out badPayload)
-    (whereOpen (jobStatus es (payloadIn q k ms)) (withhold out)
-    (handOut (payloadIn q k ms)))
+jobOf q k es out ms = must (spellsPayload q k ms) (withhold out badPayload) (jobOfPayload es out (payloadIn q k ms))
 
 abbrev pub jobIn : ℕ → ℕ → List Entry → List ℕ → Reading → JobRead
 jobIn q k es out (refused a) = withhold out a

@@ -1,0 +1,4 @@
+pub mod Calls
+pub mod Payload
+pub mod Reading
+pub mod RoundTrip

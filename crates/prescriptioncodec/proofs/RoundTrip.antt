@@ -1,0 +1,171 @@
+-- A prescription that was written reads back under the same table, however its word is spoilt inside the placement's bursts. Assumes nothing.
+use mathlib.Core.Path.{_≡_, refl, sym, ap, subst, _∙_}
+use mathlib.Core.Bool.{Bool, true, false, not, _&&_}
+use mathlib.Core.List.{List, _∷_, _++_}
+use mathlib.Core.Option.{Option, none, some}
+use Prim.Native.Nat.{ℕ, _+_, _-_, _/_, _%_, _^_, _≤_, _<_}
+use native.Mathlib.Omega.{arith}
+use lib.Dec.{T, eqb, leb, ltb, leb→le}
+use lib.ListN.{length, getD, drop, replicate, length-replicate}
+use lib.Seq.{drop-at}
+use lib.IntN.{ℤ, pos, negsuc, natAbs}
+use borrow.Author.Tests.{lt-ltb}
+use Rattle.refusals.specs.Refusals.{must, served, invalid, unfit, wrongLength, badStarts, badPayload, badPrescription}
+use Rattle.combinatorics.specs.Lists.{all, any, allBelow}
+use Rattle.combinatorics.specs.Bursts.{apart, inBurst}
+use Rattle.combinatorics.proofs.Cases.{eqb-same}
+use Rattle.combinatorics.proofs.Lists.{all-append, all-replicate, both}
+use Rattle.cells.specs.Bytes.{byteValues, payloadLen}
+use Rattle.cells.specs.Codec.{Word}
+use Rattle.cells.specs.Digits.{plain, spell, span}
+use Rattle.cells.proofs.Digits.{length-spell, value-spell, value-front, spell-spelled, spelled-plain, span-plain}
+use Rattle.construction_a.specs.Figures.{Params, maxBursts, inRange, fits, messageLen}
+use Rattle.construction_a.specs.Outcomes.{Held, inUse, Encoded, unwritten}
+use Rattle.construction_a.specs.DemandTwo.{constructionA}
+use Rattle.construction_a.proofs.Figures.{ranged}
+use Rattle.construction_a.proofs.DemandTwo.{demand-two}
+use Rattle.jobs.specs.declared.Entry.{Entry}
+use Rattle.jobs.specs.Table.{twice}
+use Rattle.payloads.specs.Payload.{carriesJob, jobNumber}
+use Rattle.payloads.proofs.Payload.{payload-back, payload-passes}
+use Rattle.jobcodec.specs.DemandThree.{isRefusal}
+use Rattle.jobcodec.proofs.DemandThree.{not-served, read-pair}
+use Rattle.jobcodec.proofs.RoundTrip.{passed, written, written-gives}
+use Rattle.prescription.specs.declared.texts.Prescription.{Prescription}
+use Rattle.prescription.specs.Lens.{Lens, plano, sphere, toric, keeps}
+use Rattle.prescription.specs.Eyes.{isDistance, Prescribed, KeepsRules, prescribedOf, prescriptionOf}
+use Rattle.prescription.specs.Stored.{bitsOf, fieldsOf, bytesOf, textOf, storedLen}
+use Rattle.prescription.specs.Outcomes.{answered}
+use Rattle.prescription.proofs.Lenses.{toric-kept, sphere-kept, cylinder-in}
+use Rattle.prescription.proofs.InMemory.{held-exactly}
+use Rattle.prescription.proofs.TextBack.{text-back}
+use Rattle.prescription.specs.declared.fields.StoredEye.{StoredEye}
+use Rattle.prescriptioncodec.specs.PrescriptionWrite.{numberLen, numberBytes, prescriptionPayload, minPayload, writePrescribed, prescriptionWriteOut}
+use Rattle.prescriptioncodec.specs.PrescriptionRead.{prescriptionReading, prescriptionReadOut}
+use Rattle.prescriptioncodec.specs.Laws.{PrescriptionsReadBack}
+use Rattle.prescriptioncodec.proofs.Calls.{writes-job}
+
+-- ---- Its bytes are bytes
+
+cons-below : (a : ℕ) (xs : List ℕ) → a < 256 → allBelow 256 xs ≡ true → allBelow 256 (a ∷ xs) ≡ true
+unfolding all
+cons-below a xs h k = ap (λ (b : Bool). b && all (λ x. ltb x 256) xs) (lt-ltb a 256 h) ∙ k
+
+bits-below : (c : ℤ) → natAbs c ≤ 480 → bitsOf c < 65536
+bits-below (pos n) h = omega arith
+bits-below (negsuc n) h = omega arith
+
+six-below : (f : StoredEye) (xs : List ℕ) → f .kind < 256 → f .sphere < 65536 → f .cylinder < 65536 → f .axis < 256 → allBelow 256 xs ≡ true → allBelow 256 (bytesOf f ++ xs) ≡ true
+six-below f xs k s c a h =
+    cons-below (f .kind) _ k (cons-below (f .sphere / 256) _ (omega arith) (cons-below (f .sphere % 256) _ (omega arith)
+    (cons-below (f .cylinder / 256) _ (omega arith) (cons-below (f .cylinder % 256) _ (omega arith) (cons-below (f .axis) xs a h)))))
+
+eye-below : (l : Lens) (xs : List ℕ) → keeps l ≡ true → allBelow 256 xs ≡ true → allBelow 256 (bytesOf (fieldsOf l) ++ xs) ≡ true
+unfolding fieldsOf
+eye-below plano xs k h = six-below (fieldsOf plano) xs (omega arith) (omega arith) (omega arith) (omega arith) h
+eye-below (sphere p) xs k h = six-below (fieldsOf (sphere p)) xs (omega arith) (bits-below p (let l = sphere-kept p k in omega arith)) (omega arith) (omega arith) h
+eye-below (toric s c a) xs k h =
+    let t = toric-kept s c a k in
+    six-below (fieldsOf (toric s c a)) xs (omega arith) (bits-below s (let l = t .sphere-in in omega arith)) (bits-below c (cylinder-in s c a t)) (let l = t .high in omega arith) h
+
+distance-below : (h : ℕ) → isDistance h ≡ true → h < 256
+distance-below h e = let l = leb→le h 160 (subst T (sym (both (leb 80 h) (leb h 160) e .1)) tt) in omega arith
+
+text-below : (t : ℕ) (x : Prescribed) → KeepsRules x → allBelow 256 (textOf t x) ≡ true
+unfolding textOf
+text-below t x k =
+    eye-below (x .right) _ (k .right-kept) (eye-below (x .left) _ (k .left-kept)
+    (cons-below (x .halves) (replicate (t - storedLen) 0) (distance-below (x .halves) (k .distance)) (all-replicate (λ y. ltb y 256) (t - storedLen) 0 refl)))
+
+-- ---- The number
+
+number-fits : (n : ℕ) → n < 2 ^ 32 → n < span byteValues (replicate numberLen plain)
+number-fits n h = subst (λ (z : ℕ). n < z) (sym (span-plain byteValues numberLen)) h
+
+payload-below : (K n : ℕ) (x : Prescribed) → n < 2 ^ 32 → KeepsRules x → allBelow byteValues (prescriptionPayload K n x) ≡ true
+unfolding prescriptionPayload numberBytes
+payload-below K n x h k =
+    all-append (λ y. ltb y 256) (spell byteValues (replicate numberLen plain) n) (textOf (K - numberLen) x)
+    (spelled-plain byteValues numberLen (spell byteValues (replicate numberLen plain) n) (spell-spelled byteValues (replicate numberLen plain) n (number-fits n h)))
+    (text-below (K - numberLen) x k)
+
+number-length : (n : ℕ) → length (spell byteValues (replicate numberLen plain) n) ≡ 4
+number-length n = length-spell byteValues (replicate numberLen plain) n ∙ length-replicate numberLen plain
+
+pub number-back : (K n : ℕ) (x : Prescribed) → n < 2 ^ 32 → jobNumber (prescriptionPayload K n x) ≡ n
+unfolding jobNumber prescriptionPayload numberBytes
+number-back K n x h =
+    value-front byteValues (replicate 4 plain) (spell byteValues (replicate numberLen plain) n) (textOf (K - numberLen) x) (length-spell byteValues (replicate numberLen plain) n)
+    ∙ value-spell byteValues (replicate numberLen plain) n (number-fits n h)
+
+pub text-of-payload : (K n : ℕ) (x : Prescribed) → drop numberLen (prescriptionPayload K n x) ≡ textOf (K - numberLen) x
+unfolding prescriptionPayload numberBytes
+text-of-payload K n x = drop-at (spell byteValues (replicate numberLen plain) n) (textOf (K - numberLen) x) 4 (number-length n)
+
+-- ---- What an accepted writing says of its input
+
+found-prescribed : (f : Params) (es : List Entry) (at : Held) (n : ℕ) (out : List ℕ) (o : Option Prescribed) → writePrescribed f es at n o out .answer ≡ served
+    → (x : Prescribed) × (o ≡ some x)
+unfolding isRefusal any
+found-prescribed f es at n out none e = not-served badPrescription refl e
+found-prescribed f es at n out (some x) e = (x, refl)
+
+written-told : (f : Params) (es : List Entry) (at : Held) (n : ℕ) (p : Prescription) (out : List ℕ) → prescriptionWriteOut f es at n p out .answer ≡ served
+    → (minPayload ≤ payloadLen (f .q) (messageLen f)) × ((x : Prescribed) × (prescribedOf p ≡ some x))
+unfolding prescriptionWriteOut isRefusal any
+written-told f es at n p out e =
+    let K = payloadLen (f .q) (messageLen f) in
+    let last = writePrescribed f es at n (prescribedOf p) out in
+    let enough = must (leb minPayload K) (unwritten out badPrescription) last in
+    let starts = must (apart (f .b) (f .n) 0 (inUse at)) (unwritten out badStarts) enough in
+    let lengths = must (eqb (at .count) (f .m) && eqb (length out) (f .n)) (unwritten out wrongLength) starts in
+    let five = must (carriesJob (f .q) (messageLen f)) (unwritten out badPayload) lengths in
+    let p₁ = passed (inRange f && not (twice es)) out invalid (must (fits f) (unwritten out unfit) five) refl e in
+    let p₂ = passed (fits f) out unfit five refl (p₁ .1) in
+    let p₃ = passed (carriesJob (f .q) (messageLen f)) out badPayload lengths refl (p₂ .1) in
+    let p₄ = passed (eqb (at .count) (f .m) && eqb (length out) (f .n)) out wrongLength starts refl (p₃ .1) in
+    let p₅ = passed (apart (f .b) (f .n) 0 (inUse at)) out badStarts enough refl (p₄ .1) in
+    let p₆ = passed (leb minPayload K) out badPrescription last refl (p₅ .1) in
+    (leb→le minPayload K (subst T (sym (p₆ .0)) tt), found-prescribed f es at n out (prescribedOf p) (p₆ .1))
+
+-- ---- Reading it back
+
+module _ (f : Params) (es : List Entry) (at : Held) (n : ℕ) (p : Prescription) (x : Prescribed) (out : List ℕ)
+    (enough : minPayload ≤ payloadLen (f .q) (messageLen f)) (number : n < 2 ^ 32) (is : prescribedOf p ≡ some x) (six : length (at .starts) ≡ maxBursts) where
+  prescription-reads : (w : List ℕ) → prescriptionWriteOut f es at n p out .answer ≡ served → Word (constructionA f) w
+      → ((i : ℕ) → i < f .n → inBurst (f .b) (inUse at) i ≡ false → getD w i 0 ≡ getD (prescriptionWriteOut f es at n p out .word) i 0)
+      → prescriptionReadOut f es w ≡ answered (record { number = n; prescription = prescriptionOf x })
+  unfolding prescriptionReadOut prescriptionReading
+  prescription-reads w e found outside =
+      let q = f .q in
+      let k = messageLen f in
+      let K = payloadLen q k in
+      let y = prescriptionPayload K n x in
+      let kept = held-exactly .ruled p x is in
+      let job = writes-job f es at n p x out enough is in
+      let wr = written f es at y out (ap (λ (r : Encoded). r .answer) (sym job) ∙ e) in
+      let bytes = payload-below K n x number kept in
+      let g = written-gives f es at y out six bytes w wr (λ i l b. outside i l b ∙ ap (λ (r : Encoded). getD (r .word) i 0) job) in
+      let two = ranged f (wr .ready .range) .q-least in
+      rw (
+        wr .ready .range,
+        wr .ready .once,
+        wr .ready .fit,
+        wr .ready .carries,
+        eqb-same (length w) (f .n) (found .complete),
+        found .symbols,
+        read-pair (constructionA f) (demand-two f (wr .ready .range) (wr .ready .fit) .exactly) two w found (inUse at) y g,
+        payload-passes q k two y (g .whole),
+        payload-back q k two y (g .whole),
+        text-of-payload K n x,
+        text-back (K - numberLen) x kept,
+        wr .is-open,
+        number-back K n x number,
+      )
+
+pub prescriptions-read-back : PrescriptionsReadBack
+prescriptions-read-back f es at n p out w six number floats e found outside =
+    let told = written-told f es at n p out e in
+    let x = told .1 .0 in
+    prescription-reads f es at n p x out (told .0) number (told .1 .1) six w e found outside
+    ∙ ap (λ (q : Prescription). answered (record { number = n; prescription = q })) (sym (held-exactly .alone p x floats (told .1 .1)))

@@ -1,0 +1,3 @@
+pub mod PrescriptionWrite
+pub mod PrescriptionRead
+pub mod Laws

@@ -1,0 +1,68 @@
+-- What prescription write answers, and what the lent word holds afterwards, for every input. Number and prescription come by value. Assumes nothing.
+use mathlib.Core.Bool.{not, _&&_}
+use mathlib.Core.List.{List, _++_}
+use mathlib.Core.Option.{Option, none, some}
+use Prim.Native.Nat.{ℕ, _-_}
+use lib.Dec.{eqb, leb}
+use lib.ListN.{length, replicate}
+use Rattle.refusals.specs.Refusals.{must, served, invalid, unfit, wrongLength, badStarts, badPayload, badPrescription, numberZero}
+use Rattle.combinatorics.specs.Bursts.{apart}
+use Rattle.cells.specs.Bytes.{byteValues, payloadLen}
+use Rattle.cells.specs.Digits.{plain, spell}
+use Rattle.construction_a.specs.Figures.{Params, inRange, fits, messageLen}
+use Rattle.construction_a.specs.Writing.{word}
+use Rattle.construction_a.specs.Outcomes.{Held, inUse, Encoded, unwritten}
+use Rattle.jobs.specs.declared.Entry.{Entry}
+use Rattle.jobs.specs.Jobs.{isJob}
+use Rattle.jobs.specs.Table.{twice}
+use Rattle.payloads.specs.Payload.{carriesJob, jobNumber, messageOf}
+use Rattle.jobcodec.specs.JobWrite.{jobStatus, whereOpen, jobWriteOut}
+use Rattle.prescription.specs.declared.texts.Prescription.{Prescription}
+use Rattle.prescription.specs.Eyes.{Prescribed, prescribedOf}
+use Rattle.prescription.specs.Stored.{textOf}
+
+-- "a 4-byte job number, high byte first, then text"
+abbrev pub numberLen : ℕ
+numberLen = 4
+
+unfoldable pub numberBytes : ℕ → List ℕ
+numberBytes n = spell byteValues (replicate numberLen plain) n
+
+-- the payload of a number and a prescription, of K bytes
+unfoldable pub prescriptionPayload : ℕ → ℕ → Prescribed → List ℕ
+prescriptionPayload K n x = numberBytes n ++ textOf (K - numberLen) x
+
+-- "a payload below 17 bytes" is too short: number and thirteen bytes
+abbrev pub minPayload : ℕ
+minPayload = 17
+
+-- the state refusals are left: 17 12 23 14
+abbrev pub writeOpen : Params → List Entry → Held → List ℕ → List ℕ → Encoded
+writeOpen f es at payload out =
+    must (isJob (jobNumber payload)) (unwritten out numberZero)
+    (whereOpen (jobStatus es payload) (unwritten out)
+    (record { answer = served; word = word f (inUse at) (messageOf (f .q) (messageLen f) payload) }))
+
+abbrev pub writePrescribed : Params → List Entry → Held → ℕ → Option Prescribed → List ℕ → Encoded
+writePrescribed f es at n none out = unwritten out badPrescription
+writePrescribed f es at n (some x) out = writeOpen f es at (prescriptionPayload (payloadLen (f .q) (messageLen f)) n x) out
+
+-- "The prescription calls refuse with 16, after all other input refusals, any .. value in memory outside these rules .. or a payload below 17 bytes":
+-- 1 2 10 3 5 16 17 12 23 14
+unfoldable pub prescriptionWriteOut : Params → List Entry → Held → ℕ → Prescription → List ℕ → Encoded
+prescriptionWriteOut f es at n p out =
+    let k = messageLen f in
+    must (inRange f && not (twice es)) (unwritten out invalid)
+    (must (fits f) (unwritten out unfit)
+    (must (carriesJob (f .q) k) (unwritten out badPayload)
+    (must (eqb (at .count) (f .m) && eqb (length out) (f .n)) (unwritten out wrongLength)
+    (must (apart (f .b) (f .n) 0 (inUse at)) (unwritten out badStarts)
+    (must (leb minPayload (payloadLen (f .q) k)) (unwritten out badPrescription)
+    (writePrescribed f es at n (prescribedOf p) out))))))
+
+-- ---- Where every other test is passed
+
+-- the prescription's payload of K bytes, written as a job's
+abbrev pub asJob : Params → List Entry → Held → ℕ → ℕ → List ℕ → Option Prescribed → Encoded
+asJob f es at n K out none = unwritten out badPrescription
+asJob f es at n K out (some x) = jobWriteOut f es at (prescriptionPayload K n x) out

@@ -1,0 +1,223 @@
+// Writing and reading prescriptions: a job's number and its prescription in a word, where the table has the job open. Assumes nothing.
+ghost use mathlib.Core.Path.{_≡_};
+ghost use Prim.Native.Nat.{_≤_};
+ghost use lib.ListN.{length};
+ghost use Rattle.construction_a.specs.Outcomes.{unwritten};
+ghost use Rattle.params.specs.Bridge.{given};
+ghost use Rattle.placements.specs.Bridge.{heldAs};
+ghost use Rattle.jobs.specs.Slots.{entries};
+ghost use Rattle.payloads.specs.Payload.{payloadIn};
+ghost use Rattle.jobcodec.specs.Given.{Laid, Readable, Holding};
+ghost use Rattle.prescription.specs.Eyes.{prescribedOf};
+ghost use Rattle.prescriptioncodec.specs.PrescriptionRead.{ofPayload, prescriptionReadOut, readAnswered};
+ghost use Rattle.prescriptioncodec.specs.PrescriptionWrite.{asJob, prescriptionWriteOut};
+use decoder::WordAnswer;
+use jobs::JobTable;
+use params::Layout;
+use params::LayoutAnswer;
+use params::Params;
+use params::bytes;
+use placements::Placement;
+use prescription::texts::Prescription;
+use prescription::texts::PrescriptionAnswer;
+use refusals::Refusal;
+
+// A payload begins with the job number's bytes, and with thirteen more of a prescription it has these.
+const NUMBER_BYTES: usize = 4;
+
+const MIN_PRESCRIBED: usize = 17;
+
+// No message and no payload is longer than the longest word.
+const MAX_LEN: usize = Params::MAX_WORD as usize;
+
+const SHORT_LEN: usize = Params::SHORT_WORD as usize;
+
+// A job's number and its prescription, or the refusal.
+pub enum ReadAnswer {
+    Handed(u32, Prescription),
+    Refused(u8),
+}
+
+// Writes a job's number and its prescription into a word. Refusals in order: 1 2 10 3 5 16 17 12 23 14; the word then keeps what it held.
+pub fn prescription_write(
+    figures: Params,
+    table: JobTable,
+    at: Placement,
+    number: u32,
+    prescription: Prescription,
+    word: &mut [u8],
+) -> u8
+    ensures answer { λ r. ⌜ r ≡ prescriptionWriteOut (given figures) (entries table) (heldAs at) number prescription (now (word .entry)) .answer ⌝ }
+    ensures word { λ _. ⌜ now (word .exit) ≡ prescriptionWriteOut (given figures) (entries table) (heldAs at) number prescription (now (word .entry)) .word ⌝ }
+{
+    if table.twice() {
+        return Refusal::INVALID;
+    }
+    let answer = Params::figures(figures.n, figures.q, figures.m, figures.b);
+    match answer {
+        LayoutAnswer::Refused(refusal) => refusal,
+        LayoutAnswer::Fit(layout) => write_laid(
+            figures,
+            layout,
+            table,
+            at,
+            number,
+            prescription,
+            word,
+        ),
+    }
+}
+
+// The same for figures that fit. Refusals: 10 3 5 16 17 12 23 14.
+fn write_laid(
+    figures: Params,
+    layout: Layout,
+    table: JobTable,
+    at: Placement,
+    number: u32,
+    prescription: Prescription,
+    word: &mut [u8],
+) -> u8
+    requires { ⌜ Laid (given figures) layout (entries table) ⌝ }
+    ensures { λ r. ⌜ unwritten (now (word .exit)) r ≡ prescriptionWriteOut (given figures) (entries table) (heldAs at) number prescription (now (word .entry)) ⌝ }
+{
+    let count = bytes::payload_len(layout.q, layout.message_len);
+    if count < jobcodec::MIN_PAYLOAD {
+        return Refusal::PAYLOAD;
+    }
+    if at.count != figures.m {
+        return Refusal::LENGTH;
+    }
+    if word.len() != layout.n {
+        return Refusal::LENGTH;
+    }
+    if !at.apart(figures.n, figures.b) {
+        return Refusal::STARTS;
+    }
+    if count < MIN_PRESCRIBED {
+        return Refusal::PRESCRIPTION;
+    }
+    if count <= SHORT_LEN {
+        let mut short = [0u8; SHORT_LEN];
+        return write_payload(
+            figures,
+            table,
+            at,
+            number,
+            prescription,
+            &mut short[..count],
+            word,
+        );
+    }
+    let mut payload = [0u8; MAX_LEN];
+    write_payload(
+        figures,
+        table,
+        at,
+        number,
+        prescription,
+        &mut payload[..count],
+        word,
+    )
+}
+
+// Makes the payload of a number and a prescription, and writes it as a job's.
+fn write_payload(
+    figures: Params,
+    table: JobTable,
+    at: Placement,
+    number: u32,
+    prescription: Prescription,
+    payload: &mut [u8],
+    word: &mut [u8],
+) -> u8
+    requires { ⌜ 17 ≤ length (now payload) ⌝ }
+    ensures { λ r. ⌜ unwritten (now (word .exit)) r ≡ asJob (given figures) (entries table) (heldAs at) number (length (now (payload .entry))) (now (word .entry)) (prescribedOf prescription) ⌝ }
+{
+    let refusal = prescription.write_text(&mut payload[NUMBER_BYTES..]);
+    if refusal != Refusal::NONE {
+        return refusal;
+    }
+    payloads::spell_value(
+        bytes::BYTE_VALUES,
+        number as u64,
+        &mut payload[..NUMBER_BYTES],
+    );
+    jobcodec::job_write(figures, table, at, payload, word)
+}
+
+// Hands out the number and the prescription of a found word. Refusals in order: 1 2, 10 for too few bytes, 3 4 7 19 8 9 19, 10, 16, 12 23 14.
+pub fn prescription_read(figures: Params, table: JobTable, word: &[u8]) -> ReadAnswer
+    ensures { λ r. ⌜ readAnswered r ≡ prescriptionReadOut (given figures) (entries table) (now (word .entry)) ⌝ }
+{
+    if table.twice() {
+        return ReadAnswer::Refused(Refusal::INVALID);
+    }
+    let answer = Params::figures(figures.n, figures.q, figures.m, figures.b);
+    match answer {
+        LayoutAnswer::Refused(number) => ReadAnswer::Refused(number),
+        LayoutAnswer::Fit(layout) => read_laid(figures, layout, table, word),
+    }
+}
+
+// The same for figures that fit. Refusals: 10 for too few bytes, 3 4 7 19 8 9 19, 10, 16, 12 23 14.
+fn read_laid(figures: Params, layout: Layout, table: JobTable, word: &[u8]) -> ReadAnswer
+    requires { ⌜ Laid (given figures) layout (entries table) ⌝ }
+    ensures { λ r. ⌜ readAnswered r ≡ prescriptionReadOut (given figures) (entries table) (now (word .entry)) ⌝ }
+{
+    let k = layout.message_len;
+    let count = bytes::payload_len(layout.q, k);
+    if count < jobcodec::MIN_PAYLOAD {
+        return ReadAnswer::Refused(Refusal::PAYLOAD);
+    }
+    if k <= SHORT_LEN {
+        let mut short = [0u8; SHORT_LEN];
+        let mut bytes = [0u8; SHORT_LEN];
+        return read_message(figures, table, word, &mut short[..k], &mut bytes[..count]);
+    }
+    let mut message = [0u8; MAX_LEN];
+    let mut payload = [0u8; MAX_LEN];
+    read_message(
+        figures,
+        table,
+        word,
+        &mut message[..k],
+        &mut payload[..count],
+    )
+}
+
+// The reader goes on only with an accepted word that spells a payload. Refusals: 3 4 7 19 8 9 19, 10, 16, 12 23 14.
+fn read_message(
+    figures: Params,
+    table: JobTable,
+    word: &[u8],
+    message: &mut [u8],
+    payload: &mut [u8],
+) -> ReadAnswer
+    requires { ⌜ Readable (given figures) (entries table) (now message) (now payload) ⌝ }
+    ensures { λ r. ⌜ readAnswered r ≡ prescriptionReadOut (given figures) (entries table) (now (word .entry)) ⌝ }
+{
+    let answer = jobcodec::read_spelled(figures, word, message);
+    match answer {
+        WordAnswer::Refused(number) => ReadAnswer::Refused(number),
+        WordAnswer::Accepted(_) => { hand_out(table, figures.q as u64, message, payload) }
+    }
+}
+
+// The number and the prescription of the payload that an accepted word's message spells. Refusals: 16, 12 23 14.
+fn hand_out(table: JobTable, q: u64, message: &[u8], payload: &mut [u8]) -> ReadAnswer
+    requires { ⌜ Holding q (now message) (now payload) ⌝ }
+    ensures { λ r. ⌜ readAnswered r ≡ ofPayload (entries table) (payloadIn q (length (now (message .entry))) (now (message .entry))) ⌝ }
+{
+    payloads::unspell(q, bytes::byte_width(q), message, payload);
+    let answer = Prescription::read_text(&payload[NUMBER_BYTES..]);
+    let PrescriptionAnswer::Kept(prescription) = answer else {
+        return ReadAnswer::Refused(Refusal::PRESCRIPTION);
+    };
+    let number = payloads::job_number(payload);
+    let refusal = jobcodec::needs_open(table, number);
+    if refusal != Refusal::NONE {
+        return ReadAnswer::Refused(refusal);
+    }
+    ReadAnswer::Handed(number, prescription)
+}
