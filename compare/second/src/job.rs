@@ -24,7 +24,7 @@ pub fn payload_len(f: &Figures) -> usize {
 }
 
 /// The number that a payload of at least 4 bytes begins with.
-fn number(payload: &[u8]) -> u32 {
+pub(crate) fn number(payload: &[u8]) -> u32 {
     u32::from_be_bytes([payload[0], payload[1], payload[2], payload[3]])
 }
 
@@ -73,10 +73,15 @@ pub fn write_job(f: &Figures, book: &Book, starts: &[u16], payload: &[u8], word:
     if let Err(refusal) = book.require_writable(number(payload)) {
         return refusal;
     }
+    write_payload(f, starts, payload, word);
+    0
+}
+
+/// Writes the word of a placement and K bytes that are known to be right.
+pub(crate) fn write_payload(f: &Figures, starts: &[u16], payload: &[u8], word: &mut [u8]) {
     let mut message = vec![0; f.k];
     spell(f.q, payload, &mut message);
     write(f, starts, &message, word);
-    0
 }
 
 /// Reads an open job's word. Refusals 10 for K, 3 4 7 19 8 9 19, 10, 12 23 14.
@@ -88,19 +93,25 @@ pub fn read_job(f: &Figures, book: &Book, word: &[u8], payload: &mut [u8]) -> u8
     if word.len() != f.n || payload.len() != len {
         return 3;
     }
-    let found = match read(f, word) {
-        Ok(found) => found,
+    let bytes = match found_payload(f, word) {
+        Ok(bytes) => bytes,
         Err(refusal) => return refusal,
     };
-    let mut message = vec![0; f.k];
-    found.message(f, word, &mut message);
-    let mut bytes = vec![0; len];
-    if !unspell(f.q, &message, &mut bytes) {
-        return 10;
-    }
     if let Err(refusal) = book.require_open(number(&bytes)) {
         return refusal;
     }
     payload.copy_from_slice(&bytes);
     0
+}
+
+/// The K bytes that a found word of n bytes carries. Refusals 4 7 19 8 9 19, 10.
+pub(crate) fn found_payload(f: &Figures, word: &[u8]) -> Result<Vec<u8>, u8> {
+    let found = read(f, word)?;
+    let mut message = vec![0; f.k];
+    found.message(f, word, &mut message);
+    let mut bytes = vec![0; payload_len(f)];
+    if !unspell(f.q, &message, &mut bytes) {
+        return Err(10);
+    }
+    Ok(bytes)
 }
