@@ -1,7 +1,7 @@
 // The transfer program: does what `turns` wants of the system, until it wants nothing more. Of what a read gives it assumes no more than its length.
 ghost use Rattle.turns.specs.State.{Buffers};
 ghost use Rattle.burgzemi.specs.Finished.{Finished};
-use transfer::Session;
+use records::Session;
 use turns::State;
 use turns::Wants;
 

@@ -45,9 +45,11 @@ use Rattle.exports.specs.Words.{CoverLent, encodeBytesOut, differs, verifyBytes
 use Rattle.exports.specs.Table.{tableLen, statesKnown, tableIn}
 use Rattle.exports.specs.Jobs.{CallLent, called, calledAs, isWhole as wholeTable, slotsFit, callBytesOut, jobWriteBytesOut, jobReadBytesOut}
 use Rattle.text.specs.Text.{decimal, hex}
-use Rattle.transfer.specs.Session.{Session, maxRecords, after}
-use Rattle.transfer.specs.Lines.{refusalLine, servedLine}
-use Rattle.transfer.specs.Records.{letterS, letterW, letterR, headLen, letterOf, isEmpty, current, Step, stopped, ended, goesOn, figuresIn, figuresStep, callStep, jobStep, startsIn, payloadOf, writeOut, readOut, serveOut, readable, stepOut}
+use Rattle.records.specs.Session.{Session, maxRecords, after}
+use Rattle.lines.specs.Lines.{refusalLine, servedLine}
+use Rattle.lines.specs.Lines.{letterS, letterW, letterR}
+use Rattle.records.specs.Records.{headLen, letterOf, isEmpty, current, figuresIn, startsIn, payloadOf, readable}
+use Rattle.transfer.specs.Steps.{Step, stopped, ended, goesOn, figuresStep, callStep, jobStep, writeOut, readOut, serveOut, stepOut}
 use Rattle.demands.specs.Orders.{figuresAlone, wordWrite, covering, wordRead, rearrangement, jobWrite, jobRead, call, callByLetter, callOnBytes, listOfCalls}
 use Rattle.demands.specs.DemandOne.{AnswersBy, ChecksBy, ListAnswers, StepAnswers, at-end, stops, refuses, serves, DemandOne}
 

@@ -29,9 +29,11 @@ use Rattle.exports.specs.Follows.{answersOn, bytesAfter}
 use Rattle.exports.specs.Table.{tableIn}
 use Rattle.exports.proofs.Follows.{bytes-left, bytes-follow}
 use Rattle.exports.proofs.JobLaws.{read-whole}
-use Rattle.transfer.specs.Session.{Session, atStart, maxRecords, after}
-use Rattle.transfer.specs.Lines.{refusalLine}
-use Rattle.transfer.specs.Records.{letterS, letterR, headLen, isMarked, letterOf, current, recordLen, readable, Step, figuresIn, figuresStep, callStep, readStep, readOut, stepOut}
+use Rattle.records.specs.Session.{Session, atStart, maxRecords, after}
+use Rattle.lines.specs.Lines.{refusalLine}
+use Rattle.lines.specs.Lines.{letterS, letterR}
+use Rattle.records.specs.Records.{headLen, isMarked, letterOf, current, recordLen, readable, figuresIn}
+use Rattle.transfer.specs.Steps.{Step, figuresStep, callStep, readStep, readOut, stepOut}
 use Rattle.transfer.proofs.Serving.{step-serves, serve-S, serve-R, serve-call-is}
 use Rattle.demands.specs.DemandThree.{BytesClaimed, sessionAfter, linesOf, isCall, callsIn, answerLines, IsSession, SessionClaimed}
 

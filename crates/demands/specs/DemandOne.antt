@@ -29,9 +29,10 @@ use Rattle.lanes.specs.Outcomes.{interleaveOut, deinterleaveOut}
 use Rattle.verifier.specs.Verify.{Verdict, agreeing, verdictRefusal, verifyOut}
 use Rattle.exports.specs.Words.{encodeBytesOut, differs, verdictNumber, verifyBytesOut, coverBytesOut}
 use Rattle.exports.specs.Jobs.{callBytesOut, jobWriteBytesOut, jobReadBytesOut}
-use Rattle.transfer.specs.Session.{Session, after}
-use Rattle.transfer.specs.Lines.{refusalLine, servedLine}
-use Rattle.transfer.specs.Records.{letterOf, Step, stopped, ended, goesOn, stepOut}
+use Rattle.records.specs.Session.{Session, after}
+use Rattle.lines.specs.Lines.{refusalLine, servedLine}
+use Rattle.records.specs.Records.{letterOf}
+use Rattle.transfer.specs.Steps.{Step, stopped, ended, goesOn, stepOut}
 use Rattle.demands.specs.Orders.{figuresAlone, wordWrite, covering, wordRead, rearrangement, jobWrite, jobRead, call, callByLetter, callOnBytes, listOfCalls}
 
 -- A call whose order is given answers a; what was lent is then `left`.

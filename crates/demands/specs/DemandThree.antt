@@ -21,9 +21,11 @@ use Rattle.jobcodec.specs.JobRead.{JobRead}
 use Rattle.exports.specs.Follows.{answersOn, bytesAfter, numbered}
 use Rattle.exports.specs.Jobs.{jobReadBytesOut}
 use Rattle.exports.specs.Table.{TableOf}
-use Rattle.transfer.specs.Lines.{refusalLine}
-use Rattle.transfer.specs.Records.{letterS, letterR, headLen, isMarked, letterOf, figuresIn, readStep, stepOut}
-use Rattle.transfer.specs.Session.{Session, atStart, maxRecords}
+use Rattle.lines.specs.Lines.{refusalLine}
+use Rattle.lines.specs.Lines.{letterS, letterR}
+use Rattle.records.specs.Records.{headLen, isMarked, letterOf, figuresIn}
+use Rattle.transfer.specs.Steps.{readStep, stepOut}
+use Rattle.records.specs.Session.{Session, atStart, maxRecords}
 
 -- ---- A program in C
 

@@ -22,7 +22,8 @@ use Rattle.payloads.specs.Payload.{carriesJob, jobNumber, messageOf, payloadIn,
 use Rattle.jobcodec.specs.JobWrite.{jobWriteOut}
 use Rattle.jobcodec.specs.JobRead.{jobReading, jobReadOut}
 use Rattle.text.specs.Text.{decimalLen, decimal, hexDigit, hexByte, hex}
-use Rattle.transfer.specs.Records.{recordLen, serveOut, readable}
+use Rattle.records.specs.Records.{recordLen, readable}
+use Rattle.transfer.specs.Steps.{serveOut}
 use Rattle.transfer.specs.Program.{printedFrom, printed}
 use Rattle.transfer.specs.Example.{exampleInput, examplePrinted, rows, RowsHold}
 

@@ -11,8 +11,10 @@ use Rattle.construction_a.specs.Figures.{Params}
 use Rattle.construction_a.specs.Outcomes.{FiguresOut, figured, unserved, figuresOut}
 use Rattle.jobs.specs.Replay.{kindOf, callBy, isLetter}
 use Rattle.payloads.specs.Payload.{jobNumber}
-use Rattle.transfer.specs.Session.{Session, atStart, maxRecords}
-use Rattle.transfer.specs.Records.{letterS, letterW, letterR, headLen, letterOf, isEmpty, ifFit, current, readable, Step, stopped, ended, figuresIn, figuresStep, callStep, writeOut, readOut, serveOut, stepOut}
+use Rattle.records.specs.Session.{Session, atStart, maxRecords}
+use Rattle.lines.specs.Lines.{letterS, letterW, letterR}
+use Rattle.records.specs.Records.{headLen, letterOf, isEmpty, ifFit, current, readable, figuresIn}
+use Rattle.transfer.specs.Steps.{Step, stopped, ended, figuresStep, callStep, writeOut, readOut, serveOut, stepOut}
 
 -- the figures that are held are those of the last accepted S
 abbrev pub Accepted : Session → Type 0

@@ -15,11 +15,12 @@ use Rattle.construction_a.specs.Figures.{Params}
 use Rattle.construction_a.specs.Outcomes.{FiguresOut, figured, unserved, figuresOut}
 use Rattle.jobs.specs.Replay.{kindOf, callBy, isLetter}
 use Rattle.payloads.specs.Payload.{jobNumber}
-use Rattle.transfer.proofs.Lengths.{reaches}
-use Rattle.transfer.specs.Session.{Session, atStart, maxRecords}
-use Rattle.transfer.specs.Lines.{stopLine, endLine}
-use Rattle.transfer.specs.Records.{letterS, letterW, letterR, headLen, letterOf, isMarked, isEmpty, current, writeLen, readLen, recordLen, isWhole, readable, Step, stopped, ended, figuresIn, figuresStep, callStep, writeOut, readOut, serveOut, stepOut}
-use Rattle.transfer.specs.Program.{reach, nextRecord, behind, printedFrom, printed, Steps, lastStep, step, StepsPrint}
+use Rattle.records.proofs.Lengths.{reaches}
+use Rattle.records.specs.Session.{Session, atStart, maxRecords}
+use Rattle.lines.specs.Lines.{stopLine, endLine, letterS, letterW, letterR}
+use Rattle.records.specs.Records.{headLen, letterOf, isMarked, isEmpty, current, writeLen, readLen, recordLen, isWhole, readable, figuresIn, reach}
+use Rattle.transfer.specs.Steps.{Step, stopped, ended, figuresStep, callStep, writeOut, readOut, serveOut, stepOut}
+use Rattle.transfer.specs.Program.{nextRecord, behind, printedFrom, printed, Steps, lastStep, step, StepsPrint}
 
 -- ---- A record that can be read is served, and counted
 

@@ -21,10 +21,12 @@ use Rattle.jobcodec.specs.JobWrite.{jobWriteOut}
 use Rattle.jobcodec.specs.JobRead.{JobRead, withhold, jobReading, jobReadOut}
 use Rattle.text.specs.Text.{overwrite}
 use Rattle.transfer.specs.declared.StepAnswer.{StepAnswer}
-use Rattle.transfer.specs.Session.{Session, maxRecords, after}
-use Rattle.transfer.specs.Lines.{refusalLine, servedLine}
-use Rattle.transfer.specs.Records.{headLen, letterOf, current, readable, stopped, ended, goesOn, figuresIn, figuresStep, callStep, jobStep, writeStep, readStep, writeOut, readOut, serveOut, stepOut}
-use Rattle.transfer.specs.Bridge.{sessionOf, Shown}
+use Rattle.records.specs.Session.{Session, maxRecords, after}
+use Rattle.lines.specs.Lines.{refusalLine, servedLine}
+use Rattle.records.specs.Records.{headLen, letterOf, current, readable, figuresIn}
+use Rattle.transfer.specs.Steps.{stopped, ended, goesOn, figuresStep, callStep, jobStep, writeStep, readStep, writeOut, readOut, serveOut, stepOut}
+use Rattle.records.specs.Bridge.{sessionOf}
+use Rattle.transfer.specs.Bridge.{Shown}
 
 module _ (r : StepAnswer) (before line : List ℕ) where
   pub shown-goes : (next : Session) (text : List ℕ) (n : ℕ) → (sessionOf (r .next) ≡ next) × ((r .len ≡ n) × (r .stops ≡ false))

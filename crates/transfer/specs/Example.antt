@@ -5,7 +5,7 @@ use mathlib.Core.List.{List, [], _∷_, _++_}
 use Prim.Native.Nat.{ℕ}
 use Rattle.combinatorics.specs.Examples.{Example, example, comesTrue}
 use Rattle.combinatorics.specs.Lists.{all}
-use Rattle.transfer.specs.Lines.{line, endLine}
+use Rattle.lines.specs.Lines.{line, endLine}
 use Rattle.transfer.specs.Program.{printed}
 
 -- "4C54 53 000F FF 01 0002"

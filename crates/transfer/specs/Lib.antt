@@ -1,6 +1,4 @@
-pub mod Session
-pub mod Lines
 pub mod Bridge
-pub mod Records
+pub mod Steps
 pub mod Program
 pub mod Example

@@ -2,31 +2,13 @@
 use mathlib.Core.Path.{_≡_}
 use mathlib.Core.Bool.{true, false, cond}
 use mathlib.Core.List.{List, _++_}
-use mathlib.Core.Option.{Option, none, some}
 use Prim.Native.Nat.{ℕ, zero, suc}
-use lib.Dec.{ltb}
-use lib.ListN.{length, take, drop}
+use lib.ListN.{take, drop}
 use Rattle.refusals.specs.Refusals.{must}
-use Rattle.transfer.specs.Session.{Session, atStart, maxRecords}
-use Rattle.transfer.specs.Lines.{stopLine, endLine}
-use Rattle.transfer.specs.Records.{headLen, isMarked, letterOf, isEmpty, recordLen, readable, serveOut, stepOut}
-
--- how many bytes are read for a record: mark and letter alone, where no record has that letter
-abbrev pub reach : Option ℕ → ℕ
-reach none = headLen
-reach (some k) = k
-
--- The length of the record that begins with these bytes: nothing where mark and letter are not there yet, at a wrong mark, and where no record has
--- that letter.
-unfoldable pub begunLen : Session → List ℕ → Option ℕ
-begunLen s bytes =
-    cond (ltb (length bytes) headLen) none
-    (cond (isMarked bytes) (recordLen s (letterOf bytes))
-    none)
-
--- how many bytes the next record takes, by what is there of it. A record is refused by its mark or letter alone, so that no more is waited for.
-abbrev pub neededFor : Session → List ℕ → ℕ
-neededFor s bytes = reach (begunLen s bytes)
+use Rattle.records.specs.Session.{Session, atStart, maxRecords}
+use Rattle.lines.specs.Lines.{stopLine, endLine}
+use Rattle.records.specs.Records.{letterOf, isEmpty, recordLen, readable, reach}
+use Rattle.transfer.specs.Steps.{serveOut, stepOut}
 
 -- the next record of what is left of the input, and what is left behind it
 abbrev pub nextRecord : Session → List ℕ → List ℕ

@@ -1,121 +1,45 @@
-// The transfer program, record by record: a session by value, how long a record is, and the step of one record. Assumes nothing.
+// The transfer program, record by record: the step of one record, which makes a session of a session and prints a line. Assumes nothing.
 ghost use mathlib.Core.Path.{_≡_};
 ghost use mathlib.Core.Bool.{true, false};
 ghost use mathlib.Core.Option.{some};
 ghost use Prim.Native.Nat.{_+_, _*_, _≤_, _<_};
 ghost use lib.ListN.{length};
-ghost use Rattle.combinatorics.specs.Stretch.{tabulate};
 ghost use Rattle.construction_a.specs.Figures.{maxWord};
-ghost use Rattle.construction_a.specs.Outcomes.{held, figuresOut};
+ghost use Rattle.construction_a.specs.Outcomes.{figuresOut};
 ghost use Rattle.jobs.specs.Replay.{kindOf, callBy};
 ghost use Rattle.jobs.specs.Slots.{entries};
 ghost use Rattle.jobcodec.specs.JobWrite.{jobWriteOut};
 ghost use Rattle.jobcodec.specs.JobRead.{jobReadOut};
 ghost use Rattle.params.specs.Bridge.{given};
-ghost use Rattle.params.specs.Given.{figuresOf, Fitting};
+ghost use Rattle.params.specs.Given.{figuresOf};
 ghost use Rattle.placements.specs.Bridge.{heldAs};
 ghost use Rattle.text.specs.Text.{overwrite};
-ghost use Rattle.transfer.specs.Session.{atStart, maxRecords, after as afterRecord};
-ghost use Rattle.transfer.specs.Lines.{stopLine, maxLine};
-ghost use Rattle.transfer.specs.Records.{headLen, twoBytes, writeLen, readLen, recordLen, maxRecord, readable, current as currentOf, letterOf, figuresIn, writeOut, readOut, serveOut, stepOut, stopped, ended, figuresStep, callStep, writeStep, readStep};
-ghost use Rattle.transfer.specs.Program.{begunLen, neededFor};
-ghost use Rattle.transfer.specs.Bridge.{lastFigures, sessionOf, Current, orZero, HasStarts, Ready, Shown, Laid, Whole};
+ghost use Rattle.records.specs.Session.{maxRecords, after as afterRecord};
+ghost use Rattle.lines.specs.Lines.{stopLine, maxLine};
+ghost use Rattle.records.specs.Records.{headLen, writeLen, readLen, recordLen, current as currentOf, letterOf};
+ghost use Rattle.transfer.specs.Steps.{writeOut, readOut, serveOut, stepOut, stopped, ended, figuresStep, callStep, writeStep, readStep};
+ghost use Rattle.records.specs.Bridge.{lastFigures, sessionOf};
+ghost use Rattle.transfer.specs.Bridge.{Ready, Shown, Laid, Whole};
 use jobs::JobTable;
 use params::Layout;
 use params::LayoutAnswer;
 use params::Params;
 use params::bytes;
 use placements::Placement;
+use records::HEAD_LEN;
+use records::LastFigures;
+use records::Session;
 use refusals::Refusal;
 
-mod lines;
+const MAX_WORD: usize = Params::MAX_WORD as usize;
 
-// The figures of the last accepted S.
-pub enum LastFigures {
-    Missing,
-    Accepted(Params),
-}
-
-// What is kept between two records: figures, job table, and how many records were served.
-pub struct Session {
-    pub figures: LastFigures,
-    pub table: JobTable,
-    pub records: u32,
-}
+const SHORT_WORD: usize = Params::SHORT_WORD as usize;
 
 // What a step answers: the session afterwards, how many bytes of the lent line are printed, and whether the program ends.
 pub struct StepAnswer {
     pub next: Session,
     pub len: usize,
     pub stops: bool,
-}
-
-// Mark and letter: what is read of a record before its length is known.
-const HEAD_LEN: usize = 3;
-
-const FIGURES_LEN: usize = 6;
-
-const NUMBER_LEN: usize = 4;
-
-const BYTE_VALUES: u16 = 256;
-
-const MAX_WORD: usize = Params::MAX_WORD as usize;
-
-const SHORT_WORD: usize = Params::SHORT_WORD as usize;
-
-impl Session {
-    // "any record after the 4294967295th" is refused.
-    pub const MAX_RECORDS: u32 = 4294967295;
-
-    // Room for the longest line.
-    pub const MAX_LINE: usize = 2 * MAX_WORD + 6;
-
-    // Room for the longest record.
-    pub const MAX_RECORD: usize = HEAD_LEN + 2 * Placement::MAX + MAX_WORD;
-
-    // The session before the first record.
-    pub fn start() -> Self
-        ensures session { λ r. ⌜ sessionOf r ≡ atStart ⌝ }
-        ensures records { λ _. do ⌜ (← ⟦Session::MAX_RECORDS⟧ .entry) ≡ maxRecords ⌝ }
-        ensures longest { λ _. do ⌜ (← ⟦Session::MAX_RECORD⟧ .entry) ≡ maxRecord ⌝ }
-        ensures room { λ _. do ⌜ (← ⟦Session::MAX_LINE⟧ .entry) ≡ maxLine ⌝ }
-    {
-        Session {
-            figures: LastFigures::Missing,
-            table: JobTable::empty(),
-            records: 0,
-        }
-    }
-
-    // The session after one record more, with these figures and this table.
-    fn after(self, figures: LastFigures, table: JobTable, len: usize) -> StepAnswer
-        requires { ⌜ self .records < maxRecords ⌝ }
-        ensures next { λ r. ⌜ sessionOf (r .next) ≡ afterRecord (sessionOf self) (lastFigures figures) (entries table) ⌝ }
-        ensures len { λ r. ⌜ r .len ≡ len ⌝ }
-        ensures stops { λ r. ⌜ r .stops ≡ false ⌝ }
-    {
-        StepAnswer {
-            next: Session {
-                figures,
-                table,
-                records: self.records + 1,
-            },
-            len,
-            stops: false,
-        }
-    }
-
-    // The same with the figures and the table as they were.
-    fn counted(self, len: usize) -> StepAnswer
-        requires { ⌜ self .records < maxRecords ⌝ }
-        ensures next { λ r. ⌜ sessionOf (r .next) ≡ afterRecord (sessionOf self) (lastFigures (self .figures)) (entries (self .table)) ⌝ }
-        ensures len { λ r. ⌜ r .len ≡ len ⌝ }
-        ensures stops { λ r. ⌜ r .stops ≡ false ⌝ }
-    {
-        let figures = self.figures;
-        let table = self.table;
-        self.after(figures, table, len)
-    }
 }
 
 // One record, whatever bytes it has, and none at all at the end of input: its line is put into the lent line, from the start on.
@@ -149,7 +73,7 @@ fn step_on(session: Session, received: &[u8], line: &mut [u8]) -> StepAnswer
     if Session::MAX_RECORDS <= session.records {
         return stop(session, line);
     }
-    if !is_readable(session, received) {
+    if !records::is_readable(session, received) {
         return stop(session, line);
     }
     serve(session, received, line)
@@ -162,7 +86,7 @@ fn serve(session: Session, received: &[u8], line: &mut [u8]) -> StepAnswer
 {
     let letter = received[2];
     match letter {
-        b'S' => serve_figures(session, figures_in(received), line),
+        b'S' => serve_figures(session, records::figures_in(received), line),
         b'W' => serve_write(session, received, line),
         b'R' => serve_read(session, received, line),
         _ => {
@@ -205,7 +129,7 @@ fn serve_figures(session: Session, figures: Params, line: &mut [u8]) -> StepAnsw
     match answer {
         LayoutAnswer::Refused(number) => {
             let len = lines::put_refusal(line, b'S', number);
-            session.counted(len)
+            counted(session, len)
         }
         LayoutAnswer::Fit(layout) => {
             let len = lines::put_figures(
@@ -215,7 +139,7 @@ fn serve_figures(session: Session, figures: Params, line: &mut [u8]) -> StepAnsw
                 layout.message_len as u64,
             );
             let table = session.table;
-            session.after(LastFigures::Accepted(figures), table, len)
+            after(session, LastFigures::Accepted(figures), table, len)
         }
     }
 }
@@ -230,7 +154,7 @@ fn serve_call(session: Session, letter: u8, number: u32, line: &mut [u8]) -> Ste
     let len = lines::put_refusal(line, letter, out.answer);
     let figures = session.figures;
     let next = out.table;
-    session.after(figures, next, len)
+    after(session, figures, next, len)
 }
 
 // W: the word of the placement and the payload.
@@ -239,7 +163,7 @@ fn serve_write(session: Session, received: &[u8], line: &mut [u8]) -> StepAnswer
     ensures { λ r. ⌜ Shown r (now (line .entry)) (now (line .exit)) (writeOut (sessionOf session) (now (received .entry)) (currentOf (lastFigures (session .figures)))) ⌝ }
 {
     let figures = session.figures;
-    let answer = current(figures);
+    let answer = records::current(figures);
     let LayoutAnswer::Fit(layout) = answer else {
         return stop(session, line);
     };
@@ -251,10 +175,10 @@ fn write_laid(session: Session, layout: Layout, received: &[u8], line: &mut [u8]
     requires { ⌜ Laid session (now line) layout (headLen + 2 * layout .m) (now received) ⌝ }
     ensures { λ r. ⌜ Shown r (now (line .entry)) (now (line .exit)) (writeOut (sessionOf session) (now (received .entry)) (some (figuresOf layout))) ⌝ }
 {
-    let figures = figures_of(layout);
+    let figures = records::figures_of(layout);
     let m = layout.m;
     let n = layout.n;
-    let at = placement_in(received, m);
+    let at = records::placement_in(received, m);
     let from = HEAD_LEN + 2 * m;
     if n <= SHORT_WORD {
         let mut short = [0u8; SHORT_WORD];
@@ -293,9 +217,9 @@ fn write_word(
     let table = session.table;
     let answer = jobcodec::job_write(figures, table, at, payload, word);
     if answer != Refusal::NONE {
-        return session.counted(lines::put_refusal(line, b'W', answer));
+        return counted(session, lines::put_refusal(line, b'W', answer));
     }
-    session.counted(lines::put_word(line, word))
+    counted(session, lines::put_word(line, word))
 }
 
 // R: the payload of the word.
@@ -304,7 +228,7 @@ fn serve_read(session: Session, received: &[u8], line: &mut [u8]) -> StepAnswer
     ensures { λ r. ⌜ Shown r (now (line .entry)) (now (line .exit)) (readOut (sessionOf session) (now (received .entry)) (currentOf (lastFigures (session .figures)))) ⌝ }
 {
     let figures = session.figures;
-    let answer = current(figures);
+    let answer = records::current(figures);
     let LayoutAnswer::Fit(layout) = answer else {
         return stop(session, line);
     };
@@ -316,7 +240,7 @@ fn read_laid(session: Session, layout: Layout, received: &[u8], line: &mut [u8])
     requires { ⌜ Laid session (now line) layout headLen (now received) ⌝ }
     ensures { λ r. ⌜ Shown r (now (line .entry)) (now (line .exit)) (readOut (sessionOf session) (now (received .entry)) (some (figuresOf layout))) ⌝ }
 {
-    let figures = figures_of(layout);
+    let figures = records::figures_of(layout);
     let count = bytes::payload_len(layout.q, layout.message_len);
     if count <= SHORT_WORD {
         let mut short = [0u8; SHORT_WORD];
@@ -352,149 +276,37 @@ fn read_payload(
     let table = session.table;
     let answer = jobcodec::job_read(figures, table, word, payload);
     if answer != Refusal::NONE {
-        return session.counted(lines::put_refusal(line, b'R', answer));
+        return counted(session, lines::put_refusal(line, b'R', answer));
     }
-    session.counted(lines::put_payload(line, payload))
+    counted(session, lines::put_payload(line, payload))
 }
 
-// How many bytes a record with this letter has, mark and letter included; 0 for an unknown letter and for W or R before an accepted S.
-fn record_len(session: Session, letter: u8) -> usize
-    ensures len { λ r. ⌜ r ≡ orZero (recordLen (sessionOf session) letter) ⌝ }
-    ensures most { λ r. ⌜ r ≤ maxRecord ⌝ }
+// The session after one record more, with these figures and this table.
+fn after(session: Session, figures: LastFigures, table: JobTable, len: usize) -> StepAnswer
+    requires { ⌜ session .records < maxRecords ⌝ }
+    ensures next { λ r. ⌜ sessionOf (r .next) ≡ afterRecord (sessionOf session) (lastFigures figures) (entries table) ⌝ }
+    ensures len { λ r. ⌜ r .len ≡ len ⌝ }
+    ensures stops { λ r. ⌜ r .stops ≡ false ⌝ }
+{
+    StepAnswer {
+        next: Session {
+            figures,
+            table,
+            records: session.records + 1,
+        },
+        len,
+        stops: false,
+    }
+}
+
+// The same with the figures and the table as they were.
+fn counted(session: Session, len: usize) -> StepAnswer
+    requires { ⌜ session .records < maxRecords ⌝ }
+    ensures next { λ r. ⌜ sessionOf (r .next) ≡ afterRecord (sessionOf session) (lastFigures (session .figures)) (entries (session .table)) ⌝ }
+    ensures len { λ r. ⌜ r .len ≡ len ⌝ }
+    ensures stops { λ r. ⌜ r .stops ≡ false ⌝ }
 {
     let figures = session.figures;
-    match letter {
-        b'S' => HEAD_LEN + FIGURES_LEN,
-        b'O' => HEAD_LEN + NUMBER_LEN,
-        b'C' => HEAD_LEN + NUMBER_LEN,
-        b'F' => HEAD_LEN + NUMBER_LEN,
-        b'W' => write_len(figures),
-        b'R' => read_len(figures),
-        _ => 0,
-    }
-}
-
-// m starts and K bytes.
-fn write_len(figures: LastFigures) -> usize
-    ensures { λ r. ⌜ r ≡ orZero (writeLen (currentOf (lastFigures figures))) ⌝ }
-{
-    let answer = current(figures);
-    let LayoutAnswer::Fit(layout) = answer else {
-        return 0;
-    };
-    HEAD_LEN + 2 * layout.m + bytes::payload_len(layout.q, layout.message_len)
-}
-
-// n bytes.
-fn read_len(figures: LastFigures) -> usize
-    ensures { λ r. ⌜ r ≡ orZero (readLen (currentOf (lastFigures figures))) ⌝ }
-{
-    let answer = current(figures);
-    let LayoutAnswer::Fit(layout) = answer else {
-        return 0;
-    };
-    HEAD_LEN + layout.n
-}
-
-// The layout of the last accepted figures.
-fn current(figures: LastFigures) -> LayoutAnswer
-    ensures { λ r. ⌜ Current (lastFigures figures) r ⌝ }
-{
-    match figures {
-        LastFigures::Missing => LayoutAnswer::Refused(Refusal::RECORD),
-        LastFigures::Accepted(given) => Params::figures(given.n, given.q, given.m, given.b),
-    }
-}
-
-// How many bytes the next record takes, by those that are there: mark and letter until they are there, and also where no record begins with them.
-pub fn needed(session: Session, waiting: &[u8]) -> usize
-    ensures bytes { λ r. ⌜ r ≡ neededFor (sessionOf session) (now (waiting .entry)) ⌝ }
-    ensures most { λ r. ⌜ r ≤ maxRecord ⌝ }
-{
-    let len = begun_len(session, waiting);
-    if len == 0 {
-        return HEAD_LEN;
-    }
-    len
-}
-
-// Whether a record has the mark, a known letter, and its letter's length.
-fn is_readable(session: Session, received: &[u8]) -> bool
-    ensures { λ r. ⌜ r ≡ readable (sessionOf session) (now (received .entry)) ⌝ }
-{
-    let len = begun_len(session, received);
-    if len == 0 {
-        return false;
-    }
-    received.len() == len
-}
-
-// How many bytes the record has that begins with these; 0 where mark and letter are not there yet, and where no record begins with them.
-fn begun_len(session: Session, received: &[u8]) -> usize
-    ensures len { λ r. ⌜ r ≡ orZero (begunLen (sessionOf session) (now (received .entry))) ⌝ }
-    ensures most { λ r. ⌜ r ≤ maxRecord ⌝ }
-{
-    if received.len() < HEAD_LEN {
-        return 0;
-    }
-    if received[0] != b'L' {
-        return 0;
-    }
-    if received[1] != b'T' {
-        return 0;
-    }
-    record_len(session, received[2])
-}
-
-// The figures of an S record.
-fn figures_in(received: &[u8]) -> Params
-    requires { ⌜ length (now received) ≡ headLen + 6 ⌝ }
-    ensures { λ r. ⌜ given r ≡ figuresIn (now (received .entry)) ⌝ }
-{
-    Params {
-        n: two_bytes(received, 3) as u32,
-        q: received[5] as u32 + 1,
-        m: received[6] as u32,
-        b: two_bytes(received, 7) as u32,
-    }
-}
-
-// The figures of a layout, as a caller passes them.
-fn figures_of(layout: Layout) -> Params
-    requires { ⌜ Fitting layout ⌝ }
-    ensures { λ r. ⌜ given r ≡ figuresOf layout ⌝ }
-{
-    Params {
-        n: layout.n as u32,
-        q: layout.q as u32,
-        m: layout.m as u32,
-        b: layout.b as u32,
-    }
-}
-
-// The placement whose starts stand in a W record.
-fn placement_in(received: &[u8], m: usize) -> Placement
-    requires { ⌜ HasStarts m (now received) ⌝ }
-    ensures { λ r. ⌜ heldAs r ≡ held (tabulate m 0 (λ i. twoBytes (now (received .entry)) (headLen + 2 * i))) ⌝ }
-{
-    let mut found = Placement {
-        starts: [0; Placement::MAX],
-        count: m as u32,
-    };
-    let mut j: usize = 0;
-    while j < m {
-        found.starts[j] = two_bytes(received, HEAD_LEN + 2 * j);
-        j += 1;
-    }
-    found
-}
-
-// The number in two bytes, high byte first.
-fn two_bytes(received: &[u8], at: usize) -> u16
-    requires { ⌜ at + 2 ≤ length (now received) ⌝ }
-    ensures { λ r. ⌜ r ≡ twoBytes (now (received .entry)) at ⌝ }
-{
-    let high = received[at] as u16;
-    let low = received[at + 1] as u16;
-    high * BYTE_VALUES + low
+    let table = session.table;
+    after(session, figures, table, len)
 }

@@ -16,7 +16,7 @@ use Rattle.combinatorics.proofs.Cases.{eqb-other}
 use Rattle.combinatorics.proofs.Lists.{both}
 use Rattle.transfer.specs.declared.StepAnswer.{StepAnswer}
 use Rattle.transfer.specs.Bridge.{Shown}
-use Rattle.transfer.specs.Session.{Session}
+use Rattle.records.specs.Session.{Session}
 use Rattle.turns.specs.declared.State.{State}
 use Rattle.turns.specs.declared.Phase.{Phase}
 use Rattle.turns.specs.declared.Phase.the-variants.{Ended, Failed, Done}

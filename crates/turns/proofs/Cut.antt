@@ -11,10 +11,12 @@ use lib.ListN.{length, take, drop, length-take, drop-of-length-le}
 use lib.Seq.{take-all, take-nil, take-length, drop-length, getD-take}
 use Rattle.refusals.specs.Refusals.{must}
 use Rattle.combinatorics.proofs.Cases.{by-bool, by-le, eqb-other}
-use Rattle.transfer.specs.Session.{Session, maxRecords}
-use Rattle.transfer.specs.Records.{headLen, letterOf, isMarked, recordLen, readable, Step, stopped, stepOut}
-use Rattle.transfer.specs.Program.{reach, neededFor, nextRecord, behind}
-use Rattle.transfer.proofs.Lengths.{reaches, begun-unmarked, begun-marked, needed-least}
+use Rattle.records.specs.Session.{Session, maxRecords}
+use Rattle.records.specs.Records.{headLen, letterOf, isMarked, recordLen, readable}
+use Rattle.transfer.specs.Steps.{Step, stopped, stepOut}
+use Rattle.records.specs.Records.{reach, neededFor}
+use Rattle.transfer.specs.Program.{nextRecord, behind}
+use Rattle.records.proofs.Lengths.{reaches, begun-unmarked, begun-marked, needed-least}
 
 -- ---- How many bytes a record takes
 

@@ -8,8 +8,8 @@ use native.Mathlib.Omega.{arith}
 use lib.Dec.{eqb}
 use lib.ListN.{length, take, length-append}
 use Rattle.combinatorics.proofs.Lists.{both}
-use Rattle.transfer.specs.Session.{Session, maxRecords}
-use Rattle.transfer.specs.Records.{stepOut}
+use Rattle.records.specs.Session.{Session, maxRecords}
+use Rattle.transfer.specs.Steps.{stepOut}
 use Rattle.transfer.proofs.Program.{step-counts}
 use Rattle.turns.specs.declared.Phase.{Phase}
 use Rattle.turns.specs.declared.Phase.the-variants.{Open, Ended, Failed, Done}

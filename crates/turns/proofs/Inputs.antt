@@ -6,7 +6,7 @@ use mathlib.Core.List.{List, [], _∷_, _++_, append-assoc, append-nil}
 use Prim.Native.Nat.{ℕ, zero, suc, _+_, _*_, _<_}
 use native.Mathlib.Omega.{arith}
 use lib.ListN.{length}
-use Rattle.transfer.specs.Lines.{stopLine, endLine}
+use Rattle.lines.specs.Lines.{stopLine, endLine}
 use Rattle.transfer.specs.Program.{printed, printedUnread}
 use Rattle.turns.specs.declared.Phase.the-variants.{Open, Ended, Failed}
 use Rattle.turns.specs.declared.Wants.{Wants}

@@ -11,10 +11,12 @@ use lib.ListN.{length, getD, length-append, List·getD-append}
 use lib.Seq.{take-all, take-append-le, drop-append-le}
 use Rattle.refusals.specs.Refusals.{must}
 use Rattle.combinatorics.proofs.Cases.{by-bool, eqb-other}
-use Rattle.transfer.specs.Session.{Session, maxRecords}
-use Rattle.transfer.specs.Records.{headLen, letterOf, isMarked, recordLen, isWhole, readable, Step, stopped, stepOut}
-use Rattle.transfer.specs.Program.{reach, begunLen, neededFor, nextRecord, behind}
-use Rattle.transfer.proofs.Lengths.{reaches, needed-least, needed-within, begun-readable}
+use Rattle.records.specs.Session.{Session, maxRecords}
+use Rattle.records.specs.Records.{headLen, letterOf, isMarked, recordLen, isWhole, readable}
+use Rattle.transfer.specs.Steps.{Step, stopped, stepOut}
+use Rattle.records.specs.Records.{reach, begunLen, neededFor}
+use Rattle.transfer.specs.Program.{nextRecord, behind}
+use Rattle.records.proofs.Lengths.{reaches, needed-least, needed-within, begun-readable}
 use Rattle.turns.proofs.Cut.{needed-marked, unmarked}
 
 -- ---- What is still to come changes nothing

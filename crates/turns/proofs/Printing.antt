@@ -10,11 +10,13 @@ use lib.ListN.{length, take, drop, length-append}
 use lib.Seq.{take-nil}
 use Rattle.combinatorics.proofs.Cases.{by-le, eqb-other}
 use Rattle.combinatorics.proofs.Lists.{both}
-use Rattle.transfer.specs.Session.{Session, maxRecords}
-use Rattle.transfer.specs.Lines.{stopLine, endLine}
-use Rattle.transfer.specs.Records.{isEmpty, Step, stopped, stepOut}
-use Rattle.transfer.specs.Program.{neededFor, nextRecord, behind}
-use Rattle.transfer.proofs.Lengths.{needed-least}
+use Rattle.records.specs.Session.{Session, maxRecords}
+use Rattle.lines.specs.Lines.{stopLine, endLine}
+use Rattle.records.specs.Records.{isEmpty}
+use Rattle.transfer.specs.Steps.{Step, stopped, stepOut}
+use Rattle.records.specs.Records.{neededFor}
+use Rattle.transfer.specs.Program.{nextRecord, behind}
+use Rattle.records.proofs.Lengths.{needed-least}
 use Rattle.transfer.proofs.Program.{step-counts, stepOf, printedOn, printed-last, printed-stops, printed-goes}
 use Rattle.turns.specs.declared.Phase.{Phase}
 use Rattle.turns.specs.declared.Phase.the-variants.{Open, Ended, Failed, Done}

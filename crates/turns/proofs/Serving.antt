@@ -8,10 +8,10 @@ use lib.Dec.{eqb}
 use lib.ListN.{length, take, drop, length-take, length-drop}
 use Rattle.combinatorics.proofs.Cases.{by-bool, by-le, by-eq, eqb-other}
 use Rattle.combinatorics.proofs.Lists.{both}
-use Rattle.transfer.specs.Session.{Session}
-use Rattle.transfer.specs.Records.{stepOut}
-use Rattle.transfer.specs.Program.{begunLen, neededFor}
-use Rattle.transfer.proofs.Lengths.{needed-least}
+use Rattle.records.specs.Session.{Session}
+use Rattle.transfer.specs.Steps.{stepOut}
+use Rattle.records.specs.Records.{begunLen, neededFor}
+use Rattle.records.proofs.Lengths.{needed-least}
 use Rattle.turns.specs.declared.Phase.{Phase}
 use Rattle.turns.specs.declared.Phase.the-variants.{Open, Ended, Failed, Done}
 use Rattle.turns.specs.declared.Wants.{Wants}

@@ -15,11 +15,12 @@ use Rattle.combinatorics.proofs.Cases.{by-le, eqb-other}
 use Rattle.text.specs.Text.{overwrite}
 use Rattle.text.proofs.Line.{line-take, overwrite-take}
 use Rattle.transfer.specs.declared.StepAnswer.{StepAnswer}
-use Rattle.transfer.specs.Session.{Session}
-use Rattle.transfer.specs.Lines.{maxLine}
-use Rattle.transfer.specs.Records.{Step}
-use Rattle.transfer.specs.Program.{neededFor}
-use Rattle.transfer.specs.Bridge.{sessionOf, Shown}
+use Rattle.records.specs.Session.{Session}
+use Rattle.lines.specs.Lines.{maxLine}
+use Rattle.transfer.specs.Steps.{Step}
+use Rattle.records.specs.Records.{neededFor}
+use Rattle.records.specs.Bridge.{sessionOf}
+use Rattle.transfer.specs.Bridge.{Shown}
 use Rattle.turns.specs.declared.State.{State}
 use Rattle.turns.specs.declared.Phase.{Phase}
 use Rattle.turns.specs.declared.Phase.the-variants.{Ended, Failed}
@@ -27,7 +28,7 @@ use Rattle.turns.specs.declared.Wants.the-variants.{Read, Write}
 use Rattle.turns.specs.View.{bufferLen, View, atBegin, wantsAt, wantsOf, roomAt, readyAt, isServable, stepAt, stepFor, phaseAfter, needs, servedOut, advanceOut}
 use Rattle.turns.specs.State.{Within, viewOf, waitingIn, Begun, WaitsInFront, Fronted, withMore, repeated, inPhase, isInterrupted, isRepeated, afterRead, afterWrite}
 use Rattle.turns.specs.Trace.{Event, came, ended, interrupted, failed, written, unwritten, Answers, answered}
-use Rattle.transfer.proofs.Lengths.{needed-most}
+use Rattle.records.proofs.Lengths.{needed-most}
 use Rattle.turns.proofs.Cut.{drop-take, take-least, drop-least}
 use Rattle.turns.proofs.Serving.{advance-ends, reads}
 

@@ -6,9 +6,9 @@ use Prim.Native.Nat.{ℕ, _+_, _-_, _≤_, _<_}
 use lib.Dec.{eqb, ltb}
 use lib.IntN.{ℤ, pos, negsuc}
 use lib.ListN.{length, take, drop}
-use Rattle.transfer.specs.Session.{atStart}
-use Rattle.transfer.specs.Lines.{maxLine}
-use Rattle.transfer.specs.Bridge.{sessionOf}
+use Rattle.records.specs.Session.{atStart}
+use Rattle.lines.specs.Lines.{maxLine}
+use Rattle.records.specs.Bridge.{sessionOf}
 use Rattle.turns.specs.declared.State.{State}
 use Rattle.turns.specs.declared.Phase.{Phase}
 use Rattle.turns.specs.declared.Phase.the-variants.{Open, Ended, Failed, Done}

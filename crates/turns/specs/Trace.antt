@@ -4,8 +4,8 @@ use mathlib.Core.Bool.{Bool, true, false}
 use mathlib.Core.List.{List, [], _∷_, _++_}
 use Prim.Native.Nat.{ℕ, _-_, _<_}
 use lib.ListN.{length}
-use Rattle.transfer.specs.Session.{atStart, maxRecords}
-use Rattle.transfer.specs.Lines.{stopLine, endLine}
+use Rattle.records.specs.Session.{atStart, maxRecords}
+use Rattle.lines.specs.Lines.{stopLine, endLine}
 use Rattle.transfer.specs.Program.{printedFrom, printed, printedUnread}
 use Rattle.turns.specs.declared.Phase.the-variants.{Ended, Failed, Done}
 use Rattle.turns.specs.declared.Wants.{Wants}

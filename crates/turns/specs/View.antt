@@ -4,10 +4,10 @@ use mathlib.Core.List.{List, [], _++_}
 use Prim.Native.Nat.{ℕ, zero, suc, _-_}
 use lib.Dec.{leb, eqb}
 use lib.ListN.{length, take, drop}
-use Rattle.transfer.specs.Session.{Session, atStart}
-use Rattle.transfer.specs.Lines.{maxLine}
-use Rattle.transfer.specs.Records.{Step, stopped, stepOut}
-use Rattle.transfer.specs.Program.{neededFor}
+use Rattle.records.specs.Session.{Session, atStart}
+use Rattle.lines.specs.Lines.{maxLine}
+use Rattle.transfer.specs.Steps.{Step, stopped, stepOut}
+use Rattle.records.specs.Records.{neededFor}
 use Rattle.turns.specs.declared.Phase.{Phase}
 use Rattle.turns.specs.declared.Phase.the-variants.{Open, Ended, Failed, Done}
 use Rattle.turns.specs.declared.Wants.{Wants}

@@ -6,12 +6,13 @@ ghost use Prim.Native.Nat.{_+_, _-_, _≤_, min};
 ghost use lib.ListN.{length, take, drop};
 ghost use Rattle.libc.specs.Io.{Moved};
 ghost use Rattle.text.specs.Text.{overwrite};
-ghost use Rattle.transfer.specs.Bridge.{sessionOf, Shown};
-ghost use Rattle.transfer.specs.Program.{neededFor};
+ghost use Rattle.records.specs.Bridge.{sessionOf};
+ghost use Rattle.transfer.specs.Bridge.{Shown};
+ghost use Rattle.records.specs.Records.{neededFor};
 ghost use Rattle.turns.specs.declared.Phase.the-variants.{Failed};
 ghost use Rattle.turns.specs.View.{bufferLen, wantsAt, stepAt, phaseAfter, roomAt, readyAt, servedOut, advanceOut};
 ghost use Rattle.turns.specs.State.{Buffers, Within, Roomy, viewOf, waitingIn, Begun, WaitsInFront, Fronted, repeated, inPhase, isRepeated, afterRead, afterWrite};
-use transfer::Session;
+use records::Session;
 use transfer::StepAnswer;
 
 const BUFFER_LEN: usize = 65536;
@@ -253,7 +254,7 @@ fn serve_on(
         let session = now.session;
         let from = now.from;
         let to = now.to;
-        let needed = transfer::needed(session, &input[from..to]);
+        let needed = records::needed(session, &input[from..to]);
         if !now.is_ready(needed) {
             return now;
         }

@@ -13,11 +13,13 @@ use Rattle.params.specs.Bridge.{given}
 use Rattle.params.specs.Given.{shortWord, figuresOf}
 use Rattle.params.proofs.Fitting.{bound}
 use Rattle.jobcodec.specs.JobRead.{jobReadOut}
-use Rattle.transfer.specs.Records.{headLen, readStep, readOut}
-use Rattle.transfer.specs.Bridge.{sessionOf, Shown}
+use Rattle.records.specs.Records.{headLen}
+use Rattle.transfer.specs.Steps.{readStep, readOut}
+use Rattle.records.specs.Bridge.{sessionOf}
+use Rattle.transfer.specs.Bridge.{Shown}
 use Rattle.transfer.specs.declared.StepAnswer.{StepAnswer}
-use Rattle.transfer.proofs.Fields.{rest-all}
-use Rattle.transfer.proofs.Lengths.{payload-short}
+use Rattle.lines.proofs.Fields.{rest-all}
+use Rattle.records.proofs.Lengths.{payload-short}
 use Rattle.transfer.proofs.Serving.{zeros, shown-read}
 use Rattle.transfer.proofs.read_laid.Statement.{statement}
 use Rattle.transfer.proofs.read_laid.Tie as tie

@@ -9,10 +9,9 @@ use Rattle.params.specs.Bridge.{given}
 use Rattle.jobs.specs.Slots.{entries}
 use Rattle.jobcodec.specs.JobRead.{jobReadOut}
 use Rattle.text.specs.Text.{hex}
-use Rattle.transfer.specs.Session.{after}
-use Rattle.transfer.specs.Lines.{refusalLine, servedLine}
-use Rattle.transfer.specs.Records.{letterR}
-use Rattle.transfer.specs.Bridge.{sessionOf}
+use Rattle.records.specs.Session.{after}
+use Rattle.lines.specs.Lines.{refusalLine, servedLine, letterR}
+use Rattle.records.specs.Bridge.{sessionOf}
 use Rattle.transfer.proofs.Serving.{shown-goes, shown-refused, shown-served, read-number}
 use Rattle.transfer.proofs.read_payload.Statement.{statement}
 use Rattle.transfer.proofs.read_payload.Tie as tie

@@ -9,10 +9,12 @@ use Rattle.construction_a.specs.Figures.{Params}
 use Rattle.construction_a.specs.Outcomes.{figuresOut}
 use Rattle.jobs.specs.Replay.{kindOf, callBy}
 use Rattle.payloads.specs.Payload.{jobNumber}
-use Rattle.transfer.specs.Records.{headLen, letterOf, recordLen, isWhole, Step, figuresStep, callStep}
-use Rattle.transfer.specs.Bridge.{sessionOf, Shown}
-use Rattle.transfer.proofs.Fields.{rest-all}
-use Rattle.transfer.proofs.Lengths.{whole-len, whole-long, len-S, len-W, len-R, len-call}
+use Rattle.records.specs.Records.{headLen, letterOf, recordLen, isWhole}
+use Rattle.transfer.specs.Steps.{Step, figuresStep, callStep}
+use Rattle.records.specs.Bridge.{sessionOf}
+use Rattle.transfer.specs.Bridge.{Shown}
+use Rattle.lines.proofs.Fields.{rest-all}
+use Rattle.records.proofs.Lengths.{whole-len, whole-long, len-S, len-W, len-R, len-call}
 use Rattle.transfer.proofs.Serving.{serve-S, serve-W, serve-R, serve-call-is}
 use Rattle.transfer.proofs.serve.Statement.{statement}
 use Rattle.transfer.proofs.serve.Tie as tie

@@ -3,10 +3,11 @@ use mathlib.Core.Path.{subst}
 use borrow.Author.Needs.{needs}
 use Rattle.jobs.specs.Slots.{entries}
 use Rattle.jobs.specs.Table.{TableOut}
-use Rattle.transfer.specs.Session.{after}
-use Rattle.transfer.specs.Lines.{refusalLine}
-use Rattle.transfer.specs.Records.{callStep}
-use Rattle.transfer.specs.Bridge.{sessionOf, Shown}
+use Rattle.records.specs.Session.{after}
+use Rattle.lines.specs.Lines.{refusalLine}
+use Rattle.transfer.specs.Steps.{callStep}
+use Rattle.records.specs.Bridge.{sessionOf}
+use Rattle.transfer.specs.Bridge.{Shown}
 use Rattle.transfer.proofs.Serving.{shown-goes}
 use Rattle.transfer.proofs.serve_call.Statement.{statement}
 use Rattle.transfer.proofs.serve_call.Tie as tie

@@ -8,10 +8,11 @@ use Rattle.params.specs.Answer.{figuredAs}
 use Rattle.params.specs.Bridge.{given}
 use Rattle.params.proofs.Answered.{refused-learnt}
 use Rattle.text.specs.Text.{decimal}
-use Rattle.transfer.specs.Session.{after}
-use Rattle.transfer.specs.Lines.{refusalLine, servedLine}
-use Rattle.transfer.specs.Records.{letterS, figuresStep}
-use Rattle.transfer.specs.Bridge.{sessionOf, Shown}
+use Rattle.records.specs.Session.{after}
+use Rattle.lines.specs.Lines.{refusalLine, servedLine, letterS}
+use Rattle.transfer.specs.Steps.{figuresStep}
+use Rattle.records.specs.Bridge.{sessionOf}
+use Rattle.transfer.specs.Bridge.{Shown}
 use Rattle.transfer.proofs.Serving.{shown-goes}
 use Rattle.transfer.proofs.serve_figures.Statement.{statement}
 use Rattle.transfer.proofs.serve_figures.Tie as tie

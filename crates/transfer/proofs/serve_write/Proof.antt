@@ -3,9 +3,10 @@ use mathlib.Core.Path.{sym, subst}
 use mathlib.Core.Option.{Option}
 use borrow.Author.Needs.{needs}
 use Rattle.construction_a.specs.Figures.{Params}
-use Rattle.transfer.specs.Records.{writeOut}
-use Rattle.transfer.specs.Bridge.{lastFigures, sessionOf, Shown}
-use Rattle.transfer.proofs.Lengths.{current-fit, current-none, write-long}
+use Rattle.transfer.specs.Steps.{writeOut}
+use Rattle.records.specs.Bridge.{lastFigures, sessionOf}
+use Rattle.transfer.specs.Bridge.{Shown}
+use Rattle.records.proofs.Lengths.{current-fit, current-none, write-long}
 use Rattle.transfer.proofs.serve_write.Statement.{statement}
 use Rattle.transfer.proofs.serve_write.Tie as tie
 

@@ -3,9 +3,10 @@ use mathlib.Core.Path.{sym, subst, _∙_}
 use native.Mathlib.Omega.{arith}
 use borrow.Author.Tests.{not-true, not-false}
 use borrow.Author.Needs.{needs}
-use Rattle.transfer.specs.Records.{Step}
-use Rattle.transfer.specs.Bridge.{sessionOf, Shown}
-use Rattle.transfer.proofs.Lengths.{readable-whole}
+use Rattle.transfer.specs.Steps.{Step}
+use Rattle.records.specs.Bridge.{sessionOf}
+use Rattle.transfer.specs.Bridge.{Shown}
+use Rattle.records.proofs.Lengths.{readable-whole}
 use Rattle.transfer.proofs.Serving.{step-end, step-many, step-unreadable, step-serves}
 use Rattle.transfer.proofs.step_on.Statement.{statement}
 use Rattle.transfer.proofs.step_on.Tie as tie

@@ -13,10 +13,12 @@ use Rattle.params.specs.Given.{shortWord, figuresOf}
 use Rattle.params.proofs.Fitting.{bound}
 use Rattle.placements.specs.Bridge.{heldAs}
 use Rattle.jobcodec.specs.JobWrite.{jobWriteOut}
-use Rattle.transfer.specs.Records.{headLen, startsIn, payloadOf, writeStep, writeOut}
-use Rattle.transfer.specs.Bridge.{sessionOf, Shown}
+use Rattle.records.specs.Records.{headLen, startsIn, payloadOf}
+use Rattle.transfer.specs.Steps.{writeStep, writeOut}
+use Rattle.records.specs.Bridge.{sessionOf}
+use Rattle.transfer.specs.Bridge.{Shown}
 use Rattle.transfer.specs.declared.StepAnswer.{StepAnswer}
-use Rattle.transfer.proofs.Fields.{rest-all}
+use Rattle.lines.proofs.Fields.{rest-all}
 use Rattle.transfer.proofs.Serving.{zeros, shown-write}
 use Rattle.transfer.proofs.write_laid.Statement.{statement}
 use Rattle.transfer.proofs.write_laid.Tie as tie

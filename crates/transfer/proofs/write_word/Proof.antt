@@ -7,10 +7,9 @@ use Rattle.params.specs.Bridge.{given}
 use Rattle.placements.specs.Bridge.{heldAs}
 use Rattle.jobcodec.specs.JobWrite.{jobWriteOut}
 use Rattle.text.specs.Text.{hex}
-use Rattle.transfer.specs.Session.{after}
-use Rattle.transfer.specs.Lines.{refusalLine, servedLine}
-use Rattle.transfer.specs.Records.{letterW}
-use Rattle.transfer.specs.Bridge.{sessionOf}
+use Rattle.records.specs.Session.{after}
+use Rattle.lines.specs.Lines.{refusalLine, servedLine, letterW}
+use Rattle.records.specs.Bridge.{sessionOf}
 use Rattle.transfer.proofs.Serving.{shown-goes, shown-refused, shown-served}
 use Rattle.transfer.proofs.write_word.Statement.{statement}
 use Rattle.transfer.proofs.write_word.Tie as tie

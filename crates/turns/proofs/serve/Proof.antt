@@ -2,7 +2,7 @@
 use mathlib.Core.Path.{_≡_, refl}
 use native.Mathlib.Omega.{arith}
 use lib.ListN.{length}
-use Rattle.transfer.specs.Lines.{maxLine}
+use Rattle.lines.specs.Lines.{maxLine}
 use Rattle.turns.proofs.Views.{shown-fits, served-view, served-within}
 use borrow.Author.Needs.{needs}
 use Rattle.turns.proofs.serve.Statement.{statement}

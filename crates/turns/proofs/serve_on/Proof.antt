@@ -3,8 +3,8 @@ use mathlib.Core.Path.{_≡_, refl, sym, ap, subst, _∙_}
 use mathlib.Core.Bool.{true, false}
 use Prim.Native.Nat.{_-_, _<_}
 use lib.ListN.{length}
-use Rattle.transfer.specs.Program.{neededFor}
-use Rattle.transfer.specs.Bridge.{sessionOf}
+use Rattle.records.specs.Records.{neededFor}
+use Rattle.records.specs.Bridge.{sessionOf}
 use Rattle.turns.specs.View.{bufferLen, View, readyAt, isServable, advanceOut}
 use Rattle.turns.specs.State.{Within, viewOf, waitingIn}
 use Rattle.turns.proofs.Serving.{advance-rests, advance-serves, turnsAt, serves-less}

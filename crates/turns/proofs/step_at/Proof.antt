@@ -1,6 +1,6 @@
 -- `step_at` meets its contract, by the phase. Assumes nothing.
 use borrow.Author.Needs.{needs}
-use Rattle.transfer.specs.Bridge.{sessionOf}
+use Rattle.records.specs.Bridge.{sessionOf}
 use Rattle.turns.specs.declared.Phase.the-variants.{Open, Ended, Failed, Done}
 use Rattle.turns.proofs.After.{shown-at}
 use Rattle.turns.proofs.step_at.Statement.{statement}

@@ -1,0 +1,290 @@
+-- The layout of the last accepted figures, and how long a record is by its letter. Assumes nothing.
+use mathlib.Core.Path.{_≡_, refl, sym, ap, subst, _∙_}
+use mathlib.Core.Logic.{_≢_}
+use mathlib.Core.Bool.{Bool, true, false, cond, _&&_, false≢true}
+use mathlib.Core.List.{List}
+use mathlib.Core.Option.{Option, none, some}
+use Prim.Native.Nat.{ℕ, _+_, _*_, _≤_, _<_}
+use native.Mathlib.Nat.{div-le-self}
+use native.Mathlib.Omega.{arith}
+use lib.Dec.{eqb, ltb}
+use borrow.Author.Tests.{lt-ltb, le-ltb}
+use lib.ListN.{length, getD}
+use Rattle.combinatorics.proofs.Cases.{by-bool, by-le, eqb-same, eqb-other, eqb-true}
+use Rattle.combinatorics.proofs.Lists.{both}
+use Rattle.cells.specs.Bytes.{byteWidth, payloadLen}
+use Rattle.construction_a.specs.Figures.{Params, maxWord, messageLen}
+use Rattle.construction_a.specs.Outcomes.{FiguresOut, figured, unserved, figuresOut}
+use Rattle.construction_a.proofs.Outcomes.{figured-served}
+use Rattle.params.specs.Answer.{figuredAs}
+use Rattle.params.specs.Given.{figuresOf, Fitting}
+use Rattle.params.specs.declared.Layout.{Layout}
+use Rattle.params.specs.declared.LayoutAnswer.{LayoutAnswer}
+use Rattle.params.specs.declared.LayoutAnswer.the-variants.{Fit, Refused}
+use Rattle.params.proofs.Answered.{Told}
+use Rattle.params.proofs.Fitting.{layout-fits, bound}
+use Rattle.jobs.specs.Replay.{kindOf, isLetter}
+use Rattle.jobs.proofs.Turns.{no-kind}
+use Rattle.records.specs.Session.{Session}
+use Rattle.lines.specs.Lines.{letterS, letterW, letterR}
+use Rattle.records.specs.Records.{headLen, isMarked, letterOf, ifFit, current, writeLen, readLen, recordLen, maxRecord, isWhole, readable, reach, begunLen, neededFor}
+use Rattle.records.specs.Bridge.{Current, orZero}
+
+-- ---- The last accepted figures
+
+-- "figures alone" answers for them
+pub current-of : (f : Params) (r : LayoutAnswer) → figuredAs r ≡ figuresOut f → Told f r → Current (some f) r
+current-of f (Fit l) answer layout =
+    let is = layout-fits f (Fit l) l refl answer layout in
+    (ap (ifFit f) (sym answer) ∙ ap some (sym (is .0)), is .1)
+current-of f (Refused a) answer layout = ap (ifFit f) (sym answer)
+
+-- an answer that was taken apart
+pub current-fit : (f : Option Params) (r : LayoutAnswer) (l : Layout) → r ≡ Fit l → Current f r → (current f ≡ some (figuresOf l)) × Fitting l
+current-fit f r l e is = subst (Current f) e is
+
+pub current-none : (f : Option Params) (r : LayoutAnswer) (a : ℕ) → r ≡ Refused a → Current f r → current f ≡ none
+current-none f r a e is = subst (Current f) e is
+
+module _ (l : Layout) (g : Fitting l) where
+  pub message-short : l .«message_len» ≤ maxWord
+  unfolding messageLen
+  message-short = omega (arith, g .laid .len-is, bound l g .n-most)
+
+  pub payload-short : payloadLen (l .q) (l .«message_len») ≤ maxWord
+  unfolding payloadLen
+  payload-short = omega (arith, message-short, div-le-self (l .«message_len») (byteWidth (l .q)))
+
+  pub write-len-is : (f : Option Params) → current f ≡ some (figuresOf l)
+      → orZero (writeLen (current f)) ≡ headLen + 2 * l .m + payloadLen (l .q) (l .«message_len»)
+  write-len-is f e = ap (λ x. orZero (writeLen x)) e ∙ ap (λ (k : ℕ). headLen + 2 * l .m + payloadLen (l .q) k) (sym (g .laid .len-is))
+
+-- ---- No record is longer than the buffer for it
+
+payload-within : (f : Params) → payloadLen (f .q) (messageLen f) ≤ f .n
+unfolding payloadLen messageLen
+payload-within f = omega (arith, div-le-self (messageLen f) (byteWidth (f .q)))
+
+current-most : (f : Option Params) → (orZero (writeLen (current f)) ≤ maxRecord) × (orZero (readLen (current f)) ≤ maxRecord)
+current-most none = (omega arith, omega arith)
+current-most (some f) = go (figuresOut f) refl
+  where
+    go : (o : FiguresOut) → figuresOut f ≡ o → (orZero (writeLen (ifFit f o)) ≤ maxRecord) × (orZero (readLen (ifFit f o)) ≤ maxRecord)
+    go (figured t r k) e =
+        let range = figured-served f t r k e .range in
+        (omega (arith, range .n-most, range .m-most, payload-within f), omega (arith, range .n-most))
+    go (unserved a) e = (omega arith, omega arith)
+
+record-most : (s : Session) (letter : ℕ) → orZero (recordLen s letter) ≤ maxRecord
+unfolding recordLen
+record-most s letter = go (eqb letter letterS) (isLetter letter) (eqb letter letterW) (eqb letter letterR)
+  where
+    go : (a b c d : Bool)
+        → orZero (cond a (some (headLen + 6)) (cond b (some (headLen + 4)) (cond c (writeLen (current (s .figures))) (cond d (readLen (current (s .figures))) none)))) ≤ maxRecord
+    go true b c d = omega arith
+    go false true c d = omega arith
+    go false false true d = current-most (s .figures) .0
+    go false false false true = current-most (s .figures) .1
+    go false false false false = omega arith
+
+-- a length that is a record's
+pub measured : (s : Session) (letter r : ℕ) → r ≡ orZero (recordLen s letter) → (r ≡ orZero (recordLen s letter)) × (r ≤ maxRecord)
+measured s letter r e = (e, omega (arith, e, record-most s letter))
+
+-- ---- A letter of no record
+
+pub len-other : (s : Session) (letter : ℕ) → letter ≢ 83 → letter ≢ 79 → letter ≢ 67 → letter ≢ 70 → letter ≢ 87 → letter ≢ 82
+    → recordLen s letter ≡ none
+unfolding recordLen
+len-other s letter a b c d e f = rw (eqb-other letter 83 a, no-kind letter b c d, eqb-other letter 87 e, eqb-other letter 82 f)
+
+-- ---- A record that can be read
+
+write-reaches : (f : Option Params) → headLen ≤ reach (writeLen f)
+write-reaches none = omega arith
+write-reaches (some f) = omega arith
+
+read-reaches : (f : Option Params) → headLen ≤ reach (readLen f)
+read-reaches none = omega arith
+read-reaches (some f) = omega arith
+
+-- no record is shorter than mark and letter
+pub reaches : (s : Session) (letter : ℕ) → headLen ≤ reach (recordLen s letter)
+unfolding recordLen
+reaches s letter = go (eqb letter letterS) (isLetter letter) (eqb letter letterW) (eqb letter letterR)
+  where
+    go : (a b c d : Bool)
+        → headLen ≤ reach (cond a (some (headLen + 6)) (cond b (some (headLen + 4)) (cond c (writeLen (current (s .figures))) (cond d (readLen (current (s .figures))) none))))
+    go true b c d = omega arith
+    go false true c d = omega arith
+    go false false true d = write-reaches (current (s .figures))
+    go false false false true = read-reaches (current (s .figures))
+    go false false false false = omega arith
+
+never : (t : Bool) → (t && false) ≡ false
+never true = refl
+never false = refl
+
+cut : (bytes : List ℕ) (k : Option ℕ) → headLen ≤ reach k → length bytes < headLen → isWhole bytes k ≡ false
+cut bytes none h l = refl
+cut bytes (some k) h l = eqb-other (length bytes) k (λ e. omega arith)
+
+either : (b : Bool) → _≡_ {A = Option ℕ} (cond b none none) none
+either true = refl
+either false = refl
+
+whole-is : (bytes : List ℕ) (k : Option ℕ) → orZero k ≢ 0 → isWhole bytes k ≡ eqb (length bytes) (orZero k)
+whole-is bytes none h = absurd (h refl)
+whole-is bytes (some k) h = refl
+
+not-whole : (bytes : List ℕ) (k : Option ℕ) → headLen ≤ reach k → orZero k ≡ 0 → isWhole bytes k ≡ false
+not-whole bytes none h e = refl
+not-whole bytes (some k) h e = absurd (omega arith)
+
+reach-none : (k : Option ℕ) → headLen ≤ reach k → orZero k ≡ 0 → reach k ≡ headLen
+reach-none none h e = refl
+reach-none (some k) h e = absurd (omega arith)
+
+reach-some : (k : Option ℕ) → orZero k ≢ 0 → reach k ≡ orZero k
+reach-some none h = absurd (h refl)
+reach-some (some k) h = refl
+
+reach-most : (k : Option ℕ) → orZero k ≤ maxRecord → reach k ≤ maxRecord
+reach-most none h = omega arith
+reach-most (some k) h = h
+
+module _ (s : Session) (bytes : List ℕ) where
+  -- ---- The record that begins with these bytes
+
+  pub begun-short : length bytes < headLen → begunLen s bytes ≡ none
+  unfolding begunLen
+  begun-short h = rw (lt-ltb (length bytes) headLen h)
+
+  pub begun-unmarked : isMarked bytes ≡ false → begunLen s bytes ≡ none
+  unfolding begunLen
+  begun-unmarked e = rw e (either (ltb (length bytes) headLen))
+
+  pub begun-marked : headLen ≤ length bytes → isMarked bytes ≡ true → begunLen s bytes ≡ recordLen s (letterOf bytes)
+  unfolding begunLen
+  begun-marked h e = rw (le-ltb (length bytes) headLen h, e)
+
+  -- by the first two bytes
+  pub begun-first : getD bytes 0 0 ≢ 76 → begunLen s bytes ≡ none
+  begun-first h = begun-unmarked (ap (λ (b : Bool). b && eqb (getD bytes 1 0) 84) (eqb-other (getD bytes 0 0) 76 h))
+
+  pub begun-second : getD bytes 0 0 ≡ 76 → getD bytes 1 0 ≢ 84 → begunLen s bytes ≡ none
+  begun-second e h = begun-unmarked (rw (eqb-same (getD bytes 0 0) 76 e) (eqb-other (getD bytes 1 0) 84 h))
+
+  pub begun-both : headLen ≤ length bytes → getD bytes 0 0 ≡ 76 → getD bytes 1 0 ≡ 84 → begunLen s bytes ≡ recordLen s (letterOf bytes)
+  begun-both l e d = begun-marked l (rw (eqb-same (getD bytes 0 0) 76 e) (eqb-same (getD bytes 1 0) 84 d))
+
+  -- whatever holds of no length and of the letter's
+  begun-is : (P : Option ℕ → Type 0) → P none → P (recordLen s (letterOf bytes)) → P (begunLen s bytes)
+  begun-is P n r =
+      by-le headLen (length bytes) (λ b. P (begunLen s bytes))
+      (λ h. by-bool (isMarked bytes) (λ e. subst P (sym (begun-marked h e)) r) (λ e. subst P (sym (begun-unmarked e)) n))
+      (λ h. subst P (sym (begun-short h)) n)
+
+  -- mark and letter at least, and no more than the letter has
+  pub needed-least : headLen ≤ neededFor s bytes
+  needed-least = begun-is (λ k. headLen ≤ reach k) (omega arith) (reaches s (letterOf bytes))
+
+  pub needed-within : neededFor s bytes ≤ reach (recordLen s (letterOf bytes))
+  needed-within = begun-is (λ k. reach k ≤ reach (recordLen s (letterOf bytes))) (reaches s (letterOf bytes)) (omega arith)
+
+  begun-most : orZero (begunLen s bytes) ≤ maxRecord
+  begun-most = begun-is (λ k. orZero k ≤ maxRecord) (omega arith) (record-most s (letterOf bytes))
+
+  pub needed-most : neededFor s bytes ≤ maxRecord
+  needed-most = reach-most (begunLen s bytes) begun-most
+
+  -- a length that is that record's
+  pub begun-measured : (r : ℕ) (k : Option ℕ) → begunLen s bytes ≡ k → r ≡ orZero k → (r ≡ orZero (begunLen s bytes)) × (r ≤ maxRecord)
+  begun-measured r k e z =
+      let is : r ≡ orZero (begunLen s bytes) = z ∙ ap orZero (sym e) in
+      (is, omega (arith, is, begun-most))
+
+  module _ (r : ℕ) (e : r ≡ orZero (begunLen s bytes)) where
+    pub needed-none : r ≡ 0 → (headLen ≡ neededFor s bytes) × (headLen ≤ maxRecord)
+    needed-none z = (sym (reach-none (begunLen s bytes) needed-least (sym e ∙ z)), omega arith)
+
+    pub needed-some : r ≢ 0 → (r ≡ neededFor s bytes) × (r ≤ maxRecord)
+    needed-some n =
+        let is : r ≡ neededFor s bytes = e ∙ sym (reach-some (begunLen s bytes) (λ z. n (e ∙ z))) in
+        (is, omega (arith, is, needed-most))
+
+  -- ---- Whether it can be read
+
+  pub begun-readable : readable s bytes ≡ isWhole bytes (begunLen s bytes)
+  unfolding readable
+  begun-readable =
+      by-le headLen (length bytes) (λ b. readable s bytes ≡ isWhole bytes (begunLen s bytes))
+      (λ h. by-bool (isMarked bytes) (λ e. rw (e, begun-marked h e)) (λ e. rw (e, begun-unmarked e)))
+      (λ h. rw (begun-short h, cut bytes (recordLen s (letterOf bytes)) (reaches s (letterOf bytes)) h) (never (isMarked bytes)))
+
+  module _ (r : ℕ) (e : r ≡ orZero (begunLen s bytes)) where
+    pub none-unreadable : r ≡ 0 → readable s bytes ≡ false
+    none-unreadable z = begun-readable ∙ not-whole bytes (begunLen s bytes) needed-least (sym e ∙ z)
+
+    pub some-readable : r ≢ 0 → readable s bytes ≡ eqb (length bytes) r
+    some-readable n = begun-readable ∙ whole-is bytes (begunLen s bytes) (λ z. n (e ∙ z)) ∙ ap (eqb (length bytes)) (sym e)
+
+  pub readable-whole : readable s bytes ≡ true → isWhole bytes (recordLen s (letterOf bytes)) ≡ true
+  unfolding readable
+  readable-whole h = both (isMarked bytes) (isWhole bytes (recordLen s (letterOf bytes))) h .1
+
+-- ---- A record of its letter's length
+
+pub whole-len : (bytes : List ℕ) (k : Option ℕ) (n : ℕ) → k ≡ some n → isWhole bytes k ≡ true → length bytes ≡ n
+whole-len bytes k n e h = eqb-true (length bytes) n (ap (isWhole bytes) (sym e) ∙ h)
+
+whole-reaches : (bytes : List ℕ) (k : Option ℕ) → headLen ≤ reach k → isWhole bytes k ≡ true → headLen ≤ length bytes
+whole-reaches bytes none l h = absurd (false≢true h)
+whole-reaches bytes (some k) l h = omega (arith, eqb-true (length bytes) k h)
+
+pub whole-long : (s : Session) (letter : ℕ) (bytes : List ℕ) → isWhole bytes (recordLen s letter) ≡ true → headLen ≤ length bytes
+whole-long s letter bytes h = whole-reaches bytes (recordLen s letter) (reaches s letter) h
+
+pub write-long : (l : Layout) (f : Option Params) (bytes : List ℕ) → current f ≡ some (figuresOf l) → isWhole bytes (writeLen (current f)) ≡ true
+    → headLen + 2 * l .m ≤ length bytes
+write-long l f bytes e h =
+    omega (arith, whole-len bytes (writeLen (current f)) (headLen + 2 * l .m + payloadLen (l .q) (messageLen (figuresOf l))) (ap writeLen e) h)
+
+pub read-long : (l : Layout) (f : Option Params) (bytes : List ℕ) → current f ≡ some (figuresOf l) → isWhole bytes (readLen (current f)) ≡ true → headLen ≤ length bytes
+read-long l f bytes e h = omega (arith, whole-len bytes (readLen (current f)) (headLen + l .n) (ap readLen e) h)
+
+module _ (s : Session) (letter : ℕ) where
+  pub len-S : letter ≡ 83 → recordLen s letter ≡ some 9
+  unfolding recordLen
+  len-S e = rw e
+
+  pub len-O : letter ≡ 79 → recordLen s letter ≡ some 7
+  unfolding recordLen kindOf
+  len-O e = rw e
+
+  pub len-C : letter ≡ 67 → recordLen s letter ≡ some 7
+  unfolding recordLen kindOf
+  len-C e = rw e
+
+  pub len-F : letter ≡ 70 → recordLen s letter ≡ some 7
+  unfolding recordLen kindOf
+  len-F e = rw e
+
+  pub len-W : letter ≡ 87 → recordLen s letter ≡ writeLen (current (s .figures))
+  unfolding recordLen kindOf
+  len-W e = rw e
+
+  pub len-R : letter ≡ 82 → recordLen s letter ≡ readLen (current (s .figures))
+  unfolding recordLen kindOf
+  len-R e = rw e
+
+  -- none of the other three
+  pub len-call : (bytes : List ℕ) → letter ≢ 83 → letter ≢ 87 → letter ≢ 82 → isWhole bytes (recordLen s letter) ≡ true
+      → (recordLen s letter ≡ some 7) × (isLetter letter ≡ true)
+  unfolding recordLen
+  len-call bytes a b c =
+      rw (eqb-other letter 83 a, eqb-other letter 87 b, eqb-other letter 82 c) (go (isLetter letter))
+    where
+      go : (t : Bool) → isWhole bytes (cond t (some 7) none) ≡ true → (_≡_ {A = Option ℕ} (cond t (some 7) none) (some 7)) × (t ≡ true)
+      go true h = (refl, refl)
+      go false h = absurd (false≢true h)

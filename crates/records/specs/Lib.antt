@@ -1,0 +1,3 @@
+pub mod Session
+pub mod Records
+pub mod Bridge

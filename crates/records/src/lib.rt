@@ -1,0 +1,212 @@
+// The records that the transfer program takes: what is kept between them, how long each is, and what its bytes say. Assumes nothing.
+ghost use mathlib.Core.Path.{_≡_};
+ghost use mathlib.Core.Bool.{false};
+ghost use Prim.Native.Nat.{_+_, _*_, _≤_, _<_};
+ghost use lib.ListN.{length};
+ghost use Rattle.combinatorics.specs.Stretch.{tabulate};
+ghost use Rattle.construction_a.specs.Outcomes.{held};
+ghost use Rattle.params.specs.Bridge.{given};
+ghost use Rattle.params.specs.Given.{figuresOf, Fitting};
+ghost use Rattle.placements.specs.Bridge.{heldAs};
+ghost use Rattle.records.specs.Session.{atStart, maxRecords};
+ghost use Rattle.lines.specs.Lines.{maxLine};
+ghost use Rattle.records.specs.Records.{headLen, twoBytes, writeLen, readLen, recordLen, maxRecord, readable, current as currentOf, figuresIn, begunLen, neededFor};
+ghost use Rattle.records.specs.Bridge.{lastFigures, sessionOf, Current, orZero, HasStarts};
+use jobs::JobTable;
+use params::Layout;
+use params::LayoutAnswer;
+use params::Params;
+use params::bytes;
+use placements::Placement;
+use refusals::Refusal;
+
+// The figures of the last accepted S.
+pub enum LastFigures {
+    Missing,
+    Accepted(Params),
+}
+
+// What is kept between two records: figures, job table, and how many records were served.
+pub struct Session {
+    pub figures: LastFigures,
+    pub table: JobTable,
+    pub records: u32,
+}
+
+// Mark and letter: what is read of a record before its length is known.
+pub const HEAD_LEN: usize = 3;
+
+const FIGURES_LEN: usize = 6;
+
+const NUMBER_LEN: usize = 4;
+
+const BYTE_VALUES: u16 = 256;
+
+const MAX_WORD: usize = Params::MAX_WORD as usize;
+
+impl Session {
+    // "any record after the 4294967295th" is refused.
+    pub const MAX_RECORDS: u32 = 4294967295;
+
+    // Room for the longest line.
+    pub const MAX_LINE: usize = 2 * MAX_WORD + 6;
+
+    // Room for the longest record.
+    pub const MAX_RECORD: usize = HEAD_LEN + 2 * Placement::MAX + MAX_WORD;
+
+    // The session before the first record.
+    pub fn start() -> Self
+        ensures session { λ r. ⌜ sessionOf r ≡ atStart ⌝ }
+        ensures records { λ _. do ⌜ (← ⟦Session::MAX_RECORDS⟧ .entry) ≡ maxRecords ⌝ }
+        ensures longest { λ _. do ⌜ (← ⟦Session::MAX_RECORD⟧ .entry) ≡ maxRecord ⌝ }
+        ensures room { λ _. do ⌜ (← ⟦Session::MAX_LINE⟧ .entry) ≡ maxLine ⌝ }
+    {
+        Session {
+            figures: LastFigures::Missing,
+            table: JobTable::empty(),
+            records: 0,
+        }
+    }
+}
+
+// How many bytes a record with this letter has, mark and letter included; 0 for an unknown letter and for W or R before an accepted S.
+fn record_len(session: Session, letter: u8) -> usize
+    ensures len { λ r. ⌜ r ≡ orZero (recordLen (sessionOf session) letter) ⌝ }
+    ensures most { λ r. ⌜ r ≤ maxRecord ⌝ }
+{
+    let figures = session.figures;
+    match letter {
+        b'S' => HEAD_LEN + FIGURES_LEN,
+        b'O' => HEAD_LEN + NUMBER_LEN,
+        b'C' => HEAD_LEN + NUMBER_LEN,
+        b'F' => HEAD_LEN + NUMBER_LEN,
+        b'W' => write_len(figures),
+        b'R' => read_len(figures),
+        _ => 0,
+    }
+}
+
+// m starts and K bytes.
+fn write_len(figures: LastFigures) -> usize
+    ensures { λ r. ⌜ r ≡ orZero (writeLen (currentOf (lastFigures figures))) ⌝ }
+{
+    let answer = current(figures);
+    let LayoutAnswer::Fit(layout) = answer else {
+        return 0;
+    };
+    HEAD_LEN + 2 * layout.m + bytes::payload_len(layout.q, layout.message_len)
+}
+
+// n bytes.
+fn read_len(figures: LastFigures) -> usize
+    ensures { λ r. ⌜ r ≡ orZero (readLen (currentOf (lastFigures figures))) ⌝ }
+{
+    let answer = current(figures);
+    let LayoutAnswer::Fit(layout) = answer else {
+        return 0;
+    };
+    HEAD_LEN + layout.n
+}
+
+// The layout of the last accepted figures.
+pub fn current(figures: LastFigures) -> LayoutAnswer
+    ensures { λ r. ⌜ Current (lastFigures figures) r ⌝ }
+{
+    match figures {
+        LastFigures::Missing => LayoutAnswer::Refused(Refusal::RECORD),
+        LastFigures::Accepted(given) => Params::figures(given.n, given.q, given.m, given.b),
+    }
+}
+
+// How many bytes the next record takes, by those that are there: mark and letter until they are there, and also where no record begins with them.
+pub fn needed(session: Session, waiting: &[u8]) -> usize
+    ensures bytes { λ r. ⌜ r ≡ neededFor (sessionOf session) (now (waiting .entry)) ⌝ }
+    ensures most { λ r. ⌜ r ≤ maxRecord ⌝ }
+{
+    let len = begun_len(session, waiting);
+    if len == 0 {
+        return HEAD_LEN;
+    }
+    len
+}
+
+// Whether a record has the mark, a known letter, and its letter's length.
+pub fn is_readable(session: Session, received: &[u8]) -> bool
+    ensures { λ r. ⌜ r ≡ readable (sessionOf session) (now (received .entry)) ⌝ }
+{
+    let len = begun_len(session, received);
+    if len == 0 {
+        return false;
+    }
+    received.len() == len
+}
+
+// How many bytes the record has that begins with these; 0 where mark and letter are not there yet, and where no record begins with them.
+fn begun_len(session: Session, received: &[u8]) -> usize
+    ensures len { λ r. ⌜ r ≡ orZero (begunLen (sessionOf session) (now (received .entry))) ⌝ }
+    ensures most { λ r. ⌜ r ≤ maxRecord ⌝ }
+{
+    if received.len() < HEAD_LEN {
+        return 0;
+    }
+    if received[0] != b'L' {
+        return 0;
+    }
+    if received[1] != b'T' {
+        return 0;
+    }
+    record_len(session, received[2])
+}
+
+// The figures of an S record.
+pub fn figures_in(received: &[u8]) -> Params
+    requires { ⌜ length (now received) ≡ headLen + 6 ⌝ }
+    ensures { λ r. ⌜ given r ≡ figuresIn (now (received .entry)) ⌝ }
+{
+    Params {
+        n: two_bytes(received, 3) as u32,
+        q: received[5] as u32 + 1,
+        m: received[6] as u32,
+        b: two_bytes(received, 7) as u32,
+    }
+}
+
+// The figures of a layout, as a caller passes them.
+pub fn figures_of(layout: Layout) -> Params
+    requires { ⌜ Fitting layout ⌝ }
+    ensures { λ r. ⌜ given r ≡ figuresOf layout ⌝ }
+{
+    Params {
+        n: layout.n as u32,
+        q: layout.q as u32,
+        m: layout.m as u32,
+        b: layout.b as u32,
+    }
+}
+
+// The placement whose starts stand in a W record.
+pub fn placement_in(received: &[u8], m: usize) -> Placement
+    requires { ⌜ HasStarts m (now received) ⌝ }
+    ensures { λ r. ⌜ heldAs r ≡ held (tabulate m 0 (λ i. twoBytes (now (received .entry)) (headLen + 2 * i))) ⌝ }
+{
+    let mut found = Placement {
+        starts: [0; Placement::MAX],
+        count: m as u32,
+    };
+    let mut j: usize = 0;
+    while j < m {
+        found.starts[j] = two_bytes(received, HEAD_LEN + 2 * j);
+        j += 1;
+    }
+    found
+}
+
+// The number in two bytes, high byte first.
+fn two_bytes(received: &[u8], at: usize) -> u16
+    requires { ⌜ at + 2 ≤ length (now received) ⌝ }
+    ensures { λ r. ⌜ r ≡ twoBytes (now (received .entry)) at ⌝ }
+{
+    let high = received[at] as u16;
+    let low = received[at + 1] as u16;
+    high * BYTE_VALUES + low
+}

@@ -1,0 +1,86 @@
+-- What a step makes of the session and prints, record by record. Assumes nothing.
+use mathlib.Core.Bool.{Bool, true, false, cond}
+use mathlib.Core.List.{List, [], _∷_}
+use mathlib.Core.Option.{Option, none, some}
+use Prim.Native.Nat.{ℕ}
+use lib.Dec.{ltb, eqb}
+use lib.ListN.{length, take, drop, replicate}
+use Rattle.refusals.specs.Refusals.{must, served}
+use Rattle.cells.specs.Bytes.{payloadLen}
+use Rattle.construction_a.specs.Figures.{Params, messageLen}
+use Rattle.construction_a.specs.Outcomes.{Encoded, FiguresOut, figured, unserved, figuresOut}
+use Rattle.jobs.specs.Replay.{kindOf, callBy, isLetter}
+use Rattle.jobs.specs.Table.{TableOut}
+use Rattle.payloads.specs.Payload.{jobNumber}
+use Rattle.jobcodec.specs.JobWrite.{jobWriteOut}
+use Rattle.jobcodec.specs.JobRead.{JobRead, jobReadOut}
+use Rattle.text.specs.Text.{decimal, hex}
+use Rattle.records.specs.Session.{Session, maxRecords, after}
+use Rattle.lines.specs.Lines.{refusalLine, servedLine, stopLine, endLine, letterS, letterW, letterR}
+use Rattle.records.specs.Records.{headLen, letterOf, isEmpty, current, readable, figuresIn, startsIn, payloadOf}
+
+-- ---- What a step gives: the session afterwards, the line, and whether the program ends
+
+pub record Step : Type 0 where
+  pub next : Session
+  pub line : List ℕ
+  pub stops : Bool
+
+-- prints "stop 11" and ends
+abbrev pub stopped : Session → Step
+stopped s = record { next = s; line = stopLine; stops = true }
+
+-- "end of input prints "end""
+abbrev pub ended : Session → Step
+ended s = record { next = s; line = endLine; stops = true }
+
+abbrev pub goesOn : Session → List ℕ → Step
+goesOn s l = record { next = s; line = l; stops = false }
+
+-- "after S also T, r, k"; "A refused S keeps the former figures." The table "outlasts an S".
+abbrev pub figuresStep : Session → Params → FiguresOut → Step
+figuresStep s f (figured t r k) = goesOn (after s (some f) (s .table)) (servedLine letterS (decimal t ∷ decimal r ∷ decimal k ∷ []))
+figuresStep s f (unserved a) = goesOn (after s (s .figures) (s .table)) (refusalLine letterS a)
+
+-- "O (open), C (cancel), F (finish) a job number (4)": the table that the call hands back
+abbrev pub callStep : Session → ℕ → TableOut → Step
+callStep s letter out = goesOn (after s (s .figures) (out .table)) (refusalLine letter (out .answer))
+
+-- a record that changes nothing but the count; what comes behind the 0
+abbrev pub jobStep : Session → ℕ → ℕ → List (List ℕ) → Step
+jobStep s letter answer fields =
+    goesOn (after s (s .figures) (s .table)) (must (eqb answer served) (refusalLine letter answer) (servedLine letter fields))
+
+-- "after W the word in hex"
+abbrev pub writeStep : Session → Encoded → Step
+writeStep s out = jobStep s letterW (out .answer) (hex (out .word) ∷ [])
+
+-- "after R the number and text in hex"
+abbrev pub readStep : Session → JobRead → Step
+readStep s out = jobStep s letterR (out .answer) (hex (take 4 (out .payload)) ∷ hex (drop 4 (out .payload)) ∷ [])
+
+-- the lent word holds 0 before it is written, and the lent payload before it is read: what a refused job leaves there is not printed
+abbrev pub writeOut : Session → List ℕ → Option Params → Step
+writeOut s bytes none = stopped s
+writeOut s bytes (some f) = writeStep s (jobWriteOut f (s .table) (startsIn f bytes) (payloadOf f bytes) (replicate (f .n) 0))
+
+abbrev pub readOut : Session → List ℕ → Option Params → Step
+readOut s bytes none = stopped s
+readOut s bytes (some f) = readStep s (jobReadOut f (s .table) (drop headLen bytes) (replicate (payloadLen (f .q) (messageLen f)) 0))
+
+-- a record of its letter's length
+unfoldable pub serveOut : Session → ℕ → List ℕ → Step
+serveOut s letter bytes =
+    cond (eqb letter letterS) (figuresStep s (figuresIn bytes) (figuresOut (figuresIn bytes)))
+    (cond (isLetter letter) (callStep s letter (callBy (kindOf letter) (s .table) (jobNumber (drop headLen bytes))))
+    (cond (eqb letter letterW) (writeOut s bytes (current (s .figures)))
+    (cond (eqb letter letterR) (readOut s bytes (current (s .figures)))
+    (stopped s))))
+
+-- one record; no bytes at all are the end of input
+unfoldable pub stepOut : Session → List ℕ → Step
+stepOut s bytes =
+    cond (isEmpty bytes) (ended s)
+    (must (ltb (s .count) maxRecords) (stopped s)
+    (must (readable s bytes) (stopped s)
+    (serveOut s (letterOf bytes) bytes)))
