@@ -14,7 +14,8 @@ use Rattle.construction_a.specs.Figures.{inRange, parts, blockMin, leastTail, i
 use Rattle.construction_a.specs.Writing.{becomes, withBurst, withBursts, isBurst, next, partCount, partWith, chosen, beside, isChosen, isIndexIn, isIndex, indexBlocks, cellOf, kindAt, plan, word}
 use Rattle.construction_a.specs.Reading.{heads}
 use Rattle.construction_a.specs.Outcomes.{figuresOut, encodeOut, coverOut}
-use Rattle.jobs.specs.Table.{firstEntry, replaceFirst, put, twice, decide, answersFrom}
+use Rattle.jobs.specs.Table.{firstEntry, replaceFirst, put, twice, decide}
+use Rattle.ledger.specs.Calls.{answersFrom}
 use Rattle.bench.specs.Strips.{starred, StarredHold}
 
 pub starred-hold : StarredHold

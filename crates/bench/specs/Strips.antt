@@ -13,7 +13,8 @@ use Rattle.construction_a.specs.Writing.{rank, indexBlocks, word}
 use Rattle.construction_a.specs.Reading.{heads}
 use Rattle.construction_a.specs.Outcomes.{FiguresOut, figured, unserved, figuresNumber, figuresOut, held, Encoded, encodeOut, Covered, coverOut, inUse}
 use Rattle.jobs.specs.Jobs.{opening, cancelling, on}
-use Rattle.jobs.specs.Table.{emptyTable, answersFrom}
+use Rattle.jobs.specs.Table.{emptyTable}
+use Rattle.ledger.specs.Calls.{answersFrom}
 
 -- figures alone: 0, T, r and k, or the refusal
 abbrev numbers : FiguresOut → List ℕ

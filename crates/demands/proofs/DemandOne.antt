@@ -26,11 +26,12 @@ use Rattle.construction_a.specs.DemandTwo.{constructionA}
 use Rattle.construction_a.proofs.DemandTwo.{demand-two}
 use Rattle.construction_a.proofs.Figures.{serve}
 use Rattle.construction_a.proofs.Ranking.{covers-least}
-use Rattle.jobs.proofs.Simulates.{simulation}
+use Rattle.ledger.proofs.Simulates.{simulation}
 use Rattle.jobs.specs.declared.Entry.{Entry}
 use Rattle.jobs.specs.declared.Entry.the-variants.{Free, Open, OnHold, Cancelled}
 use Rattle.jobs.specs.Jobs.{Kind, opening, cancelling, finishing, reinstating, holding, releasing, isJob, Status, unknown, opened, onHold, cancelled}
-use Rattle.jobs.specs.Replay.{kindOf, listKind, known, callBy, isLetter, isListLetter, lengthsFit, ReplayOut, replayOut}
+use Rattle.jobs.specs.Letters.{kindOf, listKind, known, callBy, isLetter, isListLetter}
+use Rattle.ledger.specs.Replay.{lengthsFit, ReplayOut, replayOut}
 use Rattle.jobs.specs.Table.{isFree, lookup, TableOut, put, twice, decide, openJob, openAt, cancelAt, finishAt, reinstateAt, holdAt, releaseAt, openOut, cancelOut, finishOut, reinstateOut, holdOut, releaseOut, callAs}
 use Rattle.payloads.specs.Payload.{carriesJob, payloadIn, spellsPayload, jobNumber}
 use Rattle.decoder.specs.Exported.{Exported, answered, exportedOut}

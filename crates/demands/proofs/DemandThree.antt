@@ -18,9 +18,11 @@ use Rattle.construction_a.specs.Outcomes.{figured, figuresNumber, figuresOut}
 use Rattle.construction_a.proofs.Outcomes.{figures-invalid, figures-unfit, figures-served}
 use Rattle.jobs.specs.declared.Entry.{Entry}
 use Rattle.jobs.specs.Jobs.{Kind, Call}
-use Rattle.jobs.specs.Replay.{kindOf, known, callBy, isLetter, callBefore}
-use Rattle.jobs.specs.Simulation.{empty}
-use Rattle.jobs.specs.Table.{emptyTable, answersFrom, tableFrom}
+use Rattle.jobs.specs.Letters.{kindOf, known, callBy, isLetter}
+use Rattle.ledger.specs.Replay.{callBefore}
+use Rattle.ledger.specs.Simulation.{empty}
+use Rattle.jobs.specs.Table.{emptyTable}
+use Rattle.ledger.specs.Calls.{answersFrom, tableFrom}
 use Rattle.payloads.specs.Payload.{jobNumber}
 use Rattle.jobcodec.specs.DemandThree.{ClaimA}
 use Rattle.jobcodec.specs.JobRead.{JobRead, jobReadOut}

@@ -17,8 +17,9 @@ use Rattle.construction_a.specs.Outcomes.{Held, held, figuresNumber, figuresOut
 use Rattle.construction_a.specs.DemandTwo.{DemandTwo}
 use Rattle.jobs.specs.declared.Entry.{Entry}
 use Rattle.jobs.specs.Jobs.{Kind, opening, cancelling, finishing, reinstating, holding, releasing}
-use Rattle.jobs.specs.Replay.{listKind, callBy, replayOut}
-use Rattle.jobs.specs.Simulation.{Simulation}
+use Rattle.jobs.specs.Letters.{listKind, callBy}
+use Rattle.ledger.specs.Replay.{replayOut}
+use Rattle.ledger.specs.Simulation.{Simulation}
 use Rattle.jobs.specs.Table.{openOut, cancelOut, finishOut, reinstateOut, holdOut, releaseOut}
 use Rattle.decoder.specs.Exported.{exportedOut}
 use Rattle.jobcodec.specs.DemandThree.{isRefusal}

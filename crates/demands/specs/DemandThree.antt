@@ -13,8 +13,9 @@ use Rattle.construction_a.specs.Figures.{Params, messageLen}
 use Rattle.construction_a.specs.Outcomes.{figuresNumber, figuresOut}
 use Rattle.jobs.specs.declared.Entry.{Entry}
 use Rattle.jobs.specs.Jobs.{Call}
-use Rattle.jobs.specs.Replay.{kindOf, isLetter, callBefore}
-use Rattle.jobs.specs.Simulation.{Start}
+use Rattle.jobs.specs.Letters.{kindOf, isLetter}
+use Rattle.ledger.specs.Replay.{callBefore}
+use Rattle.ledger.specs.Simulation.{Start}
 use Rattle.payloads.specs.Payload.{jobNumber}
 use Rattle.jobcodec.specs.DemandThree.{ClaimA}
 use Rattle.jobcodec.specs.JobRead.{JobRead}

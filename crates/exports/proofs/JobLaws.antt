@@ -14,7 +14,7 @@ use Rattle.construction_a.specs.Figures.{Params, maxBursts, inRange, fits, mess
 use Rattle.construction_a.specs.Outcomes.{unserved, figuresOut, unwritten}
 use Rattle.construction_a.proofs.Figures.{ranged}
 use Rattle.construction_a.proofs.Outcomes.{refused-alike}
-use Rattle.jobs.specs.Replay.{listKind, callBy, isListLetter}
+use Rattle.jobs.specs.Letters.{listKind, callBy, isListLetter}
 use Rattle.jobs.specs.Table.{TableOut, twice}
 use Rattle.payloads.specs.Payload.{carriesJob}
 use Rattle.jobcodec.specs.JobWrite.{jobWriteOut}

@@ -10,7 +10,7 @@ use Rattle.combinatorics.specs.Lists.{all}
 use Rattle.cells.specs.Bytes.{byteValues}
 use Rattle.jobs.specs.declared.Entry.{Entry}
 use Rattle.jobs.specs.Jobs.{Kind, opening, cancelling, finishing, reinstating, holding, releasing, Call}
-use Rattle.jobs.specs.Simulation.{Start, Follows}
+use Rattle.ledger.specs.Simulation.{Start, Follows}
 use Rattle.jobs.specs.Table.{emptyTable}
 use Rattle.exports.specs.Table.{tableLen, tableIn, TableOf}
 use Rattle.exports.specs.Jobs.{CallLent, callBytesOut}

@@ -8,7 +8,7 @@ use lib.ListN.{length}
 use Rattle.refusals.specs.Refusals.{must, served, invalid, unfit, wrongLength, badPayload, badRecord}
 use Rattle.construction_a.specs.Figures.{Params, inRange, fits, messageLen}
 use Rattle.construction_a.specs.Outcomes.{held, Encoded, unwritten}
-use Rattle.jobs.specs.Replay.{listKind, callBy, isListLetter}
+use Rattle.jobs.specs.Letters.{listKind, callBy, isListLetter}
 use Rattle.jobs.specs.Table.{TableOut, twice}
 use Rattle.payloads.specs.Payload.{carriesJob}
 use Rattle.jobcodec.specs.JobWrite.{jobWriteOut}

@@ -24,7 +24,7 @@ use Rattle.params.specs.declared.Layout.{Layout}
 use Rattle.params.proofs.Answered.{Told, fit-learnt, Bounds, bounds}
 use Rattle.jobs.specs.declared.Entry.{Entry}
 use Rattle.jobs.specs.Jobs.{isJob, Status, unknown, opened, onHold, cancelled, needsOpen}
-use Rattle.jobs.specs.Replay.{ReplayOut, replayOut}
+use Rattle.ledger.specs.Replay.{ReplayOut, replayOut}
 use Rattle.jobs.specs.Table.{twice}
 use Rattle.payloads.specs.Payload.{carriesJob, jobNumber, messageOf}
 use Rattle.jobcodec.specs.JobWrite.{jobStatus, whereOpen, jobWriteOut}

@@ -21,11 +21,12 @@ use Rattle.construction_a.proofs.Figures.{ranged}
 use Rattle.construction_a.proofs.DemandTwo.{demand-two}
 use Rattle.jobs.specs.declared.Entry.{Entry}
 use Rattle.jobs.specs.Jobs.{Kind, opening, cancelling, finishing, reinstating, holding, releasing, Call, needsOpen}
-use Rattle.jobs.specs.Table.{emptyTable, twice, answersFrom, tableFrom}
-use Rattle.jobs.specs.Ledger.{historyOf, lastLeft, answerAfter, status, ledgerFrom, acceptedBy}
-use Rattle.jobs.specs.Simulation.{Agrees, Follows, empty}
-use Rattle.jobs.proofs.Simulates.{simulation-from-start, accepted-by}
-use Rattle.jobs.proofs.Striking.{left-decides}
+use Rattle.jobs.specs.Table.{emptyTable, twice}
+use Rattle.ledger.specs.Calls.{answersFrom, tableFrom}
+use Rattle.ledger.specs.Ledger.{historyOf, lastLeft, answerAfter, status, ledgerFrom, acceptedBy}
+use Rattle.ledger.specs.Simulation.{Agrees, Follows, empty}
+use Rattle.ledger.proofs.Simulates.{simulation-from-start, accepted-by}
+use Rattle.ledger.proofs.Striking.{left-decides}
 use Rattle.payloads.specs.Payload.{carriesJob, jobNumber, messageOf, payloadIn, spellsPayload}
 use Rattle.jobcodec.specs.JobWrite.{whereOpen, unless}
 use Rattle.jobcodec.specs.JobRead.{JobRead, handOut, withhold, jobIn, jobReading, jobReadOut}

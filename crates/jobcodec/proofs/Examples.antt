@@ -26,7 +26,8 @@ use Rattle.jobs.specs.declared.Entry.{Entry}
 use Rattle.jobs.specs.declared.Entry.the-variants.{Free, Open, Cancelled}
 use Rattle.jobs.specs.declared.Before.the-variants.{WasOpen}
 use Rattle.jobs.specs.Jobs.{opening, cancelling, finishing, reinstating, holding, releasing, Call, on}
-use Rattle.jobs.specs.Table.{firstEntry, replaceFirst, put, twice, decide, emptyTable, tableFrom}
+use Rattle.jobs.specs.Table.{firstEntry, replaceFirst, put, twice, decide, emptyTable}
+use Rattle.ledger.specs.Calls.{tableFrom}
 use Rattle.payloads.specs.Payload.{carriesJob, jobNumber, messageOf, payloadIn, spellsPayload}
 use Rattle.jobcodec.specs.JobWrite.{jobWriteOut}
 use Rattle.jobcodec.specs.JobRead.{JobRead, jobReading, jobReadOut}

@@ -17,9 +17,9 @@ use Rattle.construction_a.specs.Figures.{Params, inRange, fits}
 use Rattle.construction_a.specs.DemandTwo.{constructionA}
 use Rattle.jobs.specs.declared.Entry.{Entry}
 use Rattle.jobs.specs.Jobs.{opening, cancelling, finishing, holding, Call}
-use Rattle.jobs.specs.Table.{answersFrom, tableFrom}
-use Rattle.jobs.specs.Ledger.{lastLeft, answerAfter, verdictsFrom, acceptedBy}
-use Rattle.jobs.specs.Simulation.{Start}
+use Rattle.ledger.specs.Calls.{answersFrom, tableFrom}
+use Rattle.ledger.specs.Ledger.{lastLeft, answerAfter, verdictsFrom, acceptedBy}
+use Rattle.ledger.specs.Simulation.{Start}
 use Rattle.payloads.specs.Payload.{IsPayload, carriesJob, jobNumber, messageOf}
 use Rattle.jobcodec.specs.JobWrite.{unless}
 use Rattle.jobcodec.specs.JobRead.{JobRead, handOut, withhold, jobReadOut}

@@ -7,7 +7,7 @@ use Rattle.refusals.specs.Refusals.{must, served}
 use Rattle.construction_a.specs.Figures.{Params}
 use Rattle.jobs.specs.declared.Entry.{Entry}
 use Rattle.jobs.specs.Jobs.{Call}
-use Rattle.jobs.specs.Replay.{ReplayOut, replayOut}
+use Rattle.ledger.specs.Replay.{ReplayOut, replayOut}
 use Rattle.jobcodec.specs.declared.ListAnswer.{ListAnswer}
 use Rattle.jobcodec.specs.declared.ListAnswer.the-variants.{Refused, Read}
 use Rattle.jobcodec.specs.JobRead.{JobRead, jobReadOut}

@@ -1,11 +1,6 @@
-pub mod Examples
 pub mod SlotLaws
 pub mod Entries
 pub mod Decisions
-pub mod Turns
-pub mod Simulates
-pub mod HeldNumbers
-pub mod ReplayLaws
 pub mod Marks
-pub mod Striking
 pub mod Restoring
+pub mod Letters

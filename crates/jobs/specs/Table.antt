@@ -12,7 +12,7 @@ use Rattle.jobs.specs.declared.Entry.{Entry}
 use Rattle.jobs.specs.declared.Entry.the-variants.{Free, Open, OnHold, Cancelled}
 use Rattle.jobs.specs.declared.Before.{Before}
 use Rattle.jobs.specs.declared.Before.the-variants.{WasAbsent, WasOpen, WasOnHold}
-use Rattle.jobs.specs.Jobs.{slotCount, Kind, opening, cancelling, finishing, reinstating, holding, releasing, Call, isJob, Status, unknown, opened, onHold, cancelled, isHeld}
+use Rattle.jobs.specs.Jobs.{slotCount, Kind, opening, cancelling, finishing, reinstating, holding, releasing, isJob, Status, unknown, opened, onHold, cancelled, isHeld}
 
 -- document 02, ticket 7: "what it was for that number before its cancellation: open, or absent if it was unknown"; ticket 10: "and reinstating gives back
 -- held"
@@ -175,7 +175,7 @@ holdOut es n = decide holdAt es n
 abbrev pub releaseOut : List Entry → ℕ → TableOut
 releaseOut es n = decide releaseAt es n
 
--- ---- A list of calls
+-- ---- A call by its kind
 
 abbrev pub callAs : Kind → List Entry → ℕ → TableOut
 callAs opening es n = openOut es n
@@ -184,19 +184,6 @@ callAs finishing es n = finishOut es n
 callAs reinstating es n = reinstateOut es n
 callAs holding es n = holdOut es n
 callAs releasing es n = releaseOut es n
-
-abbrev pub callOut : List Entry → Call → TableOut
-callOut es c = callAs (c .kind) es (c .number)
-
--- the answers of the calls, each given the table that the one before handed back
-unfoldable pub answersFrom : List Entry → List Call → List ℕ
-answersFrom es [] = []
-answersFrom es (c ∷ cs) = callOut es c .answer ∷ answersFrom (callOut es c .table) cs
-
--- the table that the last one hands back
-unfoldable pub tableFrom : List Entry → List Call → List Entry
-tableFrom es [] = es
-tableFrom es (c ∷ cs) = tableFrom (callOut es c .table) cs
 
 -- ---- Taking a call back
 

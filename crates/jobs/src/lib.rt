@@ -1,16 +1,12 @@
-// The job table (document 01's book), by value, and the replay of a list of calls on it. Assumes nothing.
+// The job table (document 01's book), by value. Assumes nothing.
 ghost use mathlib.Core.Path.{_≡_};
 ghost use mathlib.Core.Bool.{false};
-ghost use mathlib.Core.List.{List};
 ghost use Prim.Native.Nat.{_+_};
 ghost use lib.ListN.{length, drop};
-ghost use Rattle.refusals.specs.Refusals.{served};
-ghost use Rattle.combinatorics.specs.Lists.{all};
-ghost use Rattle.jobs.specs.Jobs.{slotCount, Call, isJob};
+ghost use Rattle.jobs.specs.Jobs.{slotCount, isJob};
 ghost use Rattle.jobs.specs.Table.{isFree, emptyTable, openOut, cancelOut, finishOut, reinstateOut, holdOut, releaseOut};
 ghost use Rattle.jobs.specs.Slots.{entries, outcome, seeks, firstThat, markCount, markOf};
-ghost use Rattle.jobs.specs.Replay.{kindOf, listKind, callBy, isLetter, isListLetter, callsOf, AreCalls, replayed, made, replayOut};
-ghost use Rattle.jobs.specs.Simulation.{Agrees, Follows};
+ghost use Rattle.jobs.specs.Letters.{kindOf, listKind, callBy, isLetter, isListLetter};
 use refusals::Refusal;
 
 // What a number was before its cancellation.
@@ -269,7 +265,7 @@ impl JobTable {
     }
 
     // The table as it was, beside a refusal.
-    fn refuse(self, answer: u8) -> TableAnswer
+    pub fn refuse(self, answer: u8) -> TableAnswer
         ensures { λ r. ⌜ outcome r ≡ Rattle.jobs.specs.Table.refuse (entries self) answer ⌝ }
     {
         TableAnswer {
@@ -368,38 +364,6 @@ fn holds(entry: Entry, number: u32) -> bool
     }
 }
 
-// Makes the calls of lent letters and numbers, one after the other from a table; each answer goes to its place in `answers`.
-// Refusals of the whole list: 3 for lists of other lengths, 11 for a letter other than O, C, F, I, H, U. The table is then as it was, and `answers`
-// keeps what it held.
-pub fn replay(table: JobTable, letters: &[u8], numbers: &[u32], answers: &mut [u8]) -> TableAnswer
-    ensures outcome { λ r. ⌜ replayed r (now (answers .exit)) ≡ replayOut (entries table) (now (letters .entry)) (now (numbers .entry)) (now (answers .entry)) ⌝ }
-    ensures ledger { λ r. ⌜ ((before : List Call) → Agrees (entries table) before → r .answer ≡ served → Follows before (callsOf (now (letters .entry)) (now (numbers .entry))) (now (answers .exit)) (entries (r .table))) ⌝ }
-{
-    if numbers.len() != letters.len() {
-        return table.refuse(Refusal::LENGTH);
-    }
-    if answers.len() != letters.len() {
-        return table.refuse(Refusal::LENGTH);
-    }
-    if !all_letters(letters) {
-        return table.refuse(Refusal::RECORD);
-    }
-    make_calls(table, letters, numbers, answers)
-}
-
-fn all_letters(letters: &[u8]) -> bool
-    ensures { λ r. ⌜ r ≡ all isListLetter (now (letters .entry)) ⌝ }
-{
-    let mut i: usize = 0;
-    while i < letters.len() {
-        if !is_list_letter(letters[i]) {
-            return false;
-        }
-        i += 1;
-    }
-    true
-}
-
 // Whether a call in a list has this letter.
 pub fn is_list_letter(letter: u8) -> bool
     ensures { λ r. ⌜ r ≡ isListLetter letter ⌝ }
@@ -421,24 +385,5 @@ pub fn is_letter(letter: u8) -> bool
         b'C' => true,
         b'F' => true,
         _ => false,
-    }
-}
-
-// All tests are done: the calls are made, and `answers` is filled.
-fn make_calls(start: JobTable, letters: &[u8], numbers: &[u32], answers: &mut [u8]) -> TableAnswer
-    requires { ⌜ AreCalls (now letters) (now numbers) (now answers) ⌝ }
-    ensures { λ r. ⌜ replayed r (now (answers .exit)) ≡ made (entries start) (callsOf (now (letters .entry)) (now (numbers .entry))) ⌝ }
-{
-    let mut table = start;
-    let mut i: usize = 0;
-    while i < letters.len() {
-        let out = table.list_call(letters[i], numbers[i]);
-        answers[i] = out.answer;
-        table = out.table;
-        i += 1;
-    }
-    TableAnswer {
-        answer: Refusal::NONE,
-        table,
     }
 }

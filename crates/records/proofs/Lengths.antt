@@ -23,8 +23,8 @@ use Rattle.params.specs.declared.LayoutAnswer.{LayoutAnswer}
 use Rattle.params.specs.declared.LayoutAnswer.the-variants.{Fit, Refused}
 use Rattle.params.proofs.Answered.{Told}
 use Rattle.params.proofs.Fitting.{layout-fits, bound}
-use Rattle.jobs.specs.Replay.{kindOf, isLetter}
-use Rattle.jobs.proofs.Turns.{no-kind}
+use Rattle.jobs.specs.Letters.{kindOf, isLetter}
+use Rattle.jobs.proofs.Letters.{no-kind}
 use Rattle.records.specs.Session.{Session}
 use Rattle.lines.specs.Lines.{letterS, letterW, letterR}
 use Rattle.records.specs.Records.{headLen, isMarked, letterOf, ifFit, current, writeLen, readLen, recordLen, maxRecord, isWhole, readable, reach, begunLen, neededFor}

@@ -9,7 +9,7 @@ use Rattle.combinatorics.specs.Stretch.{tabulate}
 use Rattle.cells.specs.Bytes.{byteValues, payloadLen}
 use Rattle.construction_a.specs.Figures.{Params, params, maxWord, maxBursts, messageLen}
 use Rattle.construction_a.specs.Outcomes.{Held, held, FiguresOut, figured, unserved, figuresOut}
-use Rattle.jobs.specs.Replay.{isLetter}
+use Rattle.jobs.specs.Letters.{isLetter}
 use Rattle.text.specs.Text.{hex}
 use Rattle.lines.specs.Lines.{letterS, letterW, letterR}
 use Rattle.records.specs.Session.{Session}

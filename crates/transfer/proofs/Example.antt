@@ -17,7 +17,7 @@ use Rattle.construction_a.specs.Writing.{becomes, withBurst, withBursts, isBurs
 use Rattle.construction_a.specs.Reading.{looksFixed, later, bareParts, openBlocks, indexInPart, collect, indexFound, heads, written, agrees, readRank, read}
 use Rattle.construction_a.specs.Outcomes.{figuresOut}
 use Rattle.jobs.specs.Table.{firstEntry, replaceFirst, put, twice, decide}
-use Rattle.jobs.specs.Replay.{kindOf}
+use Rattle.jobs.specs.Letters.{kindOf}
 use Rattle.payloads.specs.Payload.{carriesJob, jobNumber, messageOf, payloadIn, spellsPayload}
 use Rattle.jobcodec.specs.JobWrite.{jobWriteOut}
 use Rattle.jobcodec.specs.JobRead.{jobReading, jobReadOut}

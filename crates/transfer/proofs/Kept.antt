@@ -9,7 +9,7 @@ use lib.ListN.{drop}
 use Rattle.refusals.specs.Refusals.{must}
 use Rattle.construction_a.specs.Figures.{Params}
 use Rattle.construction_a.specs.Outcomes.{FiguresOut, figured, unserved, figuresOut}
-use Rattle.jobs.specs.Replay.{kindOf, callBy, isLetter}
+use Rattle.jobs.specs.Letters.{kindOf, callBy, isLetter}
 use Rattle.payloads.specs.Payload.{jobNumber}
 use Rattle.records.specs.Session.{Session, atStart, maxRecords}
 use Rattle.lines.specs.Lines.{letterS, letterW, letterR}

@@ -13,7 +13,7 @@ use Rattle.combinatorics.proofs.Cases.{eqb-other, leb-holds, leb-fails}
 use Rattle.combinatorics.proofs.Lists.{both}
 use Rattle.construction_a.specs.Figures.{Params}
 use Rattle.construction_a.specs.Outcomes.{FiguresOut, figured, unserved, figuresOut}
-use Rattle.jobs.specs.Replay.{kindOf, callBy, isLetter}
+use Rattle.jobs.specs.Letters.{kindOf, callBy, isLetter}
 use Rattle.payloads.specs.Payload.{jobNumber}
 use Rattle.records.proofs.Lengths.{reaches}
 use Rattle.records.specs.Session.{Session, atStart, maxRecords}

@@ -13,7 +13,7 @@ use Rattle.cells.specs.Bytes.{payloadLen}
 use Rattle.construction_a.specs.Figures.{Params, inRange, fits, messageLen}
 use Rattle.construction_a.specs.Outcomes.{Held, Encoded, figuresOut}
 use Rattle.jobs.specs.declared.Entry.{Entry}
-use Rattle.jobs.specs.Replay.{kindOf, callBy, isLetter}
+use Rattle.jobs.specs.Letters.{kindOf, callBy, isLetter}
 use Rattle.jobs.specs.Table.{twice}
 use Rattle.payloads.specs.Payload.{carriesJob, jobNumber}
 use Rattle.payloads.proofs.Payload.{carries-five}

@@ -9,7 +9,7 @@ use Rattle.refusals.specs.Refusals.{must, served}
 use Rattle.cells.specs.Bytes.{payloadLen}
 use Rattle.construction_a.specs.Figures.{Params, messageLen}
 use Rattle.construction_a.specs.Outcomes.{Encoded, FiguresOut, figured, unserved, figuresOut}
-use Rattle.jobs.specs.Replay.{kindOf, callBy, isLetter}
+use Rattle.jobs.specs.Letters.{kindOf, callBy, isLetter}
 use Rattle.jobs.specs.Table.{TableOut}
 use Rattle.payloads.specs.Payload.{jobNumber}
 use Rattle.jobcodec.specs.JobWrite.{jobWriteOut}

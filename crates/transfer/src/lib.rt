@@ -6,7 +6,7 @@ ghost use Prim.Native.Nat.{_+_, _*_, _≤_, _<_};
 ghost use lib.ListN.{length};
 ghost use Rattle.construction_a.specs.Figures.{maxWord};
 ghost use Rattle.construction_a.specs.Outcomes.{figuresOut};
-ghost use Rattle.jobs.specs.Replay.{kindOf, callBy};
+ghost use Rattle.jobs.specs.Letters.{kindOf, callBy};
 ghost use Rattle.jobs.specs.Slots.{entries};
 ghost use Rattle.jobcodec.specs.JobWrite.{jobWriteOut};
 ghost use Rattle.jobcodec.specs.JobRead.{jobReadOut};

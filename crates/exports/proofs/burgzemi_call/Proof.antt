@@ -5,7 +5,7 @@ use borrow.Author.Needs.{needs}
 use borrow.Author.Tests.{not-true, not-false}
 use Rattle.refusals.specs.Refusals.{served}
 use Rattle.jobs.specs.declared.Entry.{Entry}
-use Rattle.jobs.specs.Replay.{listKind, callBy}
+use Rattle.jobs.specs.Letters.{listKind, callBy}
 use Rattle.jobs.specs.Slots.{outcome}
 use Rattle.exports.specs.Jobs.{called}
 use Rattle.exports.proofs.JobLaws.{call-length, call-letter, call-state, call-refused, call-served}

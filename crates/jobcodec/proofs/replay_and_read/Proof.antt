@@ -4,7 +4,7 @@ use mathlib.Core.List.{List}
 use Prim.Native.Nat.{ℕ}
 use borrow.Author.Needs.{needs}
 use Rattle.params.specs.Bridge.{given}
-use Rattle.jobs.specs.Replay.{callsOf, replayed}
+use Rattle.ledger.specs.Replay.{callsOf, replayed}
 use Rattle.jobs.specs.Slots.{entries}
 use Rattle.jobcodec.specs.JobRead.{JobRead, jobReadOut}
 use Rattle.jobcodec.specs.DemandThree.{ClaimA}

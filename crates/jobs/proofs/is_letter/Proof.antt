@@ -1,6 +1,6 @@
 -- `is_letter` meets its contract. Assumes nothing.
-use Rattle.jobs.specs.Replay.{kindOf}
-use Rattle.jobs.proofs.Turns.{no-kind}
+use Rattle.jobs.specs.Letters.{kindOf}
+use Rattle.jobs.proofs.Letters.{no-kind}
 use Rattle.jobs.proofs.is_letter.Statement.{statement}
 use Rattle.jobs.proofs.is_letter.Tie as tie
 

@@ -1,8 +1,8 @@
 -- `is_list_letter` meets its contract. Assumes nothing.
 use mathlib.Core.Path.{sym, ap, _∙_}
 use borrow.Author.Needs.{needs}
-use Rattle.jobs.specs.Replay.{listKind, known}
-use Rattle.jobs.proofs.Turns.{list-kind}
+use Rattle.jobs.specs.Letters.{listKind, known}
+use Rattle.jobs.proofs.Letters.{list-kind}
 use Rattle.jobs.proofs.is_list_letter.Statement.{statement}
 use Rattle.jobs.proofs.is_list_letter.Tie as tie
 

@@ -7,7 +7,7 @@ use borrow.Author.Needs.{needs}
 use lib.ListN.{length, length-drop}
 use Rattle.construction_a.specs.Figures.{Params}
 use Rattle.construction_a.specs.Outcomes.{figuresOut}
-use Rattle.jobs.specs.Replay.{kindOf, callBy}
+use Rattle.jobs.specs.Letters.{kindOf, callBy}
 use Rattle.payloads.specs.Payload.{jobNumber}
 use Rattle.records.specs.Records.{headLen, letterOf, recordLen, isWhole}
 use Rattle.transfer.specs.Steps.{Step, figuresStep, callStep}

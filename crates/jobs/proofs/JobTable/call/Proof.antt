@@ -1,7 +1,7 @@
 -- `JobTable::call` meets its contract. Assumes nothing.
 use borrow.Author.Needs.{needs}
-use Rattle.jobs.specs.Replay.{kindOf}
-use Rattle.jobs.proofs.Turns.{no-kind}
+use Rattle.jobs.specs.Letters.{kindOf}
+use Rattle.jobs.proofs.Letters.{no-kind}
 use Rattle.jobs.proofs.JobTable.call.Statement.{statement}
 use Rattle.jobs.proofs.JobTable.call.Tie as tie
 

@@ -3,9 +3,9 @@ use mathlib.Core.Path.{sym, ap, _∙_}
 use mathlib.Core.Option.{Option}
 use borrow.Author.Needs.{needs}
 use Rattle.jobs.specs.Jobs.{Kind}
-use Rattle.jobs.specs.Replay.{listKind, callBy}
+use Rattle.jobs.specs.Letters.{listKind, callBy}
 use Rattle.jobs.specs.Slots.{entries}
-use Rattle.jobs.proofs.Turns.{list-kind}
+use Rattle.jobs.proofs.Letters.{list-kind}
 use Rattle.jobs.proofs.JobTable.list_call.Statement.{statement}
 use Rattle.jobs.proofs.JobTable.list_call.Tie as tie
 

@@ -4,10 +4,10 @@ use Prim.Native.Nat.{_-_}
 use native.Mathlib.Omega.{arith}
 use borrow.Author.Needs.{needs}
 use lib.ListN.{length}
 use Rattle.jobs.specs.Slots.{entries}
-use Rattle.jobs.proofs.Turns.{Replaying, none-made, call-made, calls-made}
-use Rattle.jobs.proofs.make_calls.Statement.{statement}
-use Rattle.jobs.proofs.make_calls.Tie as tie
+use Rattle.ledger.proofs.Turns.{Replaying, none-made, call-made, calls-made}
+use Rattle.ledger.proofs.make_calls.Statement.{statement}
+use Rattle.ledger.proofs.make_calls.Tie as tie
 
 abbrev Inv-loop : tie.InvT-loop
 Inv-loop letters numbers answers₀ table₀ i₀ answers table i = Replaying (entries table₀) letters numbers answers (entries table) i

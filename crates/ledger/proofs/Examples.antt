@@ -8,12 +8,12 @@ use lib.ListN.{set}
 use Rattle.combinatorics.specs.Examples.{Example, example, comesTrue}
 use Rattle.combinatorics.specs.Lists.{all, any, sameList}
 use Rattle.combinatorics.specs.Stretch.{tabulate}
 use Rattle.jobs.specs.declared.Entry.{Entry}
 use Rattle.jobs.specs.declared.Entry.the-variants.{Open, OnHold, Cancelled}
 use Rattle.jobs.specs.declared.Before.the-variants.{WasAbsent, WasOpen, WasOnHold}
 use Rattle.jobs.specs.Jobs.{slotCount, Kind, opening, cancelling, finishing, reinstating, holding, releasing, on}
 use Rattle.jobs.specs.Table.{firstEntry, replaceFirst, put, twice, decide, emptyTable, callAs}
-use Rattle.jobs.specs.Ledger.{historyOf, statusOf, status, held, verdict, enter, verdictsFrom}
+use Rattle.ledger.specs.Ledger.{historyOf, statusOf, status, held, verdict, enter, verdictsFrom}
 
 -- "a book that holds 0 alone"
 abbrev alone : Entry → List Entry

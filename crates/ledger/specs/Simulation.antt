@@ -4,12 +4,13 @@ use mathlib.Core.Bool.{true, false}
 use mathlib.Core.List.{List, [], _∷_}
 use Prim.Native.Nat.{ℕ, _<_}
 use lib.ListN.{length, set}
 use Rattle.jobs.specs.declared.Entry.{Entry}
 use Rattle.jobs.specs.declared.Entry.the-variants.{Open, Cancelled}
 use Rattle.jobs.specs.declared.Before.the-variants.{WasAbsent, WasOpen, WasOnHold}
 use Rattle.jobs.specs.Jobs.{slotCount, opening, cancelling, holding, Call, on}
-use Rattle.jobs.specs.Table.{standing, lookup, used, twice, emptyTable, answersFrom, tableFrom}
-use Rattle.jobs.specs.Ledger.{historyOf, status, lawful, held, verdictsFrom, ledgerFrom}
+use Rattle.jobs.specs.Table.{standing, lookup, used, twice, emptyTable}
+use Rattle.ledger.specs.Calls.{answersFrom, tableFrom}
+use Rattle.ledger.specs.Ledger.{historyOf, status, lawful, held, verdictsFrom, ledgerFrom}
 
 -- The table holds exactly the numbers that the ledger has open, on hold or cancelled, each once, in that state.
 pub record Agrees (es : List Entry) (h : List Call) : Type 0 where

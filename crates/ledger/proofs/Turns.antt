@@ -11,15 +11,16 @@ use lib.ListN.{length, getD, drop, take, set, drop-of-length-le, length-set}
 use lib.Seq.{drop-cons, take-suc-set, take-all}
 use Rattle.refusals.specs.Refusals.{served}
 use Rattle.combinatorics.specs.Lists.{all}
-use Rattle.combinatorics.proofs.Cases.{eqb-other}
 use Rattle.combinatorics.proofs.Lists.{both}
 use Rattle.jobs.specs.declared.Entry.{Entry}
 use Rattle.jobs.specs.declared.JobTable.{JobTable}
 use Rattle.jobs.specs.declared.TableAnswer.{TableAnswer}
 use Rattle.jobs.specs.Jobs.{Kind, Call}
-use Rattle.jobs.specs.Table.{TableOut, tableFrom, answersFrom}
+use Rattle.jobs.specs.Table.{TableOut}
+use Rattle.ledger.specs.Calls.{tableFrom, answersFrom}
 use Rattle.jobs.specs.Slots.{entries, outcome}
-use Rattle.jobs.specs.Replay.{kindOf, listKind, known, isListLetter, callBy, callBefore, callsOf, replayed, made, AreCalls}
+use Rattle.jobs.specs.Letters.{listKind, known, isListLetter, callBy}
+use Rattle.ledger.specs.Replay.{callBefore, callsOf, replayed, made, AreCalls}
 
 -- ---- A test of every number
 
@@ -39,14 +40,6 @@ module _ (t : ℕ → Bool) (xs : List ℕ) (i : ℕ) where
   all-end h = rw (drop-of-length-le xs h)
 
 -- ---- The calls that lent lists spell
-
-pub no-kind : (k : ℕ) → k ≢ 79 → k ≢ 67 → k ≢ 70 → kindOf k ≡ none
-unfolding kindOf
-no-kind k o c f = rw (eqb-other k 79 o, eqb-other k 67 c, eqb-other k 70 f)
-
-pub list-kind : (k : ℕ) → k ≢ 73 → k ≢ 72 → k ≢ 85 → listKind k ≡ kindOf k
-unfolding listKind
-list-kind k i h u = rw (eqb-other k 73 i, eqb-other k 72 h, eqb-other k 85 u)
 
 module _ (es : List Entry) (n : ℕ) (cs : List Call) where
   table-next : (o : Option Kind) → known o ≡ true → tableFrom es (callBefore o n cs) ≡ tableFrom (callBy o es n .table) cs

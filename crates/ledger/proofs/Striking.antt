@@ -2,13 +2,13 @@
 -- that it says what the number is.
 -- Assumes nothing.
 use mathlib.Core.Path.{_≡_, refl, sym, ap, _∙_}
-use mathlib.Core.Bool.{Bool, true, false, cond, _&&_, _||_, true≢false, false≢true}
+use mathlib.Core.Bool.{Bool, true, false, _||_, true≢false, false≢true}
 use mathlib.Core.List.{List, [], _∷_, _++_}
 use Rattle.combinatorics.specs.Lists.{all}
 use Rattle.combinatorics.proofs.Cases.{by-bool}
 use Rattle.combinatorics.proofs.Lists.{both}
 use Rattle.jobs.specs.Jobs.{Kind, opening, cancelling, finishing, reinstating, holding, releasing, Status, unknown, opened, onHold, cancelled, needsOpen}
-use Rattle.jobs.specs.Ledger.{after, statusOf, takesBack, strike, whatIsLeft, hasPair, StrikesPairs, newestOf, answerAfter, accepts, lawful, LeftDecides}
+use Rattle.ledger.specs.Ledger.{after, statusOf, takesBack, strike, whatIsLeft, hasPair, StrikesPairs, newestOf, answerAfter, accepts, lawful, LeftDecides}
 
 -- ---- In any order
 

@@ -11,8 +11,8 @@ use Rattle.combinatorics.specs.Lists.{any}
 use Rattle.combinatorics.specs.Stretch.{bit, keepIf}
 use Rattle.combinatorics.proofs.Lists.{both}
 use Rattle.combinatorics.proofs.Cases.{by-eq, by-bool, eqb-same, eqb-other}
 use Rattle.jobs.specs.Jobs.{Call, isHeld}
-use Rattle.jobs.specs.Ledger.{historyOf, statusOf, status, held, distinct, Counted, HeldCounts}
+use Rattle.ledger.specs.Ledger.{historyOf, statusOf, status, held, distinct, Counted, HeldCounts}
 
 unfoldable without : ℕ → List ℕ → List ℕ
 without n [] = []

@@ -3,10 +3,10 @@ use mathlib.Core.Path.{sym, _∙_}
 use borrow.Author.Needs.{needs}
 use borrow.Author.Tests.{not-true, not-false}
 use Rattle.refusals.specs.Refusals.{wrongLength, badRecord}
 use Rattle.jobs.specs.Slots.{entries}
-use Rattle.jobs.proofs.ReplayLaws.{turned-away, numbers-unfit, answers-unfit, letter-unknown, calls-served, meets}
-use Rattle.jobs.proofs.replay.Statement.{statement}
-use Rattle.jobs.proofs.replay.Tie as tie
+use Rattle.ledger.proofs.ReplayLaws.{turned-away, numbers-unfit, answers-unfit, letter-unknown, calls-served, meets}
+use Rattle.ledger.proofs.replay.Statement.{statement}
+use Rattle.ledger.proofs.replay.Tie as tie
 
 refuse-requires : tie.Need-refuse-requires
 refuse-requires c κs = search needs

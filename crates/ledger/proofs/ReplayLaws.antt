@@ -9,14 +9,15 @@ use lib.ListN.{length}
 use Rattle.refusals.specs.Refusals.{served, wrongLength, badRecord, must}
 use Rattle.combinatorics.specs.Lists.{all}
 use Rattle.combinatorics.proofs.Cases.{eqb-same, eqb-other}
 use Rattle.jobs.specs.declared.Entry.{Entry}
 use Rattle.jobs.specs.declared.TableAnswer.{TableAnswer}
 use Rattle.jobs.specs.Jobs.{Call}
 use Rattle.jobs.specs.Table.{TableOut, refuse}
-use Rattle.jobs.specs.Simulation.{Agrees, Follows}
+use Rattle.ledger.specs.Simulation.{Agrees, Follows}
 use Rattle.jobs.specs.Slots.{entries, outcome}
-use Rattle.jobs.specs.Replay.{isListLetter, callsOf, lengthsFit, ReplayOut, replayed, turnAway, made, replayOut, AreCalls}
-use Rattle.jobs.proofs.Simulates.{simulation}
+use Rattle.jobs.specs.Letters.{isListLetter}
+use Rattle.ledger.specs.Replay.{callsOf, lengthsFit, ReplayOut, replayed, turnAway, made, replayOut, AreCalls}
+use Rattle.ledger.proofs.Simulates.{simulation}
 
 -- what a table's refusal is for the whole list
 pub turned-away : (r : TableAnswer) (es : List Entry) (a : ℕ) (answers : List ℕ) → outcome r ≡ refuse es a → replayed r answers ≡ turnAway es answers a

@@ -6,10 +6,10 @@ use borrow.Author.Needs.{needs}
 use borrow.Author.Tests.{not-true, not-false}
 use lib.ListN.{length, drop}
 use Rattle.combinatorics.specs.Lists.{all}
-use Rattle.jobs.specs.Replay.{isListLetter}
-use Rattle.jobs.proofs.Turns.{all-fails, all-later, all-end}
-use Rattle.jobs.proofs.all_letters.Statement.{statement}
-use Rattle.jobs.proofs.all_letters.Tie as tie
+use Rattle.jobs.specs.Letters.{isListLetter}
+use Rattle.ledger.proofs.Turns.{all-fails, all-later, all-end}
+use Rattle.ledger.proofs.all_letters.Statement.{statement}
+use Rattle.ledger.proofs.all_letters.Tie as tie
 
 abbrev Inv-loop : tie.InvT-loop
 Inv-loop letters i₀ i = all isListLetter (drop i letters) ≡ all isListLetter letters

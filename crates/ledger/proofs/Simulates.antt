@@ -1,24 +1,25 @@
 -- The table answers as the ledger does and stands for it: one call, then every list. Assumes nothing.
 use mathlib.Core.Path.{_≡_, refl, sym, ap, ap₂, _∙_}
-use mathlib.Core.Bool.{Bool, true, false, cond, _&&_, true≢false, false≢true}
+use mathlib.Core.Bool.{Bool, true, false, cond, true≢false, false≢true}
 use mathlib.Core.List.{List, [], _∷_}
 use Prim.Native.Nat.{ℕ, _<_}
 use native.Mathlib.Omega.{arith}
 use lib.Dec.{eqb}
-use lib.ListN.{length, replicate, set, length-set}
+use lib.ListN.{set, length-set}
 use Rattle.refusals.specs.Refusals.{served, must, jobCancelled, alreadyOpen, notOpen, tableFull, numberZero, notCancelled, jobHeld, notHeld}
 use Rattle.combinatorics.specs.Lists.{any}
 use Rattle.combinatorics.specs.Stretch.{bit}
 use Rattle.combinatorics.proofs.Cases.{by-eq, by-bool, eqb-same, eqb-true}
 use Rattle.jobs.specs.declared.Entry.{Entry}
 use Rattle.jobs.specs.declared.Entry.the-variants.{Free, Open, OnHold, Cancelled}
 use Rattle.jobs.specs.declared.Before.{Before}
 use Rattle.jobs.specs.declared.Before.the-variants.{WasAbsent, WasOpen, WasOnHold}
 use Rattle.jobs.specs.Jobs.{slotCount, Kind, opening, cancelling, finishing, reinstating, holding, releasing, Call, on, isJob, Status, unknown, isHeld}
-use Rattle.jobs.specs.Table.{standing, isFree, holds, firstEntry, lookup, used, emptyTable, TableOut, refuse, accept, replaceFirst, put, add, twice, decide, openJob, restored, callAs, callOut, answersFrom, tableFrom}
-use Rattle.jobs.specs.Ledger.{historyOf, after, statusOf, status, lawful, held, judge, accepts, verdict, enter, verdictsFrom, ledgerFrom, acceptedBy}
-use Rattle.jobs.specs.Simulation.{Agrees, Simulation, Start, empty, zero-open, zero-cancelled, zero-opened-cancelled, zero-on-hold-cancelled, SimulationFromStart}
+use Rattle.jobs.specs.Table.{standing, isFree, holds, lookup, used, emptyTable, TableOut, refuse, accept, replaceFirst, put, add, twice, decide, openJob, restored, callAs}
+use Rattle.ledger.specs.Calls.{callOut, answersFrom, tableFrom}
+use Rattle.ledger.specs.Ledger.{historyOf, after, statusOf, status, lawful, held, judge, accepts, verdict, enter, verdictsFrom, ledgerFrom, acceptedBy}
+use Rattle.ledger.specs.Simulation.{Agrees, Simulation, Start, empty, zero-open, zero-cancelled, zero-opened-cancelled, zero-on-hold-cancelled, SimulationFromStart}
 use Rattle.jobs.proofs.Entries.{any-holds, entry-passes, holds-only, free-entry, Stored, stored, held-le, room-is, free-lookup, alone-lookup, alone-once, alone-used}
 
 -- one call's outcome is what the ledger says
 pub record Alike (o : TableOut) (h : List Call) (c : Call) : Type 0 where
