@@ -8,7 +8,7 @@ use Prim.Native.Nat.{ℕ, suc, _*_}
 use native.Mathlib.Omega.{arith}
 use lib.Dec.{eqb, ltb}
 use lib.ListN.{length, take, drop, replicate}
-use Rattle.refusals.specs.Refusals.{must, served, invalid, unfit, wrongLength, noPattern, valueTooLarge, disagrees, erased, badRecord, jobCancelled, jobHeld, notOpen}
+use Rattle.refusals.specs.Refusals.{must, served, invalid, unfit, wrongLength, noPattern, valueTooLarge, disagrees, erased, badPayload, badRecord, jobCancelled, jobHeld, notOpen}
 use Rattle.combinatorics.specs.Lists.{all, any, allBelow}
 use Rattle.combinatorics.specs.Bursts.{apart, coverRank}
 use Rattle.combinatorics.proofs.Cases.{by-bool, by-eq, eqb-true, eqb-other}
@@ -42,9 +42,11 @@ use Rattle.jobcodec.specs.ListRead.{ListOut, listOut}
 use Rattle.lanes.specs.Interleaving.{inDepth, interleaved, deinterleaved}
 use Rattle.lanes.specs.Outcomes.{Rearranged, rearranged, interleaveOut, deinterleaveOut}
 use Rattle.verifier.specs.Verify.{agreesOutside, agreeing, differing, unchecked, verifyOut}
-use Rattle.exports.specs.Words.{CoverLent, encodeBytesOut, differs, verifyBytesOut, coverBytesOut}
-use Rattle.exports.specs.Table.{tableLen, statesKnown, tableIn}
-use Rattle.exports.specs.Jobs.{CallLent, called, calledAs, isWhole as wholeTable, slotsFit, callBytesOut, jobWriteBytesOut, jobReadBytesOut}
+use Rattle.lent.specs.Covering.{CoverLent, coverBytesOut}
+use Rattle.lent.specs.Table.{tableLen, statesKnown, tableIn}
+use Rattle.lent.specs.Jobs.{isWhole as wholeTable, slotsFit, withTable}
+use Rattle.exports.specs.Words.{encodeBytesOut, differs, verifyBytesOut}
+use Rattle.exports.specs.Jobs.{CallLent, called, calledAs, callBytesOut, jobWriteBytesOut, jobReadBytesOut}
 use Rattle.text.specs.Text.{decimal, hex}
 use Rattle.records.specs.Session.{Session, maxRecords, after}
 use Rattle.lines.specs.Lines.{refusalLine, servedLine}
@@ -382,25 +384,25 @@ module _ (out starts : List ℕ) where
       (tested ReadsIn (eqb (length starts) (2 * f .m)) (keep refl refl)
       (read-in (d .answer) (d .placement) (d .message) (word-read f w out))))
 
+-- "1 2 10 3" before a job's own
+with-table : {O : Type 0} (P : O → Type 0) (f : Params) (table : List ℕ) (lengths : Bool) (refuse : ℕ → O) {rest : O}
+    → P (refuse invalid) → P (refuse unfit) → P (refuse badPayload) → P (refuse wrongLength) → P rest → P (withTable f table lengths refuse rest)
+with-table P f table lengths refuse p₁ p₂ p₁₀ p₃ r =
+    tested P (inRange f && slotsFit table) p₁
+    (tested P (fits f) p₂
+    (tested P (carriesJob (f .q) (messageLen f)) p₁₀
+    (tested P (wholeTable table && lengths) p₃ r)))
+
 job-write-bytes : (f : Params) (table starts payload out : List ℕ) → Writes jobWrite out (jobWriteBytesOut f table starts payload out)
 unfolding jobWriteBytesOut isRefusal all any
 job-write-bytes f table starts payload out =
-    let P = Writes jobWrite out in
-    tested P (inRange f && slotsFit table) (keep refl refl)
-    (tested P (fits f) (keep refl refl)
-    (tested P (carriesJob (f .q) (messageLen f)) (keep refl refl)
-    (tested P (wholeTable table && eqb (length starts) (2 * f .m)) (keep refl refl)
-    (job-write f (tableIn table) _ payload out))))
+    with-table (Writes jobWrite out) f table (eqb (length starts) (2 * f .m)) (unwritten out) (keep refl refl) (keep refl refl) (keep refl refl) (keep refl refl)
+    (job-write f (tableIn table) _ payload out)
 
 job-read-bytes : (f : Params) (table w out : List ℕ) → ReadsJob out (jobReadBytesOut f table w out)
 unfolding jobReadBytesOut isRefusal all any
 job-read-bytes f table w out =
-    let P = ReadsJob out in
-    tested P (inRange f && slotsFit table) (keep refl refl)
-    (tested P (fits f) (keep refl refl)
-    (tested P (carriesJob (f .q) (messageLen f)) (keep refl refl)
-    (tested P (wholeTable table) (keep refl refl)
-    (job-read f (tableIn table) w out))))
+    with-table (ReadsJob out) f table true (withhold out) (keep refl refl) (keep refl refl) (keep refl refl) (keep refl refl) (job-read f (tableIn table) w out)
 
 -- one more number in front of an order
 one-more : (a b c : Bool) → (a || c) ≡ true → (a || (b || c)) ≡ true

@@ -28,7 +28,7 @@ use Rattle.jobcodec.specs.DemandThree.{ClaimA}
 use Rattle.jobcodec.specs.JobRead.{JobRead, jobReadOut}
 use Rattle.jobcodec.proofs.DemandThree.{follows-claim, demand-three}
 use Rattle.exports.specs.Follows.{answersOn, bytesAfter}
-use Rattle.exports.specs.Table.{tableIn}
+use Rattle.lent.specs.Table.{tableIn}
 use Rattle.exports.proofs.Follows.{bytes-left, bytes-follow}
 use Rattle.exports.proofs.JobLaws.{read-whole}
 use Rattle.records.specs.Session.{Session, atStart, maxRecords, after}

@@ -28,7 +28,8 @@ use Rattle.jobcodec.specs.JobRead.{jobReadOut}
 use Rattle.jobcodec.specs.ListRead.{ListSaid, listRefused, jobAnswer, ListOut, listOut}
 use Rattle.lanes.specs.Outcomes.{interleaveOut, deinterleaveOut}
 use Rattle.verifier.specs.Verify.{Verdict, agreeing, verdictRefusal, verifyOut}
-use Rattle.exports.specs.Words.{encodeBytesOut, differs, verdictNumber, verifyBytesOut, coverBytesOut}
+use Rattle.lent.specs.Covering.{coverBytesOut}
+use Rattle.exports.specs.Words.{encodeBytesOut, differs, verdictNumber, verifyBytesOut}
 use Rattle.exports.specs.Jobs.{callBytesOut, jobWriteBytesOut, jobReadBytesOut}
 use Rattle.records.specs.Session.{Session, after}
 use Rattle.lines.specs.Lines.{refusalLine, servedLine}

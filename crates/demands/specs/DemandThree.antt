@@ -21,7 +21,7 @@ use Rattle.jobcodec.specs.DemandThree.{ClaimA}
 use Rattle.jobcodec.specs.JobRead.{JobRead}
 use Rattle.exports.specs.Follows.{answersOn, bytesAfter, numbered}
 use Rattle.exports.specs.Jobs.{jobReadBytesOut}
-use Rattle.exports.specs.Table.{TableOf}
+use Rattle.lent.specs.Table.{TableOf}
 use Rattle.lines.specs.Lines.{refusalLine}
 use Rattle.lines.specs.Lines.{letterS, letterR}
 use Rattle.records.specs.Records.{headLen, isMarked, letterOf, figuresIn}

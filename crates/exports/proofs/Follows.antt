@@ -21,10 +21,10 @@ use Rattle.jobs.specs.Table.{isFree, holds, lookup, emptyTable, TableOut, refus
 use Rattle.ledger.specs.Calls.{callOut, answersFrom, tableFrom}
 use Rattle.ledger.specs.Simulation.{Start, empty, zero-open, zero-cancelled, zero-opened-cancelled, zero-on-hold-cancelled}
 use Rattle.ledger.proofs.Simulates.{simulation-from-start}
-use Rattle.exports.specs.Table.{hasRoom, IsTable, TableOf}
+use Rattle.lent.specs.Table.{hasRoom, IsTable, TableOf}
+use Rattle.lent.proofs.TableBack.{table-back, empty-bytes, empty-table}
 use Rattle.exports.specs.Jobs.{CallLent, calledAs}
 use Rattle.exports.specs.Follows.{letterOf, callOn, answersOn, bytesAfter, EmptyBytes, numbered, BytesFollow}
-use Rattle.exports.proofs.TableBack.{table-back, empty-bytes, empty-table}
 use Rattle.exports.proofs.JobLaws.{as-called}
 
 -- ---- A call leaves a table, and a refused one the table that it found

@@ -12,7 +12,7 @@ use Rattle.jobs.specs.declared.Entry.{Entry}
 use Rattle.jobs.specs.Jobs.{Kind, opening, cancelling, finishing, reinstating, holding, releasing, Call}
 use Rattle.ledger.specs.Simulation.{Start, Follows}
 use Rattle.jobs.specs.Table.{emptyTable}
-use Rattle.exports.specs.Table.{tableLen, tableIn, TableOf}
+use Rattle.lent.specs.Table.{tableLen, tableIn, TableOf}
 use Rattle.exports.specs.Jobs.{CallLent, callBytesOut}
 
 -- "O (open), C (cancel), F (finish)", and I (reinstate), H (hold), U (release)

@@ -1,5 +1,5 @@
--- What word write, covering and the check of a word answer a program in another language, and what lent buffers hold afterwards, for every input. The word reader's
--- outcome is `exportedOut` of the decoder. Assumes nothing.
+-- What word write and the check of a word answer a program in another language, and what lent buffers hold afterwards, for every input. The word
+-- reader's outcome is `exportedOut` of the decoder, covering's `coverBytesOut` of `lent`. Assumes nothing.
 use mathlib.Core.List.{List}
 use Prim.Native.Nat.{ℕ, _*_}
 use lib.Dec.{eqb}
@@ -7,10 +7,10 @@ use lib.ListN.{length}
 use Rattle.refusals.specs.Refusals.{must, served, invalid, unfit, wrongLength}
 use Rattle.cells.specs.Bytes.{payloadLen}
 use Rattle.construction_a.specs.Figures.{Params, inRange, fits}
-use Rattle.construction_a.specs.Outcomes.{inUse, held, FiguresOut, figured, unserved, figuresOut, Encoded, unwritten, encodeOut, Covered, coverOut}
-use Rattle.decoder.specs.Exported.{startBytes, noLength}
+use Rattle.construction_a.specs.Outcomes.{held, FiguresOut, figured, unserved, figuresOut, Encoded, unwritten, encodeOut}
+use Rattle.decoder.specs.Exported.{noLength}
 use Rattle.verifier.specs.Verify.{Verdict, agreeing, differing, unchecked, verifyOut}
-use Rattle.exports.specs.Starts.{startsFrom}
+use Rattle.lent.specs.Starts.{startsFrom}
 
 -- ---- "word write 1 2 3 5 4", where 3 stands for the bytes of the starts too
 
@@ -20,26 +20,6 @@ encodeBytesOut f starts ms out =
     (must (fits f) (unwritten out unfit)
     (must (eqb (length starts) (2 * f .m)) (unwritten out wrongLength)
     (encodeOut f (held (startsFrom starts)) ms out)))
-
--- ---- "covering 1 2 3 4 6", where 3 stands for the buffer of starts too
-
-pub record CoverLent : Type 0 where
-  pub answer : ℕ
-  pub starts : List ℕ
-
-abbrev pub covers : ℕ → List ℕ → CoverLent
-covers a bytes = record { answer = a; starts = bytes }
-
--- the placement as bytes; "Every refusal returns its number only; output buffers .. keep their contents."
-abbrev pub coveredAs : List ℕ → Covered → CoverLent
-coveredAs bytes c = must (eqb (c .answer) served) (covers (c .answer) bytes) (covers served (startBytes (inUse (c .placement))))
-
-unfoldable pub coverBytesOut : Params → List ℕ → List ℕ → CoverLent
-coverBytesOut f map bytes =
-    must (inRange f) (covers invalid bytes)
-    (must (fits f) (covers unfit bytes)
-    (must (eqb (length bytes) (2 * f .m)) (covers wrongLength bytes)
-    (coveredAs bytes (coverOut f map))))
 
 -- ---- K, for a program that has to lend so many bytes; a length that no payload has where the figures are refused
 

@@ -6,17 +6,17 @@ ghost use Rattle.construction_a.specs.Outcomes.{unwritten};
 ghost use Rattle.decoder.specs.Exported.{lentAs, exportedOut, messageLenOut};
 ghost use Rattle.jobcodec.specs.Given.{seen};
 ghost use Rattle.lanes.specs.Outcomes.{unfilled, interleaveOut, deinterleaveOut};
-ghost use Rattle.exports.specs.Words.{encodeBytesOut, verifyBytesOut, verdictNumber, covers, coverBytesOut, payloadLenOut};
+ghost use Rattle.lent.specs.Covering.{covers, coverBytesOut};
+ghost use Rattle.exports.specs.Words.{encodeBytesOut, verifyBytesOut, verdictNumber, payloadLenOut};
 ghost use Rattle.exports.specs.Jobs.{called, callBytesOut, jobWriteBytesOut, jobReadBytesOut};
 use decoder::starts::decode_bytes;
+use lent::starts;
+use lent::table;
 use params::LayoutAnswer;
 use params::Params;
 use params::bytes;
 use refusals::Refusal;
 use verifier::VerifyAnswer;
-
-mod starts;
-mod table;
 
 // A length that no message and no payload has.
 const NO_LENGTH: u32 = 4294967295;

@@ -5,7 +5,7 @@ use Rattle.construction_a.specs.Figures.{Params, params}
 use Rattle.construction_a.proofs.Outcomes.{figured-fits}
 use Rattle.params.proofs.Answered.{refused-learnt}
 use Rattle.params.specs.Answer.{figuredAs}
-use Rattle.exports.proofs.Words.{cover-bytes-unfit}
+use Rattle.lent.proofs.Covering.{cover-bytes-unfit}
 use Rattle.exports.proofs.burgzemi_cover.Statement.{statement}
 use Rattle.exports.proofs.burgzemi_cover.Tie as tie
 

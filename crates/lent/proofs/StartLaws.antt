@@ -15,7 +15,7 @@ use Rattle.cells.specs.Bytes.{byteValues}
 use Rattle.construction_a.specs.Figures.{maxBursts}
 use Rattle.construction_a.specs.Outcomes.{held}
 use Rattle.decoder.specs.Exported.{startBytes}
-use Rattle.exports.specs.Starts.{startsFrom}
+use Rattle.lent.specs.Starts.{startsFrom}
 
 -- ---- There and back
 

@@ -6,11 +6,11 @@ use native.Mathlib.Omega.{arith}
 use borrow.Author.Needs.{needs}
 use lib.ListN.{length, getD, set}
 use Rattle.construction_a.specs.Outcomes.{Held}
-use Rattle.exports.specs.Starts.{startsFrom}
-use Rattle.exports.proofs.StartLaws.{length-starts, start-at, begun, begun-next, begun-all}
-use Rattle.exports.proofs.Words.{placed-many, placed-other, placed-all}
-use Rattle.exports.proofs.starts.placement_from.Statement.{statement}
-use Rattle.exports.proofs.starts.placement_from.Tie as tie
+use Rattle.lent.specs.Starts.{startsFrom}
+use Rattle.lent.proofs.StartLaws.{length-starts, start-at, begun, begun-next, begun-all}
+use Rattle.lent.proofs.Covering.{placed-many, placed-other, placed-all}
+use Rattle.lent.proofs.starts.placement_from.Statement.{statement}
+use Rattle.lent.proofs.starts.placement_from.Tie as tie
 
 abbrev the-held : List ℕ → ℕ → Held
 the-held s n = record { starts = s; count = n }

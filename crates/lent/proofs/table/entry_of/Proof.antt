@@ -1,7 +1,7 @@
 -- `entry_of` meets its contract. Assumes nothing.
-use Rattle.exports.proofs.TableLaws.{entry-free}
-use Rattle.exports.proofs.table.entry_of.Statement.{statement}
-use Rattle.exports.proofs.table.entry_of.Tie as tie
+use Rattle.lent.proofs.TableLaws.{entry-free}
+use Rattle.lent.proofs.table.entry_of.Statement.{statement}
+use Rattle.lent.proofs.table.entry_of.Tie as tie
 
 returns : tie.Need-returns
 returns c = rw (c .match .keys1)

@@ -6,10 +6,10 @@ use borrow.Author.Needs.{needs}
 use lib.ListN.{drop}
 use Rattle.combinatorics.specs.Lists.{allBelow}
 use Rattle.jobs.specs.Jobs.{slotCount}
-use Rattle.exports.specs.Table.{stateCount, states, statesKnown}
-use Rattle.exports.proofs.TableLaws.{states-all, state-unknown, state-known, states-over}
-use Rattle.exports.proofs.table.states_known.Statement.{statement}
-use Rattle.exports.proofs.table.states_known.Tie as tie
+use Rattle.lent.specs.Table.{stateCount, states, statesKnown}
+use Rattle.lent.proofs.TableLaws.{states-all, state-unknown, state-known, states-over}
+use Rattle.lent.proofs.table.states_known.Statement.{statement}
+use Rattle.lent.proofs.table.states_known.Tie as tie
 
 abbrev Inv-loop : tie.InvT-loop
 Inv-loop bytes i₀ i = (i ≤ slotCount) × (allBelow stateCount (drop i (states bytes)) ≡ statesKnown bytes)

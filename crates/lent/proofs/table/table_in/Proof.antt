@@ -6,9 +6,9 @@ use lib.ListN.{length-drop}
 use Rattle.cells.proofs.Walk.{rest-is}
 use Rattle.jobs.specs.Jobs.{slotCount}
 use Rattle.jobs.specs.Slots.{entries}
-use Rattle.exports.proofs.TableLaws.{Read, read-none, entry-is, read-turn, read-all}
-use Rattle.exports.proofs.table.table_in.Statement.{statement}
-use Rattle.exports.proofs.table.table_in.Tie as tie
+use Rattle.lent.proofs.TableLaws.{Read, read-none, entry-is, read-turn, read-all}
+use Rattle.lent.proofs.table.table_in.Statement.{statement}
+use Rattle.lent.proofs.table.table_in.Tie as tie
 
 abbrev Inv-loop : tie.InvT-loop
 Inv-loop bytes table₀ i₀ table i = (i ≤ slotCount) × Read bytes i (entries table)

@@ -8,10 +8,10 @@ use Rattle.construction_a.specs.Outcomes.{Covered}
 use Rattle.construction_a.proofs.Figures.{ranged}
 use Rattle.params.specs.Bridge.{given}
 use Rattle.placements.specs.Bridge.{coveredAs}
-use Rattle.exports.specs.Words.{covers}
-use Rattle.exports.proofs.Words.{cover-bytes-length, cover-bytes-refused, cover-bytes-served, covered-count}
-use Rattle.exports.proofs.starts.cover_bytes.Statement.{statement}
-use Rattle.exports.proofs.starts.cover_bytes.Tie as tie
+use Rattle.lent.specs.Covering.{covers}
+use Rattle.lent.proofs.Covering.{cover-bytes-length, cover-bytes-refused, cover-bytes-served, covered-count}
+use Rattle.lent.proofs.starts.cover_bytes.Statement.{statement}
+use Rattle.lent.proofs.starts.cover_bytes.Tie as tie
 
 abbrev f : tie.Start → Params
 f s = given (s .args .figures)

@@ -9,10 +9,10 @@ use Rattle.jobs.specs.declared.Slot.{Slot}
 use Rattle.jobs.specs.Jobs.{slotCount}
 use Rattle.jobs.specs.Slots.{entries}
 use Rattle.jobs.proofs.SlotLaws.{length-mapped}
-use Rattle.exports.specs.Table.{entryBytes}
-use Rattle.exports.proofs.TableLaws.{Put, put-none, put-turn, put-all}
-use Rattle.exports.proofs.table.put_table.Statement.{statement}
-use Rattle.exports.proofs.table.put_table.Tie as tie
+use Rattle.lent.specs.Table.{entryBytes}
+use Rattle.lent.proofs.TableLaws.{Put, put-none, put-turn, put-all}
+use Rattle.lent.proofs.table.put_table.Statement.{statement}
+use Rattle.lent.proofs.table.put_table.Tie as tie
 
 abbrev Inv-loop : tie.InvT-loop
 Inv-loop bytes₀ table i₀ bytes i = (i ≤ slotCount) × Put (entries table) i bytes

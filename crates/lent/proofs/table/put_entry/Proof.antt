@@ -2,9 +2,9 @@
 use mathlib.Core.Path.{sym, ap, _∙_}
 use Prim.Native.Nat.{ℕ}
 use borrow.Author.Needs.{needs}
-use Rattle.exports.specs.Table.{slotBytes, entryBytes}
-use Rattle.exports.proofs.table.put_entry.Statement.{statement}
-use Rattle.exports.proofs.table.put_entry.Tie as tie
+use Rattle.lent.specs.Table.{slotBytes, entryBytes}
+use Rattle.lent.proofs.table.put_entry.Statement.{statement}
+use Rattle.lent.proofs.table.put_entry.Tie as tie
 
 enum-told : tie.Need-enum-told
 enum-told c = search needs

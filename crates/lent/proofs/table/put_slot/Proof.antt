@@ -3,9 +3,9 @@ use mathlib.Core.Path.{sym, ap, _∙_}
 use native.Mathlib.Omega.{arith}
 use borrow.Author.Needs.{needs}
 use lib.ListN.{length, length-set}
-use Rattle.exports.proofs.TableLaws.{slot-fits, slot-put, slot-long}
-use Rattle.exports.proofs.table.put_slot.Statement.{statement}
-use Rattle.exports.proofs.table.put_slot.Tie as tie
+use Rattle.lent.proofs.TableLaws.{slot-fits, slot-put, slot-long}
+use Rattle.lent.proofs.table.put_slot.Statement.{statement}
+use Rattle.lent.proofs.table.put_slot.Tie as tie
 
 slice-write-bytes : tie.Need-slice-write-bytes
 slice-write-bytes c = search needs

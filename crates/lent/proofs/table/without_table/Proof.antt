@@ -9,9 +9,9 @@ use Rattle.params.specs.Bridge.{given}
 use Rattle.params.specs.Given.{figuresOf, Fitting}
 use Rattle.params.proofs.Answered.{refused-learnt}
 use Rattle.params.proofs.Fitting.{layout-fits, bound}
-use Rattle.exports.proofs.JobLaws.{without-unfit, without-payload, without-length}
-use Rattle.exports.proofs.table.without_table.Statement.{statement}
-use Rattle.exports.proofs.table.without_table.Tie as tie
+use Rattle.lent.proofs.WithTable.{without-unfit, without-payload, without-length}
+use Rattle.lent.proofs.table.without_table.Statement.{statement}
+use Rattle.lent.proofs.table.without_table.Tie as tie
 
 abbrev f : tie.Start → Params
 f s = given (s .args .figures)

@@ -28,7 +28,7 @@ use Rattle.jobs.specs.Table.{emptyTable}
 use Rattle.jobs.proofs.SlotLaws.{stored-entries}
 use Rattle.payloads.specs.Payload.{jobNumber}
 use Rattle.payloads.specs.Given.{Spellable}
-use Rattle.exports.specs.Table.{slotLen, tableLen, stateCount, entryOf, stateAt, entryAt, states, statesKnown, tableIn, slotBytes, cancelledState, entryBytes, tableBytes}
+use Rattle.lent.specs.Table.{slotLen, tableLen, stateCount, entryOf, stateAt, entryAt, states, statesKnown, tableIn, slotBytes, cancelledState, entryBytes, tableBytes}
 
 -- ---- One slot, read
 

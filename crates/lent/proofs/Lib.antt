@@ -1,0 +1,5 @@
+pub mod StartLaws
+pub mod Covering
+pub mod TableLaws
+pub mod TableBack
+pub mod WithTable

@@ -1,0 +1,29 @@
+-- What covering answers a program in another language, and what the lent starts hold afterwards, for every input. Assumes nothing.
+use mathlib.Core.List.{List}
+use Prim.Native.Nat.{ℕ, _*_}
+use lib.Dec.{eqb}
+use lib.ListN.{length}
+use Rattle.refusals.specs.Refusals.{must, served, invalid, unfit, wrongLength}
+use Rattle.construction_a.specs.Figures.{Params, inRange, fits}
+use Rattle.construction_a.specs.Outcomes.{inUse, Covered, coverOut}
+use Rattle.decoder.specs.Exported.{startBytes}
+
+-- "covering 1 2 3 4 6", where 3 stands for the buffer of starts too
+
+pub record CoverLent : Type 0 where
+  pub answer : ℕ
+  pub starts : List ℕ
+
+abbrev pub covers : ℕ → List ℕ → CoverLent
+covers a bytes = record { answer = a; starts = bytes }
+
+-- the placement as bytes; "Every refusal returns its number only; output buffers .. keep their contents."
+abbrev pub coveredAs : List ℕ → Covered → CoverLent
+coveredAs bytes c = must (eqb (c .answer) served) (covers (c .answer) bytes) (covers served (startBytes (inUse (c .placement))))
+
+unfoldable pub coverBytesOut : Params → List ℕ → List ℕ → CoverLent
+coverBytesOut f map bytes =
+    must (inRange f) (covers invalid bytes)
+    (must (fits f) (covers unfit bytes)
+    (must (eqb (length bytes) (2 * f .m)) (covers wrongLength bytes)
+    (coveredAs bytes (coverOut f map))))
