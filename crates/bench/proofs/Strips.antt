@@ -9,9 +9,10 @@ use Rattle.combinatorics.specs.Rank.{rankFrom, unrankDown, unrank}
 use Rattle.combinatorics.specs.Bursts.{apart, inBurst, placements, reduceFrom, expandFrom, rankOf, startsOf, covers, coverRank}
 use Rattle.cells.specs.Cut.{pieceLen, pieceStart, blockAt, blockHead, blockWith}
 use Rattle.cells.specs.Cells.{weave}
+use Rattle.cells.specs.Plan.{cellOf}
 use Rattle.cells.specs.Digits.{span, spell, places}
 use Rattle.construction_a.specs.Figures.{inRange, parts, blockMin, leastTail, indexTail, fits, messageLen}
-use Rattle.construction_a.specs.Writing.{becomes, withBurst, withBursts, isBurst, next, partCount, partWith, chosen, beside, isChosen, isIndexIn, isIndex, indexBlocks, cellOf, kindAt, plan, word}
+use Rattle.construction_a.specs.Writing.{becomes, withBurst, withBursts, isBurst, next, partCount, partWith, chosen, beside, isChosen, isIndexIn, isIndex, indexBlocks, kindAt, plan, word}
 use Rattle.construction_a.specs.Reading.{heads}
 use Rattle.construction_a.specs.Outcomes.{figuresOut, encodeOut, coverOut}
 use Rattle.jobs.specs.Table.{firstEntry, replaceFirst, put, twice, decide}

@@ -1,8 +1,9 @@
 -- Laws of any exact code. Assumes nothing.
 use mathlib.Core.Path.{_≡_, sym, _∙_}
+use mathlib.Core.Logic.{_↔_}
 use mathlib.Core.List.{List}
 use Prim.Native.Nat.{ℕ}
-use Rattle.cells.specs.Codec.{Reading, accepted, refused, Codec, Word, LeadsTo, Exact}
+use Rattle.cells.specs.Codec.{Reading, accepted, refused, Codec, Word, LeadsTo, WritesWords, Exact, ReadsExactly}
 
 -- no two pairs lead to one word
 pub one-pair : (c : Codec) → Exact c → (w ss ms ss′ ms′ : List ℕ) → Word c w → LeadsTo c w ss ms → LeadsTo c w ss′ ms′ → (ss ≡ ss′) × (ms ≡ ms′)
@@ -19,3 +20,8 @@ others-refused c exact w word none = go (c .decode w) (λ ss ms e. none ss ms (e
     go : (r : Reading) → ((ss ms : List ℕ) → r ≡ accepted ss ms → ⊥) → (a : ℕ) × (r ≡ refused a)
     go (accepted ss ms) f = absurd (f ss ms (λ i. accepted ss ms))
     go (refused a) f = (a, λ i. refused a)
+
+pub reads-exactly : (c : Codec) (Listed : List ℕ → ℕ → Type 0) → WritesWords c → Exact c → ((w : List ℕ) (a : ℕ) → (c .decode w ≡ refused a) ↔ Listed w a)
+    → ReadsExactly c Listed
+reads-exactly c Listed writes exact listed =
+    record { written = writes; exactly = exact; one-pair = one-pair c exact; others = others-refused c exact; listed = listed }

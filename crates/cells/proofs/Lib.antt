@@ -1,8 +1,11 @@
 pub mod Cut
 pub mod Cells
+pub mod Plan
 pub mod Digits
 pub mod Codec
 pub mod Bytes
 pub mod Erasures
+pub mod Outcomes
+pub mod Ranking
 mod Examples
 pub mod Walk

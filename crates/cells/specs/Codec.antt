@@ -44,3 +44,16 @@ WritesWords c = (starts ms : List ℕ) → c .placed starts ≡ true → length 
 -- the decoder accepts exactly what some placement and message lead to, and answers with those
 abbrev pub Exact : Codec → Type 0
 Exact c = (w starts ms : List ℕ) → Word c w → (c .decode w ≡ accepted starts ms) ↔ LeadsTo c w starts ms
+
+-- a code whose refusals of a word have the listed conditions: what is asked of it, as one
+pub record ReadsExactly (c : Codec) (Listed : List ℕ → ℕ → Type 0) : Type 0 where
+  -- what is written has n symbols, each below q
+  pub written : WritesWords c
+  -- a word is accepted with a placement and a message exactly when these lead to it
+  pub exactly : Exact c
+  -- and no two pairs lead to one word
+  pub one-pair : (w ss ms ss′ ms′ : List ℕ) → Word c w → LeadsTo c w ss ms → LeadsTo c w ss′ ms′ → (ss ≡ ss′) × (ms ≡ ms′)
+  -- every other word is refused
+  pub others : (w : List ℕ) → Word c w → ((ss ms : List ℕ) → LeadsTo c w ss ms → ⊥) → (a : ℕ) × (c .decode w ≡ refused a)
+  -- "Each number comes under its condition and under no other."
+  pub listed : (w : List ℕ) (a : ℕ) → (c .decode w ≡ refused a) ↔ Listed w a

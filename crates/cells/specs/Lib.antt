@@ -1,6 +1,9 @@
 pub mod Cut
 pub mod Cells
+pub mod Plan
 pub mod Digits
 pub mod Codec
 pub mod Bytes
 pub mod Erasures
+pub mod Outcomes
+pub mod Ranking

@@ -1,5 +1,5 @@
 -- Demand 2 holds. Assumes nothing.
-use mathlib.Core.Path.{_≡_, refl, sym, _∙_, subst}
+use mathlib.Core.Path.{_≡_, refl, _∙_, subst}
 use mathlib.Core.Bool.{Bool, true, false, not}
 use mathlib.Core.List.{List}
 use mathlib.Core.Option.{Option, none, some}
@@ -11,11 +11,11 @@ use Rattle.combinatorics.proofs.Cases.{by-le, leb-holds, leb-fails}
 use Rattle.combinatorics.proofs.Lists.{below-at}
 use Rattle.combinatorics.proofs.Stretch.{length-tabulate}
 use Rattle.cells.specs.Cells.{message, pick}
-use Rattle.cells.specs.Codec.{accepted, refused, Word, WritesWords, Exact}
+use Rattle.cells.specs.Codec.{accepted, refused, WritesWords, Exact}
 use Rattle.cells.specs.Digits.{spell, places}
 use Rattle.cells.specs.Erasures.{foundBound, hasErasure}
 use Rattle.cells.proofs.Cells.{length-woven, woven-below}
-use Rattle.cells.proofs.Codec.{one-pair, others-refused}
+use Rattle.cells.proofs.Codec.{reads-exactly}
 use Rattle.cells.proofs.Digits.{Spelled, spell-spelled, spelled-below}
 use Rattle.cells.proofs.Erasures.{found-least}
 use Rattle.construction_a.specs.Figures.{Params, parts, placementCount, indexTail, messageLen}
@@ -116,12 +116,4 @@ module _ (f : Params) (w : List ℕ) where
       rw (p .index .pattern, p .index .whole, leb-holds (suc (written f w ks)) (placementCount f) (p .below), p .starts, p .agreed, d)
 
 pub demand-two : DemandTwo
-demand-two f i h =
-    let ok = serve f i h in
-    record {
-      written = writes f ok;
-      exactly = exact f ok;
-      one-pair = one-pair (constructionA f) (exact f ok);
-      others = others-refused (constructionA f) (exact f ok);
-      listed = λ w a. (listed f w a, by-listed f w a);
-    }
+demand-two f i h = let ok = serve f i h in reads-exactly (constructionA f) (Listed f) (writes f ok) (exact f ok) (λ w a. (listed f w a, by-listed f w a))

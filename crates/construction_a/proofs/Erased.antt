@@ -17,13 +17,13 @@ use Rattle.cells.specs.Codec.{accepted}
 use Rattle.cells.specs.Erasures.{foundBound, erasedAt}
 use Rattle.cells.proofs.Cells.{pick-small, no-burst}
 use Rattle.cells.proofs.Erasures.{below-whole}
+use Rattle.cells.proofs.Plan.{kind-burst}
 use Rattle.construction_a.specs.DemandTwo.{PlacementRead}
 use Rattle.construction_a.specs.Figures.{Params, inRange, fits, placementCount}
 use Rattle.construction_a.specs.Reading.{written, readRank, read}
-use Rattle.construction_a.specs.Writing.{kindAt, plan, word}
+use Rattle.construction_a.specs.Writing.{frame, kindAt, plan, word}
 use Rattle.construction_a.proofs.DemandTwo.{demand-two}
 use Rattle.construction_a.proofs.Figures.{serve}
-use Rattle.construction_a.proofs.Plan.{kind-burst}
 
 module _ (f : Params) (range : inRange f ≡ true) (fit : fits f ≡ true) (w : List ℕ) (complete : length w ≡ f .n)
     (found : allBelow (foundBound (f .q)) w ≡ true) (ks ss : List ℕ) (p : PlacementRead f w ks ss) where
@@ -48,10 +48,11 @@ module _ (f : Params) (range : inRange f ≡ true) (fit : fits f ≡ true) (w : 
 
   -- a message cell lies in no burst
   none-taken : covers (f .n) (f .b) (erasedAt (f .q) w) ss ≡ true → (x : ℕ) → x < f .n → is message (kindAt f ss x) ≡ true → getD w x 0 < f .q
+  unfolding kindAt
   none-taken t x l m =
       by-bool (ltb (getD w x 0) (f .q)) (λ e. leb-true (suc (getD w x 0)) (f .q) e)
       (λ e. absurd
-      (true≢false (sym (covers-of (f .n) (f .b) (erasedAt (f .q) w) ss t x l (ap not e)) ∙ sym (kind-burst f ss x) ∙ no-burst message (kindAt f ss x) refl m)))
+      (true≢false (sym (covers-of (f .n) (f .b) (erasedAt (f .q) w) ss t x l (ap not e)) ∙ sym (kind-burst (frame f ss) x) ∙ no-burst message (kindAt f ss x) refl m)))
 
   pub erasures-covered : covers (f .n) (f .b) (erasedAt (f .q) w) ss ≡ allBelow (f .q) (pick message (plan f ss) w)
   unfolding plan

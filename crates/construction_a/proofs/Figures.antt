@@ -150,19 +150,27 @@ message-room f ok =
 
 -- ---- "r is the least whole number for which m such I-blocks together spell at least T values"
 
+-- the least below a limit is the least of all
+pub tail-enough : (q m count limit : ℕ) → leastTail q m count limit < limit → count ≤ indexValues q m (leastTail q m count limit)
+unfolding leastTail
+tail-enough q m count limit h =
+    le-of count (indexValues q m (leastTail q m count limit)) (first-true limit 0 (λ r. leb count (indexValues q m r)) (omega (arith, h)))
+
+pub tail-least : (q m count limit r : ℕ) → count ≤ indexValues q m r → leastTail q m count limit ≤ r
+unfolding leastTail
+tail-least q m count limit r h =
+    by-le (leastTail q m count limit) r (λ _. leastTail q m count limit ≤ r) (λ l. l)
+    (λ l. absurd (true≢false (sym (leb-holds count (indexValues q m r) h) ∙ first-false limit 0 r (λ r. leb count (indexValues q m r)) (omega arith) l)))
+
 -- where figures fit the I-blocks spell every rank
 pub index-enough : (f : Params) → Served f → placementCount f ≤ indexValues (f .q) (f .m) (indexTail f)
-unfolding leastTail indexTail blockMin
-index-enough f ok =
-    le-of (placementCount f) (indexValues (f .q) (f .m) (indexTail f)) (first-true (blockMin f) 0 (λ r. leb (placementCount f) (indexValues (f .q) (f .m) r)) (omega (arith, ok .room)))
+unfolding indexTail blockMin
+index-enough f ok = tail-enough (f .q) (f .m) (placementCount f) (blockMin f) (ok .room)
 
 -- and no smaller number of further symbols would do, of all numbers
 pub index-least : (f : Params) (r : ℕ) → placementCount f ≤ indexValues (f .q) (f .m) r → indexTail f ≤ r
-unfolding leastTail indexTail
-index-least f r h =
-    by-le (indexTail f) r (λ _. indexTail f ≤ r) (λ l. l)
-    (λ l. absurd (true≢false (sym (leb-holds (placementCount f) (indexValues (f .q) (f .m) r) h)
-    ∙ first-false (blockMin f) 0 r (λ r. leb (placementCount f) (indexValues (f .q) (f .m) r)) (omega arith) l)))
+unfolding indexTail
+index-least f = tail-least (f .q) (f .m) (placementCount f) (blockMin f)
 
 -- the same by the places of the digits
 pub span-enough : (f : Params) → Served f → placementCount f ≤ span (f .q) (places (f .m) (indexTail f))

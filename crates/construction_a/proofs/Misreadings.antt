@@ -14,11 +14,12 @@ use Rattle.combinatorics.specs.Rank.{rankFrom, unrankDown, unrank}
 use Rattle.combinatorics.specs.Bursts.{inBurst, placements, reduceFrom, expandFrom, rankOf, startsOf}
 use Rattle.cells.specs.Cut.{pieceLen, pieceStart, blockAt, blockHead, blockWith}
 use Rattle.cells.specs.Cells.{weave, pick}
+use Rattle.cells.specs.Plan.{cellOf}
 use Rattle.cells.specs.Codec.{Reading, accepted, refused}
 use Rattle.cells.specs.Digits.{span, spell, value, places}
 use Rattle.cells.specs.Erasures.{hasErasure}
 use Rattle.construction_a.specs.Figures.{params, blocks, parts, blockMin, leastTail, indexTail, headOf}
-use Rattle.construction_a.specs.Writing.{becomes, withBurst, withBursts, isBurst, next, partCount, partWith, chosen, beside, isChosen, isIndexIn, isIndex, indexBlocks, isFixed, cellOf, kindAt, plan, word}
+use Rattle.construction_a.specs.Writing.{becomes, withBurst, withBursts, isBurst, next, partCount, partWith, chosen, beside, isChosen, isIndexIn, isIndex, indexBlocks, isFixed, kindAt, plan, word}
 use Rattle.construction_a.specs.Reading.{looksFixed, later, bareParts, openBlocks, indexInPart, collect, indexFound, heads, written, agrees, readRank, read}
 
 -- the B-blocks, ascending

@@ -1,8 +1,8 @@
 -- A word that the reader accepts differs from the word of what it answers only inside the bursts. Assumes nothing.
 use mathlib.Core.Path.{_≡_, refl, sym, ap, _∙_}
 use mathlib.Core.Logic.{_≢_}
-use mathlib.Core.Bool.{Bool, true, false, not, cond, _&&_, true≢false, false≢true}
-use mathlib.Core.List.{List, [], _∷_, map}
+use mathlib.Core.Bool.{Bool, true, false, not, _&&_, true≢false}
+use mathlib.Core.List.{List, [], _∷_}
 use mathlib.Core.Option.{Option, none, some}
 use Prim.Native.Nat.{ℕ, suc, _-_, _*_, _<_}
 use native.Mathlib.Omega.{arith}
@@ -12,34 +12,25 @@ use Rattle.combinatorics.specs.Bursts.{inBurst}
 use Rattle.combinatorics.specs.Lists.{allBelow, sameList}
 use Rattle.combinatorics.specs.Stretch.{has}
 use Rattle.combinatorics.proofs.Bursts.{Placed, rank-of-starts}
-use Rattle.combinatorics.proofs.Cases.{by-le, by-eq, by-bool, eqb-true, eqb-false}
+use Rattle.combinatorics.proofs.Cases.{by-le, by-bool, eqb-true, eqb-false}
 use Rattle.combinatorics.proofs.Lists.{both, list-same}
-use Rattle.combinatorics.proofs.Stretch.{Each, flat-map, has-some}
-use Rattle.cells.specs.Cells.{burst, fixed, digit, message, is, weave, pick}
+use Rattle.combinatorics.proofs.Stretch.{Each, has-some}
+use Rattle.cells.specs.Cells.{message, pick}
 use Rattle.cells.specs.Codec.{accepted, refused}
-use Rattle.cells.specs.Digits.{spell, value, places}
+use Rattle.cells.specs.Digits.{spell, places}
 use Rattle.cells.specs.Erasures.{foundBound, hasErasure}
-use Rattle.cells.proofs.Cells.{pick-at, length-pick, Clean, at-clean, clean-agrees, agree-at}
-use Rattle.cells.proofs.Cut.{block-with}
+use Rattle.cells.proofs.Cells.{length-pick}
 use Rattle.cells.proofs.Digits.{Spelled, spell-value, heads-spelled}
 use Rattle.cells.proofs.Erasures.{whole-below}
-use Rattle.construction_a.specs.Figures.{Params, parts, headOf, blockOf, placementCount, indexTail, messageLen}
-use Rattle.construction_a.specs.Writing.{isBurst, isIndex, indexBlocks, isFixed, cellOf, kindAt, plan, rank, placementOf, word}
+use Rattle.cells.proofs.Plan.{read-agrees}
+use Rattle.construction_a.specs.Figures.{Params, parts, headOf, placementCount, indexTail, messageLen}
+use Rattle.construction_a.specs.Writing.{indexBlocks, isFixed, frame, kindAt, plan, rank, placementOf, word}
 use Rattle.construction_a.specs.Reading.{looksFixed, indexFound, heads, written, agrees, readRank, readFrom, read}
 use Rattle.construction_a.proofs.Found.{heads-below, message-below}
 use Rattle.construction_a.proofs.Figures.{Served}
 use Rattle.construction_a.proofs.Pattern.{taken-bare}
-use Rattle.construction_a.proofs.Plan.{index-blocks, kind-burst, digit-places, messages-count}
+use Rattle.construction_a.proofs.Plan.{index-blocks, framed, messages-count}
 use Rattle.construction_a.proofs.Rule.{not-true}
-
--- a fixed cell is the first of a block that is neither I nor B
-fixed-is : (r : ℕ) (t i b : Bool) (far : ℕ) → is fixed (cellOf r t i b far) ≡ true → ((not i && not b) ≡ true) × (far ≡ 0)
-unfolding cellOf
-fixed-is r true i b far = λ e. absurd (false≢true e)
-fixed-is r false true b far =
-    by-le (suc far) (suc r) (λ t. is fixed (cond t digit message) ≡ true → (false ≡ true) × (far ≡ 0)) (λ _ e. absurd (false≢true e)) (λ _ e. absurd (false≢true e))
-fixed-is r false false true far = λ e. absurd (false≢true e)
-fixed-is r false false false far = by-eq far 0 (λ t. is fixed (cond t fixed message) ≡ true → (true ≡ true) × (far ≡ 0)) (λ d _. (refl, d)) (λ _ e. absurd (false≢true e))
 
 -- blocks that do not look F start with a symbol other than 0
 not-zero : (f : Params) (w ks : List ℕ) → Each (λ k. not (looksFixed f w k) ≡ true) ks → Each (λ k. getD w (headOf f k) 0 ≢ 0) ks
@@ -58,21 +49,11 @@ pub wrong : {P : Type 0} {a : ℕ} {ss ms : List ℕ} → refused a ≡ accepted
 wrong e = absurd (let z : _≡_ {A = ℕ} 0 1 = cc in omega arith)
 
 module _ (f : Params) (ok : Served f) (w : List ℕ) (small : (x : ℕ) → getD w x 0 < foundBound (f .q)) where
-  clean-of : (ss : List ℕ) → ((k : ℕ) → k < parts f * f .m → isFixed f ss k ≡ true → looksFixed f w k ≡ true) → Clean (plan f ss) w
-  unfolding plan kindAt looksFixed isFixed
-  clean-of ss h =
-      at-clean (f .n) 0 (kindAt f ss) w (λ x _ lx c.
-      let i = block-with (f .n) (parts f) (f .m) x (omega arith) (ok .some) (omega arith) in
-      let k = blockOf f x in
-      let z = fixed-is (indexTail f) (inBurst (f .b) ss x) (isIndex f ss k) (isBurst f ss k) (x - headOf f k) c in
-      let e : x ≡ headOf f k = omega (arith, z .1, i .reach) in
-      ap (λ (y : ℕ). getD w y 0) e ∙ eqb-true (getD w (headOf f k) 0) 0 (h k (i .below) (z .0)))
-
   -- the placement of the value read, where that is below T, the blocks agree and no erasure was read
   kernel : (ks : List ℕ) → indexFound (parts f) (f .m) (looksFixed f w) ≡ some ks → hasErasure (f .q) (heads f w ks) ≡ false → written f w ks < placementCount f
       → agrees f w ks (placementOf f (written f w ks)) ≡ true → hasErasure (f .q) (pick message (plan f (placementOf f (written f w ks))) w) ≡ false
       → Accepted f w (placementOf f (written f w ks)) (pick message (plan f (placementOf f (written f w ks))) w)
-  unfolding agrees heads word plan written messageLen
+  unfolding agrees heads word plan kindAt written messageLen indexBlocks isFixed looksFixed
   kernel ks found whole l a clear =
       let v = written f w ks in
       let ss = placementOf f v in
@@ -86,21 +67,16 @@ module _ (f : Params) (ok : Served f) (w : List ℕ) (small : (x : ℕ) → getD
       let sp : Spelled (f .q) ps (heads f w ks) =
       rw lk at (heads-spelled (f .q) (indexTail f) (headOf f) (λ x. getD w x 0) ks (whole-below (f .q) (heads f w ks) (heads-below f (foundBound (f .q)) w ks small) whole) (not-zero f w ks (taken-bare (parts f) (f .m) (looksFixed f w) ks found))) in
       let spelled : spell (f .q) ps (rank f ss) ≡ heads f w ks = ap (spell (f .q) ps) (s .rank) ∙ spell-value (f .q) ps (heads f w ks) sp in
-      let picked : heads f w I ≡ pick digit (plan f ss) w =
-      flat-map (λ x. getD w x 0) (suc (indexTail f)) (headOf f) I ∙ ap (map (λ x. getD w x 0)) (sym (digit-places f ok ss (s .placed) (s .count)))
-      ∙ sym (pick-at digit n 0 (kindAt f ss) w) in
-      let digits : spell (f .q) ps (rank f ss) ≡ pick digit (plan f ss) w = spelled ∙ ap (heads f w) (sym same-I) ∙ picked in
-      let clean : Clean (plan f ss) w =
-      clean-of ss (λ k lk t. by-bool (looksFixed f w k) (λ u. u)
-      (λ u. absurd (true≢false (sym (ag .1) ∙ ap not (has-some (parts f * f .m) 0 k (λ k. isFixed f ss k && not (looksFixed f w k)) (omega arith) (omega arith) (rw (t, u))))))) in
+      let digits : spell (f .q) ps (rank f ss) ≡ heads f w I = spelled ∙ ap (heads f w) (sym same-I) in
+      let zeros : (k : ℕ) → k < parts f * f .m → isFixed f ss k ≡ true → getD w (headOf f k) 0 ≡ 0 =
+      λ k lk t. by-bool (looksFixed f w k) (λ u. eqb-true (getD w (headOf f k) 0) 0 u)
+      (λ u. absurd (true≢false (sym (ag .1) ∙ ap not (has-some (parts f * f .m) 0 k (λ k. isFixed f ss k && not (looksFixed f w k)) (omega arith) (omega arith) (rw (t, u)))))) in
       record {
         placed = s .placed;
         count = s .count;
         message = omega (arith, length-pick message n (kindAt f ss) w, messages-count f ok ss (s .placed) (s .count));
         symbols = whole-below (f .q) (pick message (plan f ss) w) (message-below f (foundBound (f .q)) w ss small) clear;
-        outside = λ x lx out.
-            rw digits (agree-at n 0 x (kindAt f ss) w (weave (plan f ss) (pick digit (plan f ss) w) (pick message (plan f ss) w)) (clean-agrees (plan f ss) w clean)
-            (omega arith) (omega arith) (kind-burst f ss x ∙ out));
+        outside = λ x lx out. rw digits (read-agrees (frame f ss) (framed f ok ss (s .placed) (s .count)) w zeros x lx out);
       }
 
   -- what was accepted passed every test

@@ -1,7 +1,6 @@
 -- Demand 2: a written word is exactly Construction A's; damaged inside its bursts it reads back; any other word is refused with the number
 -- listed. The statement; its proof is `demand-two` of proofs/DemandTwo.antt. Assumes nothing.
 use mathlib.Core.Path.{_≡_}
-use mathlib.Core.Logic.{_↔_}
 use mathlib.Core.Bool.{true, false}
 use mathlib.Core.List.{List}
 use mathlib.Core.Option.{Option, none, some}
@@ -9,7 +8,8 @@ use Prim.Native.Nat.{ℕ, _≤_, _<_}
 use Rattle.refusals.specs.Refusals.{noPattern, valueTooLarge, disagrees, erased}
 use Rattle.combinatorics.specs.Bursts.{inBurst}
 use Rattle.cells.specs.Cells.{message, pick}
-use Rattle.cells.specs.Codec.{Codec, Word, LeadsTo, WritesWords, Exact, refused}
+use Rattle.cells.specs.Codec.{Codec}
+use Rattle.cells.specs.Codec as Any
 use Rattle.cells.specs.Erasures.{foundBound, hasErasure}
 use Rattle.construction_a.specs.Figures.{Params, inRange, fits, isPlacement, parts, placementCount, messageLen}
 use Rattle.construction_a.specs.Writing.{plan, placementOf, word}
@@ -55,18 +55,8 @@ pub data Listed (f : Params) (w : List ℕ) : ℕ → Type 0 where
   -- "a q among message symbols"
   erased-message : (ks ss : List ℕ) → PlacementRead f w ks ss → hasErasure (f .q) (pick message (plan f ss) w) ≡ true → Listed f w erased
 
-pub record ReadsExactly (f : Params) : Type 0 where
-  -- what is written has n symbols, each below q
-  pub written : WritesWords (constructionA f)
-  -- a word is accepted with a placement and a message exactly when these lead to it
-  pub exactly : Exact (constructionA f)
-  -- and no two pairs lead to one word
-  pub one-pair : (w ss ms ss′ ms′ : List ℕ) → Word (constructionA f) w → LeadsTo (constructionA f) w ss ms → LeadsTo (constructionA f) w ss′ ms′
-      → (ss ≡ ss′) × (ms ≡ ms′)
-  -- every other word is refused
-  pub others : (w : List ℕ) → Word (constructionA f) w → ((ss ms : List ℕ) → LeadsTo (constructionA f) w ss ms → ⊥) → (a : ℕ) × (read f w ≡ refused a)
-  -- "Each number comes under its condition and under no other."
-  pub listed : (w : List ℕ) (a : ℕ) → (read f w ≡ refused a) ↔ Listed f w a
+abbrev pub ReadsExactly : Params → Type 0
+ReadsExactly f = Any.ReadsExactly (constructionA f) (Listed f)
 
 -- for all figures that fit
 abbrev pub DemandTwo : Type 0

@@ -7,6 +7,7 @@ use lib.ListN.{length}
 use Rattle.combinatorics.specs.Bursts.{apart, placements}
 use Rattle.combinatorics.specs.Stretch.{first}
 use Rattle.cells.specs.Cut.{blockHead, blockWith}
+pub use Rattle.cells.specs.Outcomes.{maxBursts}
 
 -- the figures: n symbols of a word, each below q; m bursts (runs) of b positions each
 pub record Params : Type 0 where
@@ -24,9 +25,6 @@ maxWord = 4096
 
 abbrev pub maxAlphabet : ℕ
 maxAlphabet = 256
-
-abbrev pub maxBursts : ℕ
-maxBursts = 8
 
 -- "n is 3 to 1024, q 2 to 256, m 1 to 6, b at least 1"; document 02, ticket 11: "Raise n to 4096, m to 8"
 unfoldable pub inRange : Params → Bool

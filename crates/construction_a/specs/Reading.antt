@@ -66,10 +66,16 @@ indexFound p m looks = indexBy p m looks (bareParts p m looks) (later p (barePar
 -- ---- From the I-blocks to the answer
 
 -- the first 1 + r symbols of the I-blocks, from left to right
+abbrev pub headsWith : ℕ → Params → List ℕ → List ℕ → List ℕ
+headsWith r f w ks = flatMap (λ k. tabulate (suc r) (headOf f k) (λ x. getD w x 0)) ks
+
 unfoldable pub heads : Params → List ℕ → List ℕ → List ℕ
-heads f w ks = flatMap (λ k. tabulate (suc (indexTail f)) (headOf f k) (λ x. getD w x 0)) ks
+heads f = headsWith (indexTail f) f
 
 -- and what they spell
+abbrev pub writtenWith : ℕ → Params → List ℕ → List ℕ → ℕ
+writtenWith r f w ks = value (f .q) (places (f .m) r) (headsWith r f w ks)
+
 unfoldable pub written : Params → List ℕ → List ℕ → ℕ
 written f w ks = value (f .q) (places (f .m) (indexTail f)) (heads f w ks)
 

@@ -1,11 +1,12 @@
 -- Document 01, "Writing by the FBI rule". A set of blocks is a test of their numbers. Assumes nothing.
-use mathlib.Core.Bool.{Bool, true, false, not, cond, _||_, _&&_}
+use mathlib.Core.Bool.{Bool, false, not, cond, _||_, _&&_}
 use mathlib.Core.List.{List, [], _∷_, map}
 use Prim.Native.Nat.{ℕ, suc, _+_, _-_, _*_, _/_, _%_}
 use lib.Dec.{ltb, eqb}
 use Rattle.combinatorics.specs.Bursts.{inBurst, rankOf, startsOf}
 use Rattle.combinatorics.specs.Stretch.{count, first, members, tabulate}
-use Rattle.cells.specs.Cells.{Cell, burst, fixed, digit, message, weave}
+use Rattle.cells.specs.Cells.{Cell, weave}
+use Rattle.cells.specs.Plan.{Frame, kindIn}
 use Rattle.cells.specs.Digits.{spell, places}
 use Rattle.construction_a.specs.Figures.{Params, parts, blocks, headOf, blockOf, indexTail}
 
@@ -87,18 +88,25 @@ isFixed f ss k = not (isIndex f ss k) && not (isBurst f ss k)
 
 -- ---- What stands at each position
 
--- of a position in a run or not, in an I-block or not, in a B-block or not, that lies so far behind its block's first: "An F-block's first
--- symbol is 0"; in each I-block "one digit .., then r digits"; "Run positions"; "The message fills all remaining positions"
-unfoldable pub cellOf : ℕ → Bool → Bool → Bool → ℕ → Cell
-cellOf r true i b far = burst
-cellOf r false true b far = cond (ltb far (suc r)) digit message
-cellOf r false false true far = message
-cellOf r false false false far = cond (eqb far 0) fixed message
+-- its blocks, and the positions of its runs, for any r
+abbrev pub frameWith : ℕ → Params → List ℕ → Frame
+frameWith r f ss =
+    record {
+      wordLen = f .n;
+      blocks = blocks f;
+      head = headOf f;
+      blockOf = blockOf f;
+      tail = r;
+      isIndex = isIndex f ss;
+      isBurst = isBurst f ss;
+      runs = inBurst (f .b) ss;
+    }
+
+abbrev pub frame : Params → List ℕ → Frame
+frame f = frameWith (indexTail f) f
 
 unfoldable pub kindAt : Params → List ℕ → ℕ → Cell
-kindAt f ss x =
-    let k = blockOf f x in
-    cellOf (indexTail f) (inBurst (f .b) ss x) (isIndex f ss k) (isBurst f ss k) (x - headOf f k)
+kindAt f ss x = kindIn (frame f ss) x
 
 unfoldable pub plan : Params → List ℕ → List Cell
 plan f ss = tabulate (f .n) 0 (kindAt f ss)

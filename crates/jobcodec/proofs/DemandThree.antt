@@ -1,6 +1,6 @@
--- Demand 3 holds: for every exact codec, and so for Construction A. Assumes nothing.
+-- Demand 3 holds: for every exact codec, and so for Construction A and Construction B. Assumes nothing.
 use mathlib.Core.Path.{_≡_, refl, sym, ap, _∙_}
-use mathlib.Core.Bool.{Bool, true, false, _&&_, true≢false}
+use mathlib.Core.Bool.{Bool, true, false, true≢false}
 use mathlib.Core.List.{List, []}
 use mathlib.Core.Option.{Option, none, some}
 use Prim.Native.Nat.{ℕ, _≤_}
@@ -8,17 +8,23 @@ use native.Mathlib.Omega.{arith}
 use lib.Dec.{eqb}
 use lib.ListN.{length}
 use Rattle.refusals.specs.Refusals.{served, invalid, unfit, wrongLength, badSymbol, jobCancelled, notOpen, jobHeld, badPayload}
+use Rattle.combinatorics.specs.Bursts.{apart}
 use Rattle.combinatorics.specs.Lists.{any, allBelow}
 use Rattle.combinatorics.proofs.Cases.{by-bool, eqb-same, eqb-true}
-use Rattle.combinatorics.proofs.Lists.{both}
 use Rattle.cells.specs.Bytes.{payloadLen}
 use Rattle.cells.specs.Codec.{Reading, accepted, refused, Codec, Word, Exact}
-use Rattle.cells.specs.Erasures.{foundBound}
 use Rattle.cells.proofs.Codec.{one-pair}
-use Rattle.construction_a.specs.Figures.{Params, inRange, fits, messageLen}
+use Rattle.cells.specs.Outcomes.{Coding, maxBursts}
+use Rattle.construction_a.specs.Figures.{Params, isPlacement}
+use Rattle.construction_a.specs.Outcomes.{coding}
 use Rattle.construction_a.specs.DemandTwo.{constructionA, Listed, no-pattern, erased-index, too-large, disagreeing, erased-message}
 use Rattle.construction_a.proofs.Figures.{ranged}
 use Rattle.construction_a.proofs.DemandTwo.{demand-two}
+use Rattle.construction_b.specs.Figures.{LongParams, isPlacement as isPlacementB}
+use Rattle.construction_b.specs.Outcomes.{coding as codingB}
+use Rattle.construction_b.specs.DemandTwo.{Listed as ListedB, no-pattern as no-pattern-b, erased-index as erased-index-b, too-large as too-large-b, before-word, erased-message as erased-message-b}
+use Rattle.construction_b.proofs.Figures.{ranged as ranged-b}
+use Rattle.construction_b.proofs.DemandTwo.{demand-two as demand-two-b}
 use Rattle.jobs.specs.declared.Entry.{Entry}
 use Rattle.jobs.specs.Jobs.{Kind, opening, cancelling, finishing, reinstating, holding, releasing, Call, needsOpen}
 use Rattle.jobs.specs.Table.{emptyTable, twice}
@@ -29,8 +35,8 @@ use Rattle.ledger.proofs.Simulates.{simulation-from-start, accepted-by}
 use Rattle.ledger.proofs.Striking.{left-decides}
 use Rattle.payloads.specs.Payload.{carriesJob, jobNumber, messageOf, payloadIn, spellsPayload}
 use Rattle.jobcodec.specs.JobWrite.{whereOpen, unless}
-use Rattle.jobcodec.specs.JobRead.{JobRead, handOut, withhold, jobIn, jobReading, jobReadOut}
-use Rattle.jobcodec.specs.DemandThree.{Gives, OnlyPair, BothFacts, isRefusal, isWordRefusal, isCallRefusal, HandsOut, Presented, Claim, DemandThree}
+use Rattle.jobcodec.specs.JobRead.{JobRead, handOut, withhold, jobIn, jobReading, jobReadUnder, jobReadOut}
+use Rattle.jobcodec.specs.DemandThree.{Gives, OnlyPair, BothFacts, isRefusal, isWordRefusal, isCallRefusal, HandsOut, Presented, Claim, ClaimA, DemandThreeUnder, DemandThree, DemandThreeB}
 use Rattle.jobcodec.proofs.Examples.{figures, wordWith, buffer, opened, computed}
 use Rattle.payloads.proofs.Payload.{payload-back, payload-passes, payload-is, message-is}
 
@@ -171,6 +177,58 @@ module _ (c : Codec) (exact : Exact c) (two : 2 ≤ c .alphabet) (listed : (w : 
       rw (five, eqb-same (length w) (c .wordLen) (found .complete), eqb-same (length out) (payloadLen (c .alphabet) (c .messageLen)) lent, found .symbols)
       (by-reading (c .decode w) refl)
 
+-- ---- The claim, under any figures that give such a codec where they are in range and fit
+
+-- an exact codec whose refusals are document 01's, and placements of no more starts than are held
+pub record Reads (d : Coding) : Type 0 where
+  pub exactly : Exact (d .codec)
+  pub two : 2 ≤ d .codec .alphabet
+  pub listed : (w : List ℕ) (a : ℕ) → d .codec .decode w ≡ refused a → (isRefusal a ≡ true) × (isWordRefusal a ≡ true)
+  pub few : d .bursts ≤ maxBursts
+  pub placed : (ss : List ℕ) → length ss ≡ d .bursts → apart (d .burstLen) (d .codec .wordLen) 0 ss ≡ true → d .codec .placed ss ≡ true
+
+abbrev pub ReadsWhereFit : Coding → Type 0
+ReadsWhereFit d = d .inRange ≡ true → d .fits ≡ true → Reads d
+
+-- a reading that the claim is not about fails one of the tests before the word is read
+turn-away : (d : Coding) (es : List Entry) (w out : List ℕ) → twice es ≡ false → (Presented d w out → ⊥)
+    → (a : ℕ) × (isCallRefusal a ≡ true) × (jobReadUnder d es w out ≡ withhold out a)
+unfolding jobReading isCallRefusal any
+turn-away d es w out once unpresented =
+    let c = d .codec in
+    let K = payloadLen (c .alphabet) (c .messageLen) in
+    by-bool (d .inRange)
+    (λ i. by-bool (d .fits)
+    (λ g. by-bool (carriesJob (c .alphabet) (c .messageLen))
+    (λ v. by-bool (eqb (length w) (c .wordLen))
+    (λ n. by-bool (eqb (length out) K)
+    (λ l. by-bool (allBelow (c .foundBound) w)
+    (λ s. absurd (unpresented (record { range = i; fit = g; carries = v; found = record { complete = eqb-true (length w) (c .wordLen) n; symbols = s }; lent = eqb-true (length out) K l })))
+    (λ s. (badSymbol, refl, rw (i, once, g, v, n, l, s))))
+    (λ l. (wrongLength, refl, rw (i, once, g, v, n, l))))
+    (λ n. (wrongLength, refl, rw (i, once, g, v, n))))
+    (λ v. (badPayload, refl, rw (i, once, g, v))))
+    (λ g. (unfit, refl, rw (i, once, g))))
+    (λ i. (invalid, refl, rw i))
+
+-- of what was seen of a list of calls, after whatever calls, and a job reading under the table after it
+pub follows-under : (d : Coding) → ReadsWhereFit d
+    → (before calls : List Call) (answers : List ℕ) (es : List Entry) (w out : List ℕ) → Follows before calls answers es
+    → Claim d before calls w out answers (jobReadUnder d es w out)
+follows-under d reads before calls answers es w out follows =
+    record {
+      judged = follows .judged;
+      reading = λ p.
+          let s = reads (p .range) (p .fit) in
+          rw (follows .judged, accepted-by before calls, p .range, p .fit, follows .agrees .once)
+          (reading-hands-out (d .codec) (s .exactly) (s .two) (s .listed) es (ledgerFrom before calls) (follows .agrees) w out (p .found) (p .carries) (p .lent));
+      turned-away = turn-away d es w out (follows .agrees .once);
+    }
+
+pub demand-three-under : (d : Coding) → ReadsWhereFit d → DemandThreeUnder d
+demand-three-under d reads es before s calls w out =
+    follows-under d reads before calls (answersFrom es calls) (tableFrom es calls) w out (simulation-from-start es before s calls)
+
 -- ---- Construction A
 
 listed-refusal : (f : Params) (w : List ℕ) (a : ℕ) → Listed f w a → (isRefusal a ≡ true) × (isWordRefusal a ≡ true)
@@ -181,45 +239,52 @@ listed-refusal f w a (too-large _ _ _) = (refl, refl)
 listed-refusal f w a (disagreeing _ _ _ _) = (refl, refl)
 listed-refusal f w a (erased-message _ _ _ _) = (refl, refl)
 
--- a reading that the claim is not about fails one of the tests before the word is read
-turn-away : (f : Params) (es : List Entry) (w out : List ℕ) → twice es ≡ false → (Presented (inRange f && fits f) (constructionA f) w out → ⊥)
-    → (a : ℕ) × (isCallRefusal a ≡ true) × (jobReadOut f es w out ≡ withhold out a)
-unfolding jobReadOut jobReading isCallRefusal any
-turn-away f es w out once unpresented =
-    let K = payloadLen (f .q) (messageLen f) in
-    by-bool (inRange f)
-    (λ i. by-bool (fits f)
-    (λ d. by-bool (carriesJob (f .q) (messageLen f))
-    (λ v. by-bool (eqb (length w) (f .n))
-    (λ n. by-bool (eqb (length out) K)
-    (λ l. by-bool (allBelow (foundBound (f .q)) w)
-    (λ s. absurd (unpresented (record { figures = rw (i, d); carries = v; found = record { complete = eqb-true (length w) (f .n) n; symbols = s }; lent = eqb-true (length out) K l })))
-    (λ s. (badSymbol, refl, rw (i, once, d, v, n, l, s))))
-    (λ l. (wrongLength, refl, rw (i, once, d, v, n, l))))
-    (λ n. (wrongLength, refl, rw (i, once, d, v, n))))
-    (λ v. (badPayload, refl, rw (i, once, d, v))))
-    (λ d. (unfit, refl, rw (i, once, d))))
-    (λ i. (invalid, refl, rw i))
-
--- of what was seen of a list of calls, after whatever calls, and a job reading under the table after it
-pub follows-claim : (f : Params) (before calls : List Call) (answers : List ℕ) (es : List Entry) (w out : List ℕ) → Follows before calls answers es
-    → Claim (inRange f && fits f) (constructionA f) before calls w out answers (jobReadOut f es w out)
-unfolding jobReadOut
-follows-claim f before calls answers es w out follows =
+pub reads-a : (f : Params) → ReadsWhereFit (coding f)
+unfolding isPlacement
+reads-a f i h =
+    let two = demand-two f i h in
+    let r = ranged f i in
     record {
-      judged = follows .judged;
-      reading = λ p.
-          let fit = both (inRange f) (fits f) (p .figures) in
-          let two = demand-two f (fit .0) (fit .1) in
-          rw (follows .judged, accepted-by before calls, fit .0, fit .1, follows .agrees .once)
-          (reading-hands-out (constructionA f) (two .exactly) (ranged f (fit .0) .q-least) (λ w a e. listed-refusal f w a (two .listed w a .0 e))
-          es (ledgerFrom before calls) (follows .agrees) w out (p .found) (p .carries) (p .lent));
-      turned-away = turn-away f es w out (follows .agrees .once);
+      exactly = two .exactly;
+      two = r .q-least;
+      listed = λ w a e. listed-refusal f w a (two .listed w a .0 e);
+      few = r .m-most;
+      placed = λ ss e p. rw (eqb-same (length ss) (f .m) e) p;
     }
 
+pub follows-claim : (f : Params) (before calls : List Call) (answers : List ℕ) (es : List Entry) (w out : List ℕ) → Follows before calls answers es
+    → ClaimA f before calls w out answers (jobReadOut f es w out)
+unfolding jobReadOut
+follows-claim f = follows-under (coding f) (reads-a f)
+
 pub demand-three : DemandThree
-demand-three f es before s calls w out =
-    follows-claim f before calls (answersFrom es calls) (tableFrom es calls) w out (simulation-from-start es before s calls)
+unfolding jobReadOut
+demand-three f = demand-three-under (coding f) (reads-a f)
+
+-- ---- Construction B
+
+listed-refusal-b : (f : LongParams) (w : List ℕ) (a : ℕ) → ListedB f w a → (isRefusal a ≡ true) × (isWordRefusal a ≡ true)
+unfolding isRefusal isWordRefusal any
+listed-refusal-b f w a (no-pattern-b _) = (refl, refl)
+listed-refusal-b f w a (erased-index-b _ _ _) = (refl, refl)
+listed-refusal-b f w a (too-large-b _ _ _) = (refl, refl)
+listed-refusal-b f w a (before-word _ _ _ _) = (refl, refl)
+listed-refusal-b f w a (erased-message-b _ _ _ _) = (refl, refl)
+
+pub reads-b : (f : LongParams) → ReadsWhereFit (codingB f)
+unfolding isPlacementB
+reads-b f i h =
+    let two = demand-two-b f i h in
+    record {
+      exactly = two .exactly;
+      two = ranged-b f i .q-least;
+      listed = λ w a e. listed-refusal-b f w a (two .listed w a .0 e);
+      few = omega arith;
+      placed = λ ss e p. rw (eqb-same (length ss) 1 e) p;
+    }
+
+pub demand-three-b : DemandThreeB
+demand-three-b f = demand-three-under (codingB f) (reads-b f)
 
 -- it is not empty: both facts hold of the transfer example's word
 both-facts : (starts : List ℕ) × (y : List ℕ) × BothFacts (constructionA figures) (acceptedBy opened (answersFrom emptyTable opened) []) (wordWith 255) starts y

@@ -1,7 +1,7 @@
 -- Document 01's transfer example, and jobs that tell each refusal of job write and job read from its neighbours: tables that
 -- hold by computation. Cites no law. Assumes nothing.
 use mathlib.Core.Path.{_≡_, refl}
-use mathlib.Core.Bool.{true, _&&_}
+use mathlib.Core.Bool.{true}
 use mathlib.Core.List.{List, [], _∷_, _++_, flatMap}
 use Prim.Native.Nat.{ℕ}
 use lib.ListN.{replicate}
@@ -15,12 +15,13 @@ use Rattle.combinatorics.specs.Bursts.{apart, inBurst, placements, reduceFrom, 
 use Rattle.cells.specs.Bytes.{byteWidth, payloadLen}
 use Rattle.cells.specs.Cut.{pieceLen, pieceStart, blockAt, blockHead, blockWith}
 use Rattle.cells.specs.Cells.{weave, pick}
+use Rattle.cells.specs.Plan.{cellOf}
 use Rattle.cells.specs.Digits.{span, spell, value, places}
 use Rattle.cells.specs.Erasures.{foundBound, hasErasure}
 use Rattle.construction_a.specs.Figures.{Params, params, inRange, parts, blockMin, leastTail, indexTail, fits, messageLen}
-use Rattle.construction_a.specs.Writing.{becomes, withBurst, withBursts, isBurst, next, partCount, partWith, chosen, beside, isChosen, isIndexIn, isIndex, indexBlocks, isFixed, cellOf, kindAt, plan, word}
+use Rattle.construction_a.specs.Writing.{becomes, withBurst, withBursts, isBurst, next, partCount, partWith, chosen, beside, isChosen, isIndexIn, isIndex, indexBlocks, isFixed, kindAt, plan, word}
 use Rattle.construction_a.specs.Reading.{looksFixed, later, bareParts, openBlocks, indexInPart, collect, indexFound, heads, written, agrees, readRank, read}
-use Rattle.construction_a.specs.Outcomes.{Held, held, Encoded}
+use Rattle.construction_a.specs.Outcomes.{Held, held, Encoded, coding}
 use Rattle.construction_a.specs.DemandTwo.{constructionA}
 use Rattle.jobs.specs.declared.Entry.{Entry}
 use Rattle.jobs.specs.declared.Entry.the-variants.{Free, Open, Cancelled}
@@ -186,7 +187,7 @@ pub record Computed : Type 0 where
   pub spelling-holds : all comesTrue spelling ≡ true
   pub write-order-holds : all comesTrue writeOrder ≡ true
   pub read-order-holds : all comesTrue readOrder ≡ true
-  pub presented : Presented (inRange figures && fits figures) (constructionA figures) (wordWith 255) buffer
+  pub presented : Presented (coding figures) (wordWith 255) buffer
   pub handed : jobReadOut figures (after opened) (wordWith 255) buffer .answer ≡ served
 
 pub computed : Computed
@@ -197,6 +198,6 @@ computed =
       spelling-holds = refl;
       write-order-holds = refl;
       read-order-holds = refl;
-      presented = record { figures = refl; carries = refl; found = record { complete = refl; symbols = refl }; lent = refl };
+      presented = record { range = refl; fit = refl; carries = refl; found = record { complete = refl; symbols = refl }; lent = refl };
       handed = refl;
     }

@@ -3,7 +3,7 @@
 -- `demand-three` of proofs/DemandThree.antt. Assumes nothing.
 use mathlib.Core.Path.{_≡_}
 use mathlib.Core.Logic.{_↔_}
-use mathlib.Core.Bool.{Bool, true, _&&_}
+use mathlib.Core.Bool.{Bool, true}
 use mathlib.Core.List.{List, [], _∷_}
 use mathlib.Core.Option.{none, some}
 use Prim.Native.Nat.{ℕ}
@@ -13,8 +13,11 @@ use Rattle.refusals.specs.Refusals.{served, invalid, unfit, wrongLength, badSym
 use Rattle.combinatorics.specs.Lists.{any}
 use Rattle.cells.specs.Bytes.{payloadLen}
 use Rattle.cells.specs.Codec.{Codec, Word, LeadsTo}
-use Rattle.construction_a.specs.Figures.{Params, inRange, fits}
-use Rattle.construction_a.specs.DemandTwo.{constructionA}
+use Rattle.cells.specs.Outcomes.{Coding}
+use Rattle.construction_a.specs.Figures.{Params}
+use Rattle.construction_a.specs.Outcomes.{coding}
+use Rattle.construction_b.specs.Figures.{LongParams}
+use Rattle.construction_b.specs.Outcomes.{coding as codingB}
 use Rattle.jobs.specs.declared.Entry.{Entry}
 use Rattle.jobs.specs.Jobs.{opening, cancelling, finishing, holding, Call}
 use Rattle.ledger.specs.Calls.{answersFrom, tableFrom}
@@ -22,7 +25,7 @@ use Rattle.ledger.specs.Ledger.{lastLeft, answerAfter, verdictsFrom, acceptedBy
 use Rattle.ledger.specs.Simulation.{Start}
 use Rattle.payloads.specs.Payload.{IsPayload, carriesJob, jobNumber, messageOf}
 use Rattle.jobcodec.specs.JobWrite.{unless}
-use Rattle.jobcodec.specs.JobRead.{JobRead, handOut, withhold, jobReadOut}
+use Rattle.jobcodec.specs.JobRead.{JobRead, handOut, withhold, jobReadUnder, jobReadOut}
 
 -- ---- The first fact, under any codec
 
@@ -84,30 +87,42 @@ pub record HandsOut (c : Codec) (ledger : List Call) (w out : List ℕ) (r : Job
 
 -- ---- The claim
 
--- what the claim is about: figures that fit; a payload of 5 bytes or more ("10: K below 5" otherwise); "A strip is complete at n symbols", each up to q
--- ("demands 2 and 3 .. now allow any value up to q"); "buffers fit where refusal 3 doesn't apply"
-pub record Presented (fit : Bool) (c : Codec) (w out : List ℕ) : Type 0 where
-  pub figures : fit ≡ true
-  pub carries : carriesJob (c .alphabet) (c .messageLen) ≡ true
-  pub found : Word c w
-  pub lent : length out ≡ payloadLen (c .alphabet) (c .messageLen)
+-- what the claim is about: figures in range that fit; a payload of 5 bytes or more ("10: K below 5" otherwise); "A strip is complete at n symbols", each up
+-- to q ("demands 2 and 3 .. now allow any value up to q"); "buffers fit where refusal 3 doesn't apply"
+pub record Presented (d : Coding) (w out : List ℕ) : Type 0 where
+  pub range : d .inRange ≡ true
+  pub fit : d .fits ≡ true
+  pub carries : carriesJob (d .codec .alphabet) (d .codec .messageLen) ≡ true
+  pub found : Word (d .codec) w
+  pub lent : length out ≡ payloadLen (d .codec .alphabet) (d .codec .messageLen)
 
 -- "It is a single claim about the whole list and the job reading after it", of what was seen: the answers of the calls, and the outcome of the
 -- reading under the table that the last call handed back. `before` are the calls accepted earlier.
-pub record Claim (fit : Bool) (c : Codec) (before calls : List Call) (w out answers : List ℕ) (r : JobRead) : Type 0 where
+pub record Claim (d : Coding) (before calls : List Call) (w out answers : List ℕ) (r : JobRead) : Type 0 where
   -- "Each call answers as the ledger does, 0 for accepted."
   pub judged : answers ≡ verdictsFrom before calls
-  pub reading : Presented fit c w out → HandsOut c (acceptedBy calls answers before) w out r
-  -- and nothing is handed out of anything else: 1, 2, 3, 4 or 10; which of them, the order says (`jobReadOut`)
-  pub turned-away : (Presented fit c w out → ⊥) → (a : ℕ) × (isCallRefusal a ≡ true) × (r ≡ withhold out a)
+  pub reading : Presented d w out → HandsOut (d .codec) (acceptedBy calls answers before) w out r
+  -- and nothing is handed out of anything else: 1, 2, 3, 4 or 10; which of them, the order says (`jobReadUnder`)
+  pub turned-away : (Presented d w out → ⊥) → (a : ℕ) × (isCallRefusal a ≡ true) × (r ≡ withhold out a)
 
--- the claim for Construction A
+-- under any figures, for every list of calls, refused ones included, all words and buffers: "in a ledger that begins with every number unknown"; document
+-- 02, ticket 3: "its list may also start from a book that holds 0 alone, in any place, open or cancelled, as if former accepted calls had put it there"
+abbrev pub DemandThreeUnder : Coding → Type 0
+DemandThreeUnder d =
+    (es : List Entry) (before : List Call) → Start es before → (calls : List Call) (w out : List ℕ)
+    → Claim d before calls w out (answersFrom es calls) (jobReadUnder d (tableFrom es calls) w out)
+
+-- ---- For all figures of Construction A
+
 abbrev pub ClaimA : Params → List Call → List Call → List ℕ → List ℕ → List ℕ → JobRead → Type 0
-ClaimA f before calls w out answers r = Claim (inRange f && fits f) (constructionA f) before calls w out answers r
+ClaimA f = Claim (coding f)
 
--- for every list of calls, refused ones included, all figures, words and buffers: "in a ledger that begins with every number unknown"; document 02,
--- ticket 3: "its list may also start from a book that holds 0 alone, in any place, open or cancelled, as if former accepted calls had put it there"
 abbrev pub DemandThree : Type 0
 DemandThree =
     (f : Params) (es : List Entry) (before : List Call) → Start es before → (calls : List Call) (w out : List ℕ)
     → ClaimA f before calls w out (answersFrom es calls) (jobReadOut f (tableFrom es calls) w out)
+
+-- ---- And of Construction B: "Demands 2 and 3 hold for these strips under their own figures, with construction B's word."
+
+abbrev pub DemandThreeB : Type 0
+DemandThreeB = (f : LongParams) → DemandThreeUnder (codingB f)

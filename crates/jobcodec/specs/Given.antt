@@ -6,8 +6,9 @@ use Prim.Native.Nat.{ℕ, _≤_}
 use lib.ListN.{length}
 use Rattle.refusals.specs.Refusals.{must, badPayload}
 use Rattle.cells.specs.Bytes.{payloadLen}
+use Rattle.cells.specs.Outcomes.{Coding}
 use Rattle.construction_a.specs.Figures.{Params, maxAlphabet, inRange, fits, messageLen}
-use Rattle.construction_a.specs.Outcomes.{WordAnswer, rankIs, refusal, Decoded}
+use Rattle.construction_a.specs.Outcomes.{coding, WordAnswer, rankIs, refusal, Decoded}
 use Rattle.params.specs.Answer.{LaidOut}
 use Rattle.params.specs.declared.Layout.{Layout}
 use Rattle.jobs.specs.declared.Entry.{Entry}
@@ -32,11 +33,14 @@ pub record PayloadFits (f : Params) (payload message : List ℕ) : Type 0 where
   pub count : length payload ≡ payloadLen (f .q) (length message)
 
 -- figures and table in order, and five bytes or more
-pub record Ready (f : Params) (es : List Entry) : Type 0 where
-  pub range : inRange f ≡ true
+pub record ReadyUnder (d : Coding) (es : List Entry) : Type 0 where
+  pub range : d .inRange ≡ true
   pub once : twice es ≡ false
-  pub fit : fits f ≡ true
-  pub carries : carriesJob (f .q) (messageLen f) ≡ true
+  pub fit : d .fits ≡ true
+  pub carries : carriesJob (d .codec .alphabet) (d .codec .messageLen) ≡ true
+
+abbrev pub Ready : Params → List Entry → Type 0
+Ready f = ReadyUnder (coding f)
 
 -- figures that carry a job, room for the message, and a buffer for the payload
 pub record Readable (f : Params) (es : List Entry) (message payload : List ℕ) : Type 0 where

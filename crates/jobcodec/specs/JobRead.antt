@@ -8,8 +8,9 @@ use Rattle.refusals.specs.Refusals.{must, served, invalid, unfit, wrongLength, 
 use Rattle.combinatorics.specs.Lists.{allBelow}
 use Rattle.cells.specs.Bytes.{payloadLen}
 use Rattle.cells.specs.Codec.{Codec, Reading, accepted, refused}
-use Rattle.construction_a.specs.Figures.{Params, inRange, fits}
-use Rattle.construction_a.specs.DemandTwo.{constructionA}
+use Rattle.cells.specs.Outcomes.{Coding}
+use Rattle.construction_a.specs.Figures.{Params}
+use Rattle.construction_a.specs.Outcomes.{coding}
 use Rattle.jobs.specs.declared.Entry.{Entry}
 use Rattle.jobs.specs.Table.{twice}
 use Rattle.payloads.specs.Payload.{carriesJob, payloadIn, spellsPayload}
@@ -52,10 +53,15 @@ jobReading c es w out =
     (must (allBelow (c .foundBound) w) (withhold out badSymbol)
     (jobIn q k es out (c .decode w))))
 
--- ---- Under Construction A: "job read 1 2, 10 for K, 3 4 7 8 9, 10, 12 14", with 19 as in word read and 23 before 14
+-- ---- Under any figures: "job read 1 2, 10 for K, 3 4 7 8 9, 10, 12 14", with 19 as in word read and 23 before 14
+
+abbrev pub jobReadUnder : Coding → List Entry → List ℕ → List ℕ → JobRead
+jobReadUnder d es w out =
+    must (d .inRange && not (twice es)) (withhold out invalid)
+    (must (d .fits) (withhold out unfit)
+    (jobReading (d .codec) es w out))
+
+-- ---- Under Construction A
 
 unfoldable pub jobReadOut : Params → List Entry → List ℕ → List ℕ → JobRead
-jobReadOut f es w out =
-    must (inRange f && not (twice es)) (withhold out invalid)
-    (must (fits f) (withhold out unfit)
-    (jobReading (constructionA f) es w out))
+jobReadOut f = jobReadUnder (coding f)

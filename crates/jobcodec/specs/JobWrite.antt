@@ -8,9 +8,9 @@ use lib.ListN.{length}
 use Rattle.refusals.specs.Refusals.{must, served, invalid, unfit, wrongLength, badStarts, badPayload, numberZero}
 use Rattle.combinatorics.specs.Bursts.{apart}
 use Rattle.cells.specs.Bytes.{payloadLen}
-use Rattle.construction_a.specs.Figures.{Params, inRange, fits, messageLen}
-use Rattle.construction_a.specs.Writing.{word}
-use Rattle.construction_a.specs.Outcomes.{Held, inUse, Encoded, unwritten}
+use Rattle.cells.specs.Outcomes.{Coding, Held, inUse, Encoded, unwritten}
+use Rattle.construction_a.specs.Figures.{Params}
+use Rattle.construction_a.specs.Outcomes.{coding}
 use Rattle.jobs.specs.declared.Entry.{Entry}
 use Rattle.jobs.specs.Jobs.{isJob, Status, needsOpen}
 use Rattle.jobs.specs.Table.{standing, lookup, twice}
@@ -28,16 +28,24 @@ unless a refuse rest = must (eqb a served) (refuse a) rest
 abbrev pub whereOpen : {A : Type 0} → Status → (ℕ → A) → A → A
 whereOpen s refuse rest = unless (needsOpen s) refuse rest
 
--- "job write 1 2 10 3 5 12 14"; document 02, ticket 3: "It refuses with 17, itself a state refusal and ahead of the others, the .. writing of 0"; ticket 10:
--- "It refuses with 23, after 12 and before 14, .. writing .. a held job"
-unfoldable pub jobWriteOut : Params → List Entry → Held → List ℕ → List ℕ → Encoded
-jobWriteOut f es at payload out =
-    let k = messageLen f in
-    must (inRange f && not (twice es)) (unwritten out invalid)
-    (must (fits f) (unwritten out unfit)
-    (must (carriesJob (f .q) k) (unwritten out badPayload)
-    (must (eqb (at .count) (f .m) && eqb (length payload) (payloadLen (f .q) k) && eqb (length out) (f .n)) (unwritten out wrongLength)
-    (must (apart (f .b) (f .n) 0 (inUse at)) (unwritten out badStarts)
+-- ---- Under any figures: "job write 1 2 10 3 5 12 14"; document 02, ticket 3: "It refuses with 17, itself a state refusal and ahead of the others, the ..
+-- writing of 0"; ticket 10: "It refuses with 23, after 12 and before 14, .. writing .. a held job"
+
+abbrev pub jobWriteUnder : Coding → List Entry → Held → List ℕ → List ℕ → Encoded
+jobWriteUnder d es at payload out =
+    let c = d .codec in
+    let q = c .alphabet in
+    let k = c .messageLen in
+    must (d .inRange && not (twice es)) (unwritten out invalid)
+    (must (d .fits) (unwritten out unfit)
+    (must (carriesJob q k) (unwritten out badPayload)
+    (must (eqb (at .count) (d .bursts) && eqb (length payload) (payloadLen q k) && eqb (length out) (c .wordLen)) (unwritten out wrongLength)
+    (must (apart (d .burstLen) (c .wordLen) 0 (inUse at)) (unwritten out badStarts)
     (must (isJob (jobNumber payload)) (unwritten out numberZero)
     (whereOpen (jobStatus es payload) (unwritten out)
-    (record { answer = served; word = word f (inUse at) (messageOf (f .q) k payload) })))))))
+    (record { answer = served; word = c .encode (inUse at) (messageOf q k payload) })))))))
+
+-- ---- Under Construction A
+
+unfoldable pub jobWriteOut : Params → List Entry → Held → List ℕ → List ℕ → Encoded
+jobWriteOut f = jobWriteUnder (coding f)

@@ -15,20 +15,21 @@ use Rattle.combinatorics.proofs.Cases.{eqb-same, eqb-other, leb-fails}
 use Rattle.cells.specs.Bytes.{byteValues, payloadLen}
 use Rattle.cells.specs.Digits.{plain, spell}
 use Rattle.cells.proofs.Digits.{length-spell}
-use Rattle.construction_a.specs.Figures.{Params, inRange, fits, messageLen}
-use Rattle.construction_a.specs.Outcomes.{Held, inUse, Encoded, unwritten, unserved, figuresOut}
+use Rattle.cells.specs.Outcomes.{Coding, Held, inUse, Encoded, unwritten, unserved}
+use Rattle.construction_a.specs.Figures.{Params, inRange, messageLen}
+use Rattle.construction_a.specs.Outcomes.{coding, figuresOut}
 use Rattle.params.specs.declared.Layout.{Layout}
 use Rattle.jobs.specs.declared.Entry.{Entry}
 use Rattle.jobs.specs.Table.{twice}
 use Rattle.payloads.specs.Payload.{carriesJob}
 use Rattle.jobcodec.specs.Given.{Laid, Ready}
-use Rattle.jobcodec.specs.JobWrite.{jobWriteOut}
+use Rattle.jobcodec.specs.JobWrite.{jobWriteUnder, jobWriteOut}
 use Rattle.jobcodec.proofs.Calls.{carries-not}
 use Rattle.jobcodec.proofs.Outcomes.{both-false, figures-refused}
 use Rattle.prescription.specs.declared.texts.Prescription.{Prescription}
 use Rattle.prescription.specs.Eyes.{Prescribed, prescribedOf}
 use Rattle.prescription.specs.Stored.{textOf, storedLen}
-use Rattle.prescriptioncodec.specs.PrescriptionWrite.{numberLen, numberBytes, prescriptionPayload, minPayload, writeOpen, writePrescribed, asJob, prescriptionWriteOut}
+use Rattle.prescriptioncodec.specs.PrescriptionWrite.{numberLen, numberBytes, prescriptionPayload, minPayload, writeOpen, writePrescribed, asJob, prescriptionWriteUnder, prescriptionWriteOut}
 
 -- the text of t bytes has t
 pub text-length : (t : ℕ) (x : Prescribed) → storedLen ≤ t → length (textOf t x) ≡ t
@@ -53,21 +54,22 @@ payload-length K n x h =
     total : (K : ℕ) → 17 ≤ K → 4 + (K - 4) ≡ K
     total K h = omega arith
 
-pub writes-job : (f : Params) (es : List Entry) (at : Held) (n : ℕ) (p : Prescription) (x : Prescribed) (out : List ℕ) → minPayload ≤ payloadLen (f .q) (messageLen f) → prescribedOf p ≡ some x
-    → prescriptionWriteOut f es at n p out ≡ jobWriteOut f es at (prescriptionPayload (payloadLen (f .q) (messageLen f)) n x) out
-unfolding prescriptionWriteOut jobWriteOut
-writes-job f es at n p x out h e =
-    let k = messageLen f in
-    let K = payloadLen (f .q) k in
+pub writes-job : (d : Coding) (es : List Entry) (at : Held) (n : ℕ) (p : Prescription) (x : Prescribed) (out : List ℕ)
+    → minPayload ≤ payloadLen (d .codec .alphabet) (d .codec .messageLen) → prescribedOf p ≡ some x
+    → prescriptionWriteUnder d es at n p out ≡ jobWriteUnder d es at (prescriptionPayload (payloadLen (d .codec .alphabet) (d .codec .messageLen)) n x) out
+writes-job d es at n p x out h e =
+    let c = d .codec in
+    let k = c .messageLen in
+    let K = payloadLen (c .alphabet) k in
     let y = prescriptionPayload K n x in
-    let front : (rest : Encoded) → Encoded = λ rest.
-    must (inRange f && not (twice es)) (unwritten out invalid) (must (fits f) (unwritten out unfit) (must (carriesJob (f .q) k) (unwritten out badPayload) rest)) in
-    ap (λ (b : Bool). front (must (eqb (at .count) (f .m) && eqb (length out) (f .n)) (unwritten out wrongLength)
-    (must (apart (f .b) (f .n) 0 (inUse at)) (unwritten out badStarts) (must b (unwritten out badPrescription) (writePrescribed f es at n (prescribedOf p) out))))) (le-leb minPayload K h)
-    ∙ ap (λ (o : Option Prescribed). front (must (eqb (at .count) (f .m) && eqb (length out) (f .n)) (unwritten out wrongLength)
-    (must (apart (f .b) (f .n) 0 (inUse at)) (unwritten out badStarts) (writePrescribed f es at n o out)))) e
-    ∙ ap (λ (b : Bool). front (must (b && eqb (length out) (f .n)) (unwritten out wrongLength)
-    (must (apart (f .b) (f .n) 0 (inUse at)) (unwritten out badStarts) (writeOpen f es at y out)))) (lengths (eqb (at .count) (f .m)) (eqb (length y) K) (eqb-same (length y) K (payload-length K n x h)))
+    let count = eqb (at .count) (d .bursts) in
+    let room = eqb (length out) (c .wordLen) in
+    let front : (lengths : Bool) (rest : Encoded) → Encoded = λ lengths rest.
+    must (d .inRange && not (twice es)) (unwritten out invalid) (must (d .fits) (unwritten out unfit) (must (carriesJob (c .alphabet) k) (unwritten out badPayload)
+    (must lengths (unwritten out wrongLength) (must (apart (d .burstLen) (c .wordLen) 0 (inUse at)) (unwritten out badStarts) rest)))) in
+    ap (λ (b : Bool). front (count && room) (must b (unwritten out badPrescription) (writePrescribed d es at n (prescribedOf p) out))) (le-leb minPayload K h)
+    ∙ ap (λ (o : Option Prescribed). front (count && room) (writePrescribed d es at n o out)) e
+    ∙ ap (λ (b : Bool). front (b && room) (writeOpen d es at y out)) (lengths count (eqb (length y) K) (eqb-same (length y) K (payload-length K n x h)))
   where
     lengths : (a b : Bool) → b ≡ true → a ≡ (a && b)
     lengths true b e = sym e
@@ -105,7 +107,7 @@ module _ (f : Params) (es : List Entry) (at : Held) (n : ℕ) (p : Prescription)
         past-lengths : prescriptionWriteOut f es at n p out
             ≡ must (apart (f .b) (f .n) 0 (inUse at)) (unwritten out badStarts)
             (must (leb minPayload (payloadLen (f .q) (messageLen f))) (unwritten out badPrescription)
-            (writePrescribed f es at n (prescribedOf p) out))
+            (writePrescribed (coding f) es at n (prescribedOf p) out))
         unfolding prescriptionWriteOut
         past-lengths = rw (r .range, r .once, r .fit, r .carries, eqb-same (at .count) (f .m) counted, eqb-same (length out) (f .n) lent)
 
@@ -119,8 +121,9 @@ module _ (f : Params) (es : List Entry) (at : Held) (n : ℕ) (p : Prescription)
           -- every test is passed but the prescription's own
           pub write-as-job : minPayload ≤ payloadLen (f .q) (messageLen f)
               → prescriptionWriteOut f es at n p out ≡ asJob f es at n (payloadLen (f .q) (messageLen f)) out (prescribedOf p)
+          unfolding prescriptionWriteOut jobWriteOut
           write-as-job h = go (prescribedOf p) refl
             where
               go : (o : Option Prescribed) → prescribedOf p ≡ o → prescriptionWriteOut f es at n p out ≡ asJob f es at n (payloadLen (f .q) (messageLen f)) out o
               go none e = past-lengths ∙ rw (placed, le-leb minPayload (payloadLen (f .q) (messageLen f)) h, e)
-              go (some x) e = writes-job f es at n p x out h e
+              go (some x) e = writes-job (coding f) es at n p x out h e

@@ -12,25 +12,24 @@ use lib.IntN.{ℤ, pos, negsuc, natAbs}
 use borrow.Author.Tests.{lt-ltb}
 use Rattle.refusals.specs.Refusals.{must, served, invalid, unfit, wrongLength, badStarts, badPayload, badPrescription}
 use Rattle.combinatorics.specs.Lists.{all, any, allBelow}
-use Rattle.combinatorics.specs.Bursts.{apart, inBurst}
+use Rattle.combinatorics.specs.Bursts.{apart}
 use Rattle.combinatorics.proofs.Cases.{eqb-same}
 use Rattle.combinatorics.proofs.Lists.{all-append, all-replicate, both}
 use Rattle.cells.specs.Bytes.{byteValues, payloadLen}
 use Rattle.cells.specs.Codec.{Word}
 use Rattle.cells.specs.Digits.{plain, spell, span}
 use Rattle.cells.proofs.Digits.{length-spell, value-spell, value-front, spell-spelled, spelled-plain, span-plain}
-use Rattle.construction_a.specs.Figures.{Params, maxBursts, inRange, fits, messageLen}
-use Rattle.construction_a.specs.Outcomes.{Held, inUse, Encoded, unwritten}
-use Rattle.construction_a.specs.DemandTwo.{constructionA}
-use Rattle.construction_a.proofs.Figures.{ranged}
-use Rattle.construction_a.proofs.DemandTwo.{demand-two}
+use Rattle.cells.specs.Outcomes.{Coding, maxBursts, Held, inUse, Encoded, unwritten}
+use Rattle.construction_a.specs.Outcomes.{coding}
+use Rattle.construction_b.specs.Figures.{LongParams}
+use Rattle.construction_b.specs.Outcomes.{coding as codingB}
 use Rattle.jobs.specs.declared.Entry.{Entry}
 use Rattle.jobs.specs.Table.{twice}
 use Rattle.payloads.specs.Payload.{carriesJob, jobNumber}
 use Rattle.payloads.proofs.Payload.{payload-back, payload-passes}
 use Rattle.jobcodec.specs.DemandThree.{isRefusal}
-use Rattle.jobcodec.proofs.DemandThree.{not-served, read-pair}
-use Rattle.jobcodec.proofs.RoundTrip.{passed, written, written-gives}
+use Rattle.jobcodec.proofs.DemandThree.{not-served, read-pair, ReadsWhereFit, reads-a, reads-b}
+use Rattle.jobcodec.proofs.RoundTrip.{passed, written-under, written-gives}
 use Rattle.prescription.specs.declared.texts.Prescription.{Prescription}
 use Rattle.prescription.specs.Lens.{Lens, plano, sphere, toric, keeps}
 use Rattle.prescription.specs.Eyes.{isDistance, Prescribed, KeepsRules, prescribedOf, prescriptionOf}
@@ -40,9 +39,9 @@ use Rattle.prescription.proofs.Lenses.{toric-kept, sphere-kept, cylinder-in}
 use Rattle.prescription.proofs.InMemory.{held-exactly}
 use Rattle.prescription.proofs.TextBack.{text-back}
 use Rattle.prescription.specs.declared.fields.StoredEye.{StoredEye}
-use Rattle.prescriptioncodec.specs.PrescriptionWrite.{numberLen, numberBytes, prescriptionPayload, minPayload, writePrescribed, prescriptionWriteOut}
-use Rattle.prescriptioncodec.specs.PrescriptionRead.{prescriptionReading, prescriptionReadOut}
-use Rattle.prescriptioncodec.specs.Laws.{PrescriptionsReadBack}
+use Rattle.prescriptioncodec.specs.PrescriptionWrite.{numberLen, numberBytes, prescriptionPayload, minPayload, writePrescribed, prescriptionWriteUnder, prescriptionWriteOut}
+use Rattle.prescriptioncodec.specs.PrescriptionRead.{prescriptionReading, prescriptionReadUnder, prescriptionReadOut}
+use Rattle.prescriptioncodec.specs.Laws.{ReadBackUnder, PrescriptionsReadBack}
 use Rattle.prescriptioncodec.proofs.Calls.{writes-job}
 
 -- ---- Its bytes are bytes
@@ -104,68 +103,80 @@ text-of-payload K n x = drop-at (spell byteValues (replicate numberLen plain) n)
 
 -- ---- What an accepted writing says of its input
 
-found-prescribed : (f : Params) (es : List Entry) (at : Held) (n : ℕ) (out : List ℕ) (o : Option Prescribed) → writePrescribed f es at n o out .answer ≡ served
+found-prescribed : (d : Coding) (es : List Entry) (at : Held) (n : ℕ) (out : List ℕ) (o : Option Prescribed) → writePrescribed d es at n o out .answer ≡ served
     → (x : Prescribed) × (o ≡ some x)
 unfolding isRefusal any
-found-prescribed f es at n out none e = not-served badPrescription refl e
-found-prescribed f es at n out (some x) e = (x, refl)
+found-prescribed d es at n out none e = not-served badPrescription refl e
+found-prescribed d es at n out (some x) e = (x, refl)
 
-written-told : (f : Params) (es : List Entry) (at : Held) (n : ℕ) (p : Prescription) (out : List ℕ) → prescriptionWriteOut f es at n p out .answer ≡ served
-    → (minPayload ≤ payloadLen (f .q) (messageLen f)) × ((x : Prescribed) × (prescribedOf p ≡ some x))
-unfolding prescriptionWriteOut isRefusal any
-written-told f es at n p out e =
-    let K = payloadLen (f .q) (messageLen f) in
-    let last = writePrescribed f es at n (prescribedOf p) out in
+written-told : (d : Coding) (es : List Entry) (at : Held) (n : ℕ) (p : Prescription) (out : List ℕ) → prescriptionWriteUnder d es at n p out .answer ≡ served
+    → (minPayload ≤ payloadLen (d .codec .alphabet) (d .codec .messageLen)) × ((x : Prescribed) × (prescribedOf p ≡ some x))
+unfolding isRefusal any
+written-told d es at n p out e =
+    let c = d .codec in
+    let k = c .messageLen in
+    let K = payloadLen (c .alphabet) k in
+    let last = writePrescribed d es at n (prescribedOf p) out in
     let enough = must (leb minPayload K) (unwritten out badPrescription) last in
-    let starts = must (apart (f .b) (f .n) 0 (inUse at)) (unwritten out badStarts) enough in
-    let lengths = must (eqb (at .count) (f .m) && eqb (length out) (f .n)) (unwritten out wrongLength) starts in
-    let five = must (carriesJob (f .q) (messageLen f)) (unwritten out badPayload) lengths in
-    let p₁ = passed (inRange f && not (twice es)) out invalid (must (fits f) (unwritten out unfit) five) refl e in
-    let p₂ = passed (fits f) out unfit five refl (p₁ .1) in
-    let p₃ = passed (carriesJob (f .q) (messageLen f)) out badPayload lengths refl (p₂ .1) in
-    let p₄ = passed (eqb (at .count) (f .m) && eqb (length out) (f .n)) out wrongLength starts refl (p₃ .1) in
-    let p₅ = passed (apart (f .b) (f .n) 0 (inUse at)) out badStarts enough refl (p₄ .1) in
+    let starts = must (apart (d .burstLen) (c .wordLen) 0 (inUse at)) (unwritten out badStarts) enough in
+    let lengths = must (eqb (at .count) (d .bursts) && eqb (length out) (c .wordLen)) (unwritten out wrongLength) starts in
+    let five = must (carriesJob (c .alphabet) k) (unwritten out badPayload) lengths in
+    let p₁ = passed (d .inRange && not (twice es)) out invalid (must (d .fits) (unwritten out unfit) five) refl e in
+    let p₂ = passed (d .fits) out unfit five refl (p₁ .1) in
+    let p₃ = passed (carriesJob (c .alphabet) k) out badPayload lengths refl (p₂ .1) in
+    let p₄ = passed (eqb (at .count) (d .bursts) && eqb (length out) (c .wordLen)) out wrongLength starts refl (p₃ .1) in
+    let p₅ = passed (apart (d .burstLen) (c .wordLen) 0 (inUse at)) out badStarts enough refl (p₄ .1) in
     let p₆ = passed (leb minPayload K) out badPrescription last refl (p₅ .1) in
-    (leb→le minPayload K (subst T (sym (p₆ .0)) tt), found-prescribed f es at n out (prescribedOf p) (p₆ .1))
+    (leb→le minPayload K (subst T (sym (p₆ .0)) tt), found-prescribed d es at n out (prescribedOf p) (p₆ .1))
 
 -- ---- Reading it back
 
-module _ (f : Params) (es : List Entry) (at : Held) (n : ℕ) (p : Prescription) (x : Prescribed) (out : List ℕ)
-    (enough : minPayload ≤ payloadLen (f .q) (messageLen f)) (number : n < 2 ^ 32) (is : prescribedOf p ≡ some x) (six : length (at .starts) ≡ maxBursts) where
-  prescription-reads : (w : List ℕ) → prescriptionWriteOut f es at n p out .answer ≡ served → Word (constructionA f) w
-      → ((i : ℕ) → i < f .n → inBurst (f .b) (inUse at) i ≡ false → getD w i 0 ≡ getD (prescriptionWriteOut f es at n p out .word) i 0)
-      → prescriptionReadOut f es w ≡ answered (record { number = n; prescription = prescriptionOf x })
-  unfolding prescriptionReadOut prescriptionReading
+module _ (d : Coding) (reads : ReadsWhereFit d) (es : List Entry) (at : Held) (n : ℕ) (p : Prescription) (x : Prescribed) (out : List ℕ)
+    (enough : minPayload ≤ payloadLen (d .codec .alphabet) (d .codec .messageLen)) (number : n < 2 ^ 32) (is : prescribedOf p ≡ some x) (sized : length (at .starts) ≡ maxBursts) where
+  prescription-reads : (w : List ℕ) → prescriptionWriteUnder d es at n p out .answer ≡ served → Word (d .codec) w
+      → ((i : ℕ) → i < d .codec .wordLen → d .codec .spoilt (inUse at) i ≡ false → getD w i 0 ≡ getD (prescriptionWriteUnder d es at n p out .word) i 0)
+      → prescriptionReadUnder d es w ≡ answered (record { number = n; prescription = prescriptionOf x })
+  unfolding prescriptionReading
   prescription-reads w e found outside =
-      let q = f .q in
-      let k = messageLen f in
+      let c = d .codec in
+      let q = c .alphabet in
+      let k = c .messageLen in
       let K = payloadLen q k in
       let y = prescriptionPayload K n x in
       let kept = held-exactly .ruled p x is in
-      let job = writes-job f es at n p x out enough is in
-      let wr = written f es at y out (ap (λ (r : Encoded). r .answer) (sym job) ∙ e) in
+      let job = writes-job d es at n p x out enough is in
+      let wr = written-under d es at y out (ap (λ (r : Encoded). r .answer) (sym job) ∙ e) in
       let bytes = payload-below K n x number kept in
-      let g = written-gives f es at y out six bytes w wr (λ i l b. outside i l b ∙ ap (λ (r : Encoded). getD (r .word) i 0) job) in
-      let two = ranged f (wr .ready .range) .q-least in
+      let g = written-gives d es at y out reads sized bytes w wr (λ i l b. outside i l b ∙ ap (λ (r : Encoded). getD (r .word) i 0) job) in
+      let r = reads (wr .ready .range) (wr .ready .fit) in
       rw (
         wr .ready .range,
         wr .ready .once,
         wr .ready .fit,
         wr .ready .carries,
-        eqb-same (length w) (f .n) (found .complete),
+        eqb-same (length w) (c .wordLen) (found .complete),
         found .symbols,
-        read-pair (constructionA f) (demand-two f (wr .ready .range) (wr .ready .fit) .exactly) two w found (inUse at) y g,
-        payload-passes q k two y (g .whole),
-        payload-back q k two y (g .whole),
+        read-pair c (r .exactly) (r .two) w found (inUse at) y g,
+        payload-passes q k (r .two) y (g .whole),
+        payload-back q k (r .two) y (g .whole),
         text-of-payload K n x,
         text-back (K - numberLen) x kept,
         wr .is-open,
         number-back K n x number,
       )
 
-pub prescriptions-read-back : PrescriptionsReadBack
-prescriptions-read-back f es at n p out w six number floats e found outside =
-    let told = written-told f es at n p out e in
+pub read-back-under : (d : Coding) → ReadsWhereFit d → ReadBackUnder d
+read-back-under d reads es at n p out w sized number floats e found outside =
+    let told = written-told d es at n p out e in
     let x = told .1 .0 in
-    prescription-reads f es at n p x out (told .0) number (told .1 .1) six w e found outside
+    prescription-reads d reads es at n p x out (told .0) number (told .1 .1) sized w e found outside
     ∙ ap (λ (q : Prescription). answered (record { number = n; prescription = q })) (sym (held-exactly .alone p x floats (told .1 .1)))
+
+-- ---- Construction A, and Construction B
+
+pub prescriptions-read-back : PrescriptionsReadBack
+unfolding prescriptionWriteOut prescriptionReadOut
+prescriptions-read-back f = read-back-under (coding f) (reads-a f)
+
+pub prescriptions-read-back-b : (f : LongParams) → ReadBackUnder (codingB f)
+prescriptions-read-back-b f = read-back-under (codingB f) (reads-b f)

@@ -9,8 +9,9 @@ use Rattle.refusals.specs.Refusals.{must, invalid, unfit, wrongLength, badSymbo
 use Rattle.combinatorics.specs.Lists.{allBelow}
 use Rattle.cells.specs.Codec.{Codec, Reading, accepted}
 use Rattle.cells.specs.Codec as codec
-use Rattle.construction_a.specs.Figures.{Params, inRange, fits}
-use Rattle.construction_a.specs.DemandTwo.{constructionA}
+use Rattle.cells.specs.Outcomes.{Coding}
+use Rattle.construction_a.specs.Figures.{Params}
+use Rattle.construction_a.specs.Outcomes.{coding}
 use Rattle.jobs.specs.declared.Entry.{Entry}
 use Rattle.jobs.specs.Table.{twice}
 use Rattle.payloads.specs.Payload.{carriesJob, jobNumber, payloadIn, spellsPayload}
@@ -52,13 +53,18 @@ prescriptionReading c es w =
     (must (allBelow (c .foundBound) w) (refused badSymbol)
     (prescriptionIn (c .alphabet) (c .messageLen) es (c .decode w))))
 
--- ---- Under Construction A: prescription read 1 2, 10 for K, 3 4 7 19 8 9 19, 10, 16, 12 23 14
+-- ---- Under any figures: prescription read 1 2, 10 for K, 3 4 7 19 8 9 19, 10, 16, 12 23 14
+
+abbrev pub prescriptionReadUnder : Coding → List Entry → List ℕ → Answered HandedOut
+prescriptionReadUnder d es w =
+    must (d .inRange && not (twice es)) (refused invalid)
+    (must (d .fits) (refused unfit)
+    (prescriptionReading (d .codec) es w))
+
+-- ---- Under Construction A
 
 unfoldable pub prescriptionReadOut : Params → List Entry → List ℕ → Answered HandedOut
-prescriptionReadOut f es w =
-    must (inRange f && not (twice es)) (refused invalid)
-    (must (fits f) (refused unfit)
-    (prescriptionReading (constructionA f) es w))
+prescriptionReadOut f = prescriptionReadUnder (coding f)
 
 -- ---- What an answer says, case by case: 0, the number and the prescription, or the refusal
 

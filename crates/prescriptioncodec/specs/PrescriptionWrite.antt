@@ -9,9 +9,9 @@ use Rattle.refusals.specs.Refusals.{must, served, invalid, unfit, wrongLength, 
 use Rattle.combinatorics.specs.Bursts.{apart}
 use Rattle.cells.specs.Bytes.{byteValues, payloadLen}
 use Rattle.cells.specs.Digits.{plain, spell}
-use Rattle.construction_a.specs.Figures.{Params, inRange, fits, messageLen}
-use Rattle.construction_a.specs.Writing.{word}
-use Rattle.construction_a.specs.Outcomes.{Held, inUse, Encoded, unwritten}
+use Rattle.cells.specs.Outcomes.{Coding, Held, inUse, Encoded, unwritten}
+use Rattle.construction_a.specs.Figures.{Params}
+use Rattle.construction_a.specs.Outcomes.{coding}
 use Rattle.jobs.specs.declared.Entry.{Entry}
 use Rattle.jobs.specs.Jobs.{isJob}
 use Rattle.jobs.specs.Table.{twice}
@@ -36,33 +36,40 @@ prescriptionPayload K n x = numberBytes n ++ textOf (K - numberLen) x
 abbrev pub minPayload : ℕ
 minPayload = 17
 
+-- ---- Under any figures
+
 -- the state refusals are left: 17 12 23 14
-abbrev pub writeOpen : Params → List Entry → Held → List ℕ → List ℕ → Encoded
-writeOpen f es at payload out =
+abbrev pub writeOpen : Coding → List Entry → Held → List ℕ → List ℕ → Encoded
+writeOpen d es at payload out =
     must (isJob (jobNumber payload)) (unwritten out numberZero)
     (whereOpen (jobStatus es payload) (unwritten out)
-    (record { answer = served; word = word f (inUse at) (messageOf (f .q) (messageLen f) payload) }))
+    (record { answer = served; word = d .codec .encode (inUse at) (messageOf (d .codec .alphabet) (d .codec .messageLen) payload) }))
 
-abbrev pub writePrescribed : Params → List Entry → Held → ℕ → Option Prescribed → List ℕ → Encoded
-writePrescribed f es at n none out = unwritten out badPrescription
-writePrescribed f es at n (some x) out = writeOpen f es at (prescriptionPayload (payloadLen (f .q) (messageLen f)) n x) out
+abbrev pub writePrescribed : Coding → List Entry → Held → ℕ → Option Prescribed → List ℕ → Encoded
+writePrescribed d es at n none out = unwritten out badPrescription
+writePrescribed d es at n (some x) out = writeOpen d es at (prescriptionPayload (payloadLen (d .codec .alphabet) (d .codec .messageLen)) n x) out
 
 -- "The prescription calls refuse with 16, after all other input refusals, any .. value in memory outside these rules .. or a payload below 17 bytes":
 -- 1 2 10 3 5 16 17 12 23 14
+abbrev pub prescriptionWriteUnder : Coding → List Entry → Held → ℕ → Prescription → List ℕ → Encoded
+prescriptionWriteUnder d es at n p out =
+    let c = d .codec in
+    let q = c .alphabet in
+    let k = c .messageLen in
+    must (d .inRange && not (twice es)) (unwritten out invalid)
+    (must (d .fits) (unwritten out unfit)
+    (must (carriesJob q k) (unwritten out badPayload)
+    (must (eqb (at .count) (d .bursts) && eqb (length out) (c .wordLen)) (unwritten out wrongLength)
+    (must (apart (d .burstLen) (c .wordLen) 0 (inUse at)) (unwritten out badStarts)
+    (must (leb minPayload (payloadLen q k)) (unwritten out badPrescription)
+    (writePrescribed d es at n (prescribedOf p) out))))))
+
+-- ---- Under Construction A
+
 unfoldable pub prescriptionWriteOut : Params → List Entry → Held → ℕ → Prescription → List ℕ → Encoded
-prescriptionWriteOut f es at n p out =
-    let k = messageLen f in
-    must (inRange f && not (twice es)) (unwritten out invalid)
-    (must (fits f) (unwritten out unfit)
-    (must (carriesJob (f .q) k) (unwritten out badPayload)
-    (must (eqb (at .count) (f .m) && eqb (length out) (f .n)) (unwritten out wrongLength)
-    (must (apart (f .b) (f .n) 0 (inUse at)) (unwritten out badStarts)
-    (must (leb minPayload (payloadLen (f .q) k)) (unwritten out badPrescription)
-    (writePrescribed f es at n (prescribedOf p) out))))))
+prescriptionWriteOut f = prescriptionWriteUnder (coding f)
 
--- ---- Where every other test is passed
-
--- the prescription's payload of K bytes, written as a job's
+-- where every other test is passed: the prescription's payload of K bytes, written as a job's
 abbrev pub asJob : Params → List Entry → Held → ℕ → ℕ → List ℕ → Option Prescribed → Encoded
 asJob f es at n K out none = unwritten out badPrescription
 asJob f es at n K out (some x) = jobWriteOut f es at (prescriptionPayload K n x) out

@@ -2,10 +2,11 @@
 use mathlib.Core.Path.{_≡_, refl, sym, ap, ap₂, _∙_}
 use mathlib.Core.Bool.{Bool, true, false, not, true≢false}
 use mathlib.Core.List.{List, [], map}
-use Prim.Native.Nat.{ℕ, suc, _≤_, _<_}
+use Prim.Native.Nat.{ℕ, suc, _*_, _≤_, _<_}
 use native.Mathlib.Omega.{arith}
 use lib.Dec.{eqb}
 use lib.ListN.{length, getD, length-map}
+use Rattle.combinatorics.specs.Bursts.{inBurst}
 use Rattle.combinatorics.specs.Lists.{allBelow}
 use Rattle.combinatorics.specs.Stretch.{count, members, tabulate}
 use Rattle.combinatorics.proofs.Cases.{by-bool, by-eq, eqb-same}
@@ -17,13 +18,20 @@ use Rattle.cells.specs.Digits.{spell, places}
 use Rattle.cells.proofs.Cells.{Clean, pick-at, pick-alike, pick-small, length-pick, no-burst, digits-woven, message-woven, woven-clean, clean-at, at-clean, clean-agrees, agree-at}
 use Rattle.cells.proofs.Digits.{length-spell, length-places}
 use Rattle.cells.proofs.Erasures.{found-least}
+use Rattle.cells.proofs.Plan.{kind-burst, digit-count as digits-in}
 use Rattle.construction_a.specs.DemandTwo.{constructionA}
 use Rattle.construction_a.specs.Figures.{Params, inRange, fits, indexTail}
-use Rattle.construction_a.specs.Writing.{kindAt, plan, rank, word}
+use Rattle.construction_a.specs.Writing.{frame, kindAt, plan, rank, word}
 use Rattle.construction_a.proofs.DemandTwo.{demand-two}
 use Rattle.construction_a.proofs.Figures.{serve, placed-starts}
-use Rattle.construction_a.proofs.Plan.{kind-burst, digit-count, message-cells}
-use Rattle.slips.specs.Slips.{differences, messagePositions, Planned, Slips, Stays, SlipsStay, SlipsStayA}
+use Rattle.construction_a.proofs.Plan.{digit-count, message-cells}
+use Rattle.construction_b.specs.DemandTwo.{constructionB}
+use Rattle.construction_b.specs.Figures.{LongParams, inRange as inRangeB, fits as fitsB, indexTail as indexTailB}
+use Rattle.construction_b.specs.Writing.{startIn, indexPart, endOffset, frame as frameB, plan as planB, wordFrom}
+use Rattle.construction_b.proofs.DemandTwo.{demand-two as demand-two-b}
+use Rattle.construction_b.proofs.Figures.{serve as serve-b, placed-start}
+use Rattle.construction_b.proofs.Plan.{count-one, index-lt, framed as framed-b, message-cells as message-cells-b}
+use Rattle.slips.specs.Slips.{differences, messagePositions, Planned, Slips, Stays, SlipsStay, SlipsStayA, kindB, SlipsStayB}
 use Rattle.slips.proofs.Kept.{kept, kept-members, kept-places, at-map}
 
 -- a cell of one kind is of no other
@@ -51,7 +59,7 @@ module _ (c : Codec) (kind : List ℕ → ℕ → Cell) (digits : List ℕ → L
   agrees : (x : ℕ) → x < n → is burst (kd x) ≡ false → getD w x 0 ≡ getD (weave cells (digits starts) ms) x 0
   unfolding n kd cells
   agrees x lx e =
-      l .outside x lx (sym (planned .bursts starts x) ∙ e) ∙ ap (λ (v : List ℕ). getD v x 0) (planned .woven starts ms)
+      l .outside x lx (sym (planned .bursts starts (l .placement) x) ∙ e) ∙ ap (λ (v : List ℕ). getD v x 0) (planned .woven starts ms)
 
   message-there : pick message cells w ≡ ms
   unfolding n kd cells
@@ -92,7 +100,7 @@ module _ (c : Codec) (kind : List ℕ → ℕ → Cell) (digits : List ℕ → L
             rw (planned .woven starts (pick message (tabulate (c .wordLen) 0 (kind starts)) w′), ← digits-there)
             (agree-at (c .wordLen) 0 x (kind starts) w′
             (weave (tabulate (c .wordLen) 0 (kind starts)) (pick digit (tabulate (c .wordLen) 0 (kind starts)) w′) (pick message (tabulate (c .wordLen) 0 (kind starts)) w′))
-            (clean-agrees (tabulate (c .wordLen) 0 (kind starts)) w′ clean) (omega arith) (omega arith) (planned .bursts starts x ∙ out));
+            (clean-agrees (tabulate (c .wordLen) 0 (kind starts)) w′ clean) (omega arith) (omega arith) (planned .bursts starts (l .placement) x ∙ out));
       }
 
   pub found : Word c w′
@@ -170,12 +178,12 @@ abbrev pub spelled : Params → List ℕ → List ℕ
 spelled f starts = spell (f .q) (places (f .m) (indexTail f)) (rank f starts)
 
 pub planned-a : (f : Params) → inRange f ≡ true → fits f ≡ true → Planned (constructionA f) (kindAt f) (spelled f)
-unfolding word plan
+unfolding word plan kindAt
 planned-a f i h =
     let ok = serve f i h in
     record {
       woven = λ starts ms. refl;
-      bursts = λ starts x. kind-burst f starts x;
+      bursts = λ starts e x. kind-burst (frame f starts) x;
       digit-cells = λ starts e.
           let p = placed-starts f starts e in
           digit-count f ok starts (p .0) (p .1)
@@ -186,3 +194,27 @@ planned-a f i h =
 
 pub slips-stay-a : SlipsStayA
 slips-stay-a f i h = slips-stay (constructionA f) (kindAt f) (spelled f) (planned-a f i h) (demand-two f i h .exactly)
+
+-- ---- Construction B
+
+abbrev pub spelledB : LongParams → List ℕ → List ℕ
+spelledB f starts = spell (f .q) (places 1 (indexTailB f)) (endOffset f (startIn starts))
+
+pub planned-b : (f : LongParams) → inRangeB f ≡ true → fitsB f ≡ true → Planned (constructionB f) (kindB f) (spelledB f)
+unfolding wordFrom planB
+planned-b f i h =
+    let ok = serve-b f i h in
+    record {
+      woven = λ starts ms. refl;
+      bursts = λ starts e x. kind-burst (frameB f (startIn starts)) x ∙ ap (λ (ss : List ℕ). inBurst (f .b) ss x) (sym (placed-start f starts e .0));
+      digit-cells = λ starts e.
+          let p = placed-start f starts e in
+          let s = startIn starts in
+          digits-in (frameB f s) (framed-b f ok s (p .1)) ∙ ap (λ (y : ℕ). y * suc (indexTailB f)) (count-one (indexPart f s) (index-lt f ok s (p .1)))
+          ∙ sym (length-spell (f .q) (places 1 (indexTailB f)) (endOffset f s) ∙ length-places 1 (indexTailB f));
+      message-cells = λ starts e. let p = placed-start f starts e in message-cells-b f ok (startIn starts) (p .1);
+      found = found-least (f .q);
+    }
+
+pub slips-stay-b : SlipsStayB
+slips-stay-b f i h = slips-stay (constructionB f) (kindB f) (spelledB f) (planned-b f i h) (demand-two-b f i h .exactly)

@@ -12,9 +12,10 @@ use Rattle.combinatorics.proofs.Bursts.{Placed, placed-at, placed-step, placed-
 use Rattle.combinatorics.proofs.Cases.{by-le, by-bool, eqb-same, eqb-other, leb-holds, leb-fails}
 use Rattle.combinatorics.proofs.Stretch.{Each, top-only}
 use Rattle.cells.specs.Cells.{burst, fixed, digit, message}
+use Rattle.cells.specs.Plan.{cellOf}
 use Rattle.cells.proofs.Cut.{block-with, block-first, block-end, block-rises, block-next}
 use Rattle.construction_a.specs.Figures.{Params, maxBursts, parts, blocks, headOf, blockOf, indexTail}
-use Rattle.construction_a.specs.Writing.{isBurst, isIndex, cellOf, kindAt}
+use Rattle.construction_a.specs.Writing.{isBurst, isIndex, kindAt}
 use Rattle.construction_a.proofs.Figures.{Served}
 use Rattle.construction_a.proofs.Plan.{ends-burst, head-clear, index-not-burst, kind-is}
 use Rattle.params.specs.declared.Layout.{Layout}

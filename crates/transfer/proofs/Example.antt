@@ -10,10 +10,11 @@ use Rattle.combinatorics.specs.Bursts.{apart, inBurst, placements, reduceFrom, 
 use Rattle.cells.specs.Bytes.{byteWidth, payloadLen}
 use Rattle.cells.specs.Cut.{pieceLen, pieceStart, blockAt, blockHead, blockWith}
 use Rattle.cells.specs.Cells.{weave, pick}
+use Rattle.cells.specs.Plan.{cellOf}
 use Rattle.cells.specs.Digits.{span, spell, value, places}
 use Rattle.cells.specs.Erasures.{foundBound, hasErasure}
 use Rattle.construction_a.specs.Figures.{inRange, parts, blockMin, leastTail, indexTail, fits, messageLen}
-use Rattle.construction_a.specs.Writing.{becomes, withBurst, withBursts, isBurst, next, partCount, partWith, chosen, beside, isChosen, isIndexIn, isIndex, indexBlocks, isFixed, cellOf, kindAt, plan, word}
+use Rattle.construction_a.specs.Writing.{becomes, withBurst, withBursts, isBurst, next, partCount, partWith, chosen, beside, isChosen, isIndexIn, isIndex, indexBlocks, isFixed, kindAt, plan, word}
 use Rattle.construction_a.specs.Reading.{looksFixed, later, bareParts, openBlocks, indexInPart, collect, indexFound, heads, written, agrees, readRank, read}
 use Rattle.construction_a.specs.Outcomes.{figuresOut}
 use Rattle.jobs.specs.Table.{firstEntry, replaceFirst, put, twice, decide}
