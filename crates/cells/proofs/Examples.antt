@@ -1,7 +1,10 @@
 -- Worked examples by computation. Assumes nothing.
 use mathlib.Core.Path.{_≡_, refl}
+use mathlib.Core.Bool.{true, false}
 use mathlib.Core.List.{[], _∷_}
 use Rattle.combinatorics.specs.Stretch.{sum, tabulate}
+use Rattle.cells.specs.Cells.{digit, message, fixed}
+use Rattle.cells.specs.Plan.{cellOf}
 use Rattle.cells.specs.Cut.{pieceLen, pieceStart, blockAt, blockHead}
 use Rattle.cells.specs.Digits.{span, spell, value, places}
 
@@ -23,3 +26,8 @@ spell-44 = refl
 value-44 : value 4 (places 2 2) (1 ∷ 0 ∷ 0 ∷ 3 ∷ 3 ∷ 0 ∷ []) ≡ 44
 unfolding value span places
 value-44 = refl
+
+-- the first cell of a block, outside the runs: an I-block's holds a digit, a B-block's the message, an F-block's 0
+first-cells : cellOf 2 false true false 0 ∷ cellOf 2 false false true 0 ∷ cellOf 2 false false false 0 ∷ [] ≡ digit ∷ message ∷ fixed ∷ []
+unfolding cellOf
+first-cells = refl

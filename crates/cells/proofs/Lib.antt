@@ -1,3 +1,4 @@
+mod Examples
 pub mod Cut
 pub mod Cells
 pub mod Plan
@@ -7,5 +8,4 @@ pub mod Bytes
 pub mod Erasures
 pub mod Outcomes
 pub mod Ranking
-mod Examples
 pub mod Walk

@@ -12,7 +12,7 @@ use Rattle.combinatorics.specs.Stretch.{count, members, tabulate}
 use Rattle.combinatorics.proofs.Cases.{by-le, by-eq, by-bool, eqb-same, eqb-other, leb-holds, leb-fails}
 use Rattle.combinatorics.proofs.Stretch.{same, IsTop, top-only, count-ext, count-three, members-blocks, length-members, length-tabulate, length-flat, flat-map}
 use Rattle.cells.specs.Cells.{burst, fixed, digit, message, is, weave, pick}
-use Rattle.cells.specs.Plan.{Frame, cellOf, kindIn, planIn}
+use Rattle.cells.specs.Plan.{Frame, cellOf, kindIn, planIn, Spares}
 use Rattle.cells.proofs.Cells.{kinds, pick-at, pick-agrees, length-pick, no-burst, digits-woven, message-woven, woven-clean, clean-at, Clean, at-clean, clean-agrees, agree-at}
 
 -- ---- What stands where
@@ -79,7 +79,7 @@ kind-burst g x =
     let k = g .blockOf x in
     in-burst (g .tail) (g .runs x) (g .isIndex k) (g .isBurst k) (x - g .head k)
 
--- ---- Frames whose blocks follow one another through the word, and whose runs spare the heads of I- and F-blocks
+-- ---- Frames whose blocks follow one another through the word, with room for 1 + r symbols each, and whose runs spare the heads
 
 pub record Framed (g : Frame) : Type 0 where
   pub first : g .head 0 ≡ 0
@@ -87,8 +87,7 @@ pub record Framed (g : Frame) : Type 0 where
   pub block : (x : ℕ) → x < g .wordLen → IsTop (g .head) (g .blocks) x (g .blockOf x)
   pub up : (k : ℕ) → g .head k + suc (g .tail) ≤ g .head (suc k)
   pub index-not-burst : (k : ℕ) → k < g .blocks → g .isIndex k ≡ true → g .isBurst k ≡ false
-  pub index-clear : (k x : ℕ) → k < g .blocks → g .isIndex k ≡ true → g .head k ≤ x → x < g .head k + suc (g .tail) → g .runs x ≡ false
-  pub fixed-clear : (k : ℕ) → k < g .blocks → g .isIndex k ≡ false → g .isBurst k ≡ false → g .runs (g .head k) ≡ false
+  pub spares : Spares g
 
 -- the F-blocks
 abbrev pub isFixedIn : Frame → ℕ → Bool
@@ -124,7 +123,7 @@ module _ (g : Frame) (ok : Framed g) where
   pub digit-places : members (g .wordLen) 0 (λ x. is digit (kindIn g x)) ≡ flatMap (λ k. tabulate (suc (g .tail)) (g .head k) same) (members (g .blocks) 0 (g .isIndex))
   digit-places =
       over (suc (g .tail)) (g .isIndex) (λ x. is digit (kindIn g x)) (omega arith)
-      (λ k x a t b d. rw (kind-is k x a b (omega (arith, ok .up k)), ok .index-clear k x a t b d, t) (early (g .tail) (g .isBurst k) (x - g .head k) (omega arith)))
+      (λ k x a t b d. rw (kind-is k x a b (omega (arith, ok .up k)), ok .spares .index-heads k x a t b d, t) (early (g .tail) (g .isBurst k) (x - g .head k) (omega arith)))
       (λ k x a t b d. rw (kind-is k x a (omega arith) d) (late (g .tail) (g .runs x) (g .isIndex k) (g .isBurst k) (x - g .head k) (omega arith)))
       (λ k x a t b d. rw (kind-is k x a b d, t) (plainly (g .tail) (g .runs x) (g .isBurst k) (x - g .head k)))
 
@@ -132,7 +131,7 @@ module _ (g : Frame) (ok : Framed g) where
   pub fixed-at : (k : ℕ) → k < g .blocks → isFixedIn g k ≡ true → is fixed (kindIn g (g .head k)) ≡ true
   fixed-at k a t =
       let u = neither (g .isIndex k) (g .isBurst k) t in
-      rw (kind-is k (g .head k) a (omega arith) (omega (arith, ok .up k)), ok .fixed-clear k a (u .0) (u .1), u .0, u .1)
+      rw (kind-is k (g .head k) a (omega arith) (omega (arith, ok .up k)), ok .spares .fixed-heads k a (u .0) (u .1), u .0, u .1)
       (f-first (g .tail) (g .head k - g .head k) (omega arith))
 
   pub fixed-places : members (g .wordLen) 0 (λ x. is fixed (kindIn g x)) ≡ flatMap (λ k. tabulate 1 (g .head k) same) (members (g .blocks) 0 (isFixedIn g))

@@ -1,7 +1,8 @@
 -- The plan of a word by its blocks: which are index blocks (document 01's I), which burst blocks (B), and all others fixed (F). Assumes nothing.
+use mathlib.Core.Path.{_≡_}
 use mathlib.Core.Bool.{Bool, true, false, cond}
 use mathlib.Core.List.{List}
-use Prim.Native.Nat.{ℕ, suc, _-_}
+use Prim.Native.Nat.{ℕ, suc, _+_, _-_, _≤_, _<_}
 use lib.Dec.{ltb, eqb}
 use Rattle.combinatorics.specs.Stretch.{tabulate}
 use Rattle.cells.specs.Cells.{Cell, burst, fixed, digit, message}
@@ -34,3 +35,8 @@ kindIn g x =
 
 abbrev pub planIn : Frame → List Cell
 planIn g = tabulate (g .wordLen) 0 (kindIn g)
+
+-- the runs spare the first 1 + r symbols of each I-block, and the first of each F-block
+pub record Spares (g : Frame) : Type 0 where
+  pub index-heads : (k x : ℕ) → k < g .blocks → g .isIndex k ≡ true → g .head k ≤ x → x < g .head k + suc (g .tail) → g .runs x ≡ false
+  pub fixed-heads : (k : ℕ) → k < g .blocks → g .isIndex k ≡ false → g .isBurst k ≡ false → g .runs (g .head k) ≡ false

@@ -45,7 +45,7 @@ module _ (f : Params) (ok : Served f) (ss : List ℕ) (h : Placed (f .b) (f .n) 
     unfolding heads word plan kindAt indexBlocks digits
     digits-read =
         digits-back (frame f ss) (framed f ok ss h e) digits ms w outside
-        (length-spell (f .q) (places (f .m) (indexTail f)) (rank f ss) ∙ length-places (f .m) (indexTail f) ∙ ap (λ (y : ℕ). y * suc (indexTail f)) (sym (index-count f ok ss h e)))
+        (length-spell (f .q) (places (f .m) (indexTail f)) (rank f ss) ∙ length-places (f .m) (indexTail f) ∙ ap (λ (y : ℕ). y * suc (indexTail f)) (sym (index-count f (ok .range) ss h e)))
 
     message-read : pick message (plan f ss) w ≡ ms
     unfolding word plan kindAt digits
@@ -55,7 +55,7 @@ module _ (f : Params) (ok : Served f) (ss : List ℕ) (h : Placed (f .b) (f .n) 
     index-shown : (x : ℕ) → x < parts f * f .m → isIndex f ss x ≡ true → looksFixed f w x ≡ false
     unfolding looksFixed heads indexBlocks
     index-shown x l t =
-        let s : Spelled (f .q) (places (length (indexBlocks f ss)) (indexTail f)) (heads f w (indexBlocks f ss)) = rw (index-blocks f ok ss h e, digits-read) spelled in
+        let s : Spelled (f .q) (places (length (indexBlocks f ss)) (indexTail f)) (heads f w (indexBlocks f ss)) = rw (index-blocks f (ok .range) ss h e, digits-read) spelled in
         let b : 1 ≤ getD w (headOf f x) 0 =
         each-member (λ y. 1 ≤ getD w (headOf f y) 0) (parts f * f .m) 0 (isIndex f ss)
         (leads (f .q) (indexTail f) (headOf f) (λ y. getD w y 0) (indexBlocks f ss) s) x (omega arith) (omega arith) t in
@@ -87,9 +87,9 @@ module _ (f : Params) (ok : Served f) (ss : List ℕ) (h : Placed (f .b) (f .n) 
     pub complete : read f w ≡ accepted ss ms
     unfolding read readRank written indexBlocks isIndex digits
     complete =
-        let il = i-list (parts f) (f .m) (isBurst f ss) (ok .three) (ok .some) (ok .most) (burst-blocks f ok ss h e) in
+        let il = i-list (parts f) (f .m) (isBurst f ss) (ok .three) (ok .some) (ok .most) (burst-blocks f (ok .range) ss h e) in
         rw (
-          read-back (parts f) (f .m) (isBurst f ss) (looksFixed f w) (ok .three) (ok .some) (ok .most) (burst-blocks f ok ss h e) seen,
+          read-back (parts f) (f .m) (isBurst f ss) (looksFixed f w) (ok .three) (ok .some) (ok .most) (burst-blocks f (ok .range) ss h e) seen,
           ← il .0,
           digits-read,
           below-whole (f .q) digits (at-below (f .q) digits (λ x _. spelled-below (f .q) (places (f .m) (indexTail f)) digits (ok .range .q-least) spelled x)),

@@ -10,15 +10,13 @@ use Rattle.combinatorics.proofs.Lists.{map-below}
 use Rattle.combinatorics.proofs.Stretch.{same, flat-map}
 use Rattle.cells.specs.Cells.{message, pick}
 use Rattle.cells.proofs.Cells.{pick-below}
-use Rattle.construction_a.specs.Figures.{Params, headOf, indexTail}
-use Rattle.construction_a.specs.Reading.{heads}
+use Rattle.construction_a.specs.Figures.{Params, headOf}
+use Rattle.construction_a.specs.Reading.{headsWith}
 use Rattle.construction_a.specs.Writing.{kindAt, plan}
 
-pub heads-below : (f : Params) (q : ℕ) (w ks : List ℕ) → ((x : ℕ) → getD w x 0 < q) → allBelow q (heads f w ks) ≡ true
-unfolding heads
-heads-below f q w ks small =
-    rw (flat-map (λ x. getD w x 0) (suc (indexTail f)) (headOf f) ks)
-    (map-below q (λ x. getD w x 0) small (flatMap (λ k. tabulate (suc (indexTail f)) (headOf f k) same) ks))
+pub heads-below : (r : ℕ) (f : Params) (q : ℕ) (w ks : List ℕ) → ((x : ℕ) → getD w x 0 < q) → allBelow q (headsWith r f w ks) ≡ true
+heads-below r f q w ks small =
+    rw (flat-map (λ x. getD w x 0) (suc r) (headOf f) ks) (map-below q (λ x. getD w x 0) small (flatMap (λ k. tabulate (suc r) (headOf f k) same) ks))
 
 pub message-below : (f : Params) (q : ℕ) (w ss : List ℕ) → ((x : ℕ) → getD w x 0 < q) → allBelow q (pick message (plan f ss) w) ≡ true
 unfolding plan

@@ -12,7 +12,7 @@ use Rattle.construction_a.specs.Figures.{Params, parts, isPlacement}
 use Rattle.construction_a.specs.Writing.{row, isBurst, partCount, whole, oneEach}
 use Rattle.construction_a.specs.Outcomes.{coding}
 use Rattle.construction_a.specs.Ranking.{RankBijection, BurstBlocks, CoversLeast, AllFaithful}
-use Rattle.construction_a.proofs.Figures.{Served, serve, index-enough, index-least, placed-starts, starts-placed}
+use Rattle.construction_a.proofs.Figures.{Ranged, Served, serve, three-parts, parts-most, index-enough, index-least, placed-starts, starts-placed}
 use Rattle.construction_a.proofs.Plan.{burst-blocks, message-cells}
 use Rattle.construction_a.proofs.Rule.{by-chosen}
 
@@ -26,14 +26,14 @@ rank-bijection f ok = Any.rank-bijection (coding f) (placeable f ok)
 one-each-only : {P : Type 0} (a : ℕ) → whole a ≡ oneEach → P
 one-each-only a e = absurd (let z : _≡_ {A = ℕ} 0 1 = cc in omega arith)
 
-pub burst-blocks-are : (f : Params) → Served f → (ss : List ℕ) → isPlacement f ss ≡ true → BurstBlocks f ss
+pub burst-blocks-are : (f : Params) → Ranged f → (ss : List ℕ) → isPlacement f ss ≡ true → BurstBlocks f ss
 unfolding partCount
-burst-blocks-are f ok ss e =
+burst-blocks-are f range ss e =
     let p = placed-starts f ss e in
-    let all = burst-blocks f ok ss (p .0) (p .1) in
+    let all = burst-blocks f range ss (p .0) (p .1) in
     record {
       as-many = all;
-      one-each = by-chosen (parts f) (f .m) (isBurst f ss) (ok .three) (ok .some) (ok .most) all
+      one-each = by-chosen (parts f) (f .m) (isBurst f ss) (three-parts f) (range .m-least) (parts-most f) all
           (λ c. c ≡ oneEach → (i : ℕ) → i < parts f → count (f .m) 0 (row (f .m) (isBurst f ss) i) ≡ 1)
           (λ a _ _ _ c. one-each-only a c)
           (λ _ one _. one);
@@ -47,7 +47,7 @@ faithful f i h =
     let ok = serve f i h in
     record {
       ranks = rank-bijection f ok;
-      burst-blocks = burst-blocks-are f ok;
+      burst-blocks = burst-blocks-are f (ok .range);
       covers = covers-least f ok;
       tail = record { serves = index-enough f ok; least = index-least f };
       message-cells = λ ss e. let p = placed-starts f ss e in message-cells f ok ss (p .0) (p .1);

@@ -63,9 +63,9 @@ module _ (f : Params) (ok : Served f) (w : List ℕ) (small : (x : ℕ) → getD
       let I = indexBlocks f ss in
       let ag = both (sameList I ks) (not (has (parts f * f .m) 0 (λ k. isFixed f ss k && not (looksFixed f w k)))) a in
       let same-I : I ≡ ks = list-same I ks (ag .0) in
-      let lk : length ks ≡ f .m = sym (ap length same-I) ∙ index-blocks f ok ss (s .placed) (s .count) in
+      let lk : length ks ≡ f .m = sym (ap length same-I) ∙ index-blocks f (ok .range) ss (s .placed) (s .count) in
       let sp : Spelled (f .q) ps (heads f w ks) =
-      rw lk at (heads-spelled (f .q) (indexTail f) (headOf f) (λ x. getD w x 0) ks (whole-below (f .q) (heads f w ks) (heads-below f (foundBound (f .q)) w ks small) whole) (not-zero f w ks (taken-bare (parts f) (f .m) (looksFixed f w) ks found))) in
+      rw lk at (heads-spelled (f .q) (indexTail f) (headOf f) (λ x. getD w x 0) ks (whole-below (f .q) (heads f w ks) (heads-below (indexTail f) f (foundBound (f .q)) w ks small) whole) (not-zero f w ks (taken-bare (parts f) (f .m) (looksFixed f w) ks found))) in
       let spelled : spell (f .q) ps (rank f ss) ≡ heads f w ks = ap (spell (f .q) ps) (s .rank) ∙ spell-value (f .q) ps (heads f w ks) sp in
       let digits : spell (f .q) ps (rank f ss) ≡ heads f w I = spelled ∙ ap (heads f w) (sym same-I) in
       let zeros : (k : ℕ) → k < parts f * f .m → isFixed f ss k ≡ true → getD w (headOf f k) 0 ≡ 0 =

@@ -26,7 +26,7 @@ use Rattle.construction_a.proofs.Ranking.{rank-bijection}
 use Rattle.params.specs.declared.Layout.{Layout}
 use Rattle.params.specs.declared.LayoutAnswer.the-variants.{Fit}
 use Rattle.params.specs.Given.{figuresOf, Fitting}
-use Rattle.params.proofs.Fitting.{served}
+use Rattle.params.proofs.Fitting.{served, shaped}
 use Rattle.placements.specs.declared.Placement.{Placement}
 use Rattle.placements.specs.Bridge.{heldAs, Placing}
 use Rattle.placements.proofs.Calls.{starts-held}
@@ -112,7 +112,7 @@ placing l v p g below e =
     let ss = placementOf f v in
     let valid = rank-bijection f (served l g) .placed v below in
     record {
-      layout = g;
+      layout = shaped l g;
       count = ap (λ (h : Held). h .count) e ∙ placed-starts f ss valid .1;
       placed = ap (isPlacement f) (starts-held ss e) ∙ valid;
     }

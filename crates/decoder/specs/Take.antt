@@ -5,11 +5,11 @@ use Prim.Native.Nat.{ℕ, _≤_, _<_}
 use lib.ListN.{length, take}
 use Rattle.combinatorics.specs.Stretch.{tabulate}
 use Rattle.cells.specs.Cells.{Cell, message, pick}
+use Rattle.cells.specs.Plan.{kindIn}
 use Rattle.cells.proofs.Walk.{tally}
-use Rattle.construction_a.specs.Figures.{blocks, messageLen}
-use Rattle.construction_a.specs.Writing.{kindAt}
+use Rattle.construction_a.specs.Figures.{blocks}
 use Rattle.params.specs.declared.Layout.{Layout}
-use Rattle.params.specs.Given.{figuresOf}
+use Rattle.params.specs.Given.{figuresOf, frameOf}
 use Rattle.placements.specs.declared.Placement.{Placement}
 use Rattle.placements.specs.Bridge.{Placing, startsIn}
 use Rattle.stretches.specs.ByBlock.{Entering, Cells}
@@ -25,7 +25,7 @@ pub record Taken (k : ℕ) (kd : ℕ → Cell) (w : List ℕ) (x : ℕ) (out : L
 pub record Takes (l : Layout) (at : Placement) (w out : List ℕ) (x taken : ℕ) : Type 0 where
   pub placing : Placing l at
   pub whole : length w ≡ l .n
-  pub so-far : Taken (messageLen (figuresOf l)) (kindAt (figuresOf l) (startsIn at)) w x out taken
+  pub so-far : Taken (l .«message_len») (kindIn (frameOf l (startsIn at))) w x out taken
 
 -- the message is taken up to here
 abbrev pub TakenTo : Layout → Placement → List ℕ → List ℕ → Taking → Type 0
@@ -33,7 +33,7 @@ TakenTo l at w out here = Takes l at w out (here .at) (here .taken)
 
 -- the walk comes to a block, or to the word's end
 abbrev pub ComesTo : Layout → Placement → ℕ → Taking → Type 0
-ComesTo l at block here = Entering (figuresOf l) (startsIn at) block (here .at) (here .passed)
+ComesTo l at block here = Entering (l .«index_tail») (figuresOf l) (startsIn at) block (here .at) (here .passed)
 
 abbrev pub Enters : Layout → Placement → ℕ → Taking → Type 0
 Enters l at block here = (block < blocks (figuresOf l)) × ComesTo l at block here

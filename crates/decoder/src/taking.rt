@@ -4,8 +4,8 @@ ghost use mathlib.Core.Path.{_≡_};
 ghost use Prim.Native.Nat.{suc, _+_, _≤_, _<_};
 ghost use Rattle.cells.specs.Cells;
 ghost use Rattle.cells.specs.Cells.{pick};
-ghost use Rattle.construction_a.specs.Writing.{plan};
-ghost use Rattle.params.specs.Given.{figuresOf};
+ghost use Rattle.cells.specs.Plan.{planIn};
+ghost use Rattle.params.specs.Given.{frameOf};
 ghost use Rattle.placements.specs.Bridge.{startsIn, Placing};
 ghost use Rattle.stretches.specs.Walk.{headCells};
 ghost use Rattle.stretches.specs.ByBlock.{Tables, KindIs};
@@ -24,7 +24,7 @@ pub fn take_message(
     message: &mut [u8],
 )
     requires { ⌜ Takeable layout at (now word) (now message) × Tables layout at (now heads) (now kinds) ⌝ }
-    ensures { λ _. ⌜ now (message .exit) ≡ pick Rattle.cells.specs.Cells.message (plan (figuresOf layout) (startsIn at)) (now (word .entry)) ⌝ }
+    ensures { λ _. ⌜ now (message .exit) ≡ pick Rattle.cells.specs.Cells.message (planIn (frameOf layout (startsIn at))) (now (word .entry)) ⌝ }
 {
     let blocks = layout.parts * layout.m;
     let mut here = Taking {
@@ -81,7 +81,7 @@ fn take_block(
 // How many cells at a block's head are not the message's.
 fn head_cells(layout: Layout, at: Placement, kind: u8, block: usize) -> usize
     requires { ⌜ Placing layout at × KindIs layout at block kind ⌝ }
-    ensures { λ r. ⌜ r ≡ headCells (figuresOf layout) (startsIn at) block ⌝ }
+    ensures { λ r. ⌜ r ≡ headCells (frameOf layout (startsIn at)) block ⌝ }
 {
     if kind == blocks::FIXED {
         return 1;

@@ -13,11 +13,6 @@ use Rattle.combinatorics.specs.Stretch.{tabulate}
 use Rattle.combinatorics.proofs.Stretch.{count-le}
 use Rattle.cells.specs.Cells.{Cell, burst, fixed, digit, message, is, weave, content, Enough}
 use Rattle.cells.proofs.Walk.{tally, tally-append, tally-same, tally-other, tally-count, tally-most, plan-stretch, weave-stretch}
-use Rattle.combinatorics.proofs.Bursts.{Placed}
-use Rattle.construction_a.specs.Figures.{Params, indexTail, messageLen}
-use Rattle.construction_a.specs.Writing.{kindAt}
-use Rattle.construction_a.proofs.Figures.{Served}
-use Rattle.construction_a.proofs.Plan.{digit-count, message-cells}
 use Rattle.stretches.specs.Walk.{cellNamed}
 use Rattle.encoder.specs.Fill.{Filled}
 
@@ -108,12 +103,3 @@ module _ (n : ℕ) (kd : ℕ → Cell) (ds ms : List ℕ) where
     pub filled-on : (spelled′ sent′ : ℕ) (out′ : List ℕ) → kind ≤ 3 → take to out′ ≡ take x out ++ content (cellNamed kind) (to - x) (drop spelled ds) (drop sent ms) → length out′ ≡ n
         → spelled′ ≡ spelled + cond (eqb kind 2) (to - x) 0 → sent′ ≡ sent + cond (eqb kind 3) (to - x) 0 → Filled n kd ds ms to out′ spelled′ sent′
     filled-on spelled′ sent′ out′ few made size a b = rw (a, b) (filled-turn x to kind spelled sent out out′ s l same few some made size)
-
--- ---- How many digits and symbols a placement's word takes
-
-module _ (f : Params) (ok : Served f) (ss : List ℕ) (h : Placed (f .b) (f .n) 0 ss) (e : length ss ≡ f .m) where
-  pub digits-all : tally digit (tabulate (f .n) 0 (kindAt f ss)) ≡ f .m * suc (indexTail f)
-  digits-all = tally-count digit (f .n) 0 (kindAt f ss) ∙ digit-count f ok ss h e
-
-  pub messages-all : tally message (tabulate (f .n) 0 (kindAt f ss)) ≡ messageLen f
-  messages-all = tally-count message (f .n) 0 (kindAt f ss) ∙ message-cells f ok ss h e

@@ -9,33 +9,30 @@ use lib.ListN.{length, take, drop, length-drop}
 use borrow.Rule.Slice.PartMut.{putMid, same-len-mid}
 use Rattle.combinatorics.specs.Stretch.{tabulate}
 use Rattle.cells.specs.Cells.{Cell, digit, message, content, Enough}
+use Rattle.cells.specs.Plan.{kindIn}
 use Rattle.cells.proofs.Walk.{tally, rest-is}
-use Rattle.construction_a.specs.Writing.{kindAt}
 use Rattle.params.specs.declared.Layout.{Layout}
-use Rattle.params.specs.Given.{figuresOf}
-use Rattle.params.proofs.Fitting.{served}
+use Rattle.params.specs.Given.{frameOf}
 use Rattle.placements.specs.declared.Placement.{Placement}
 use Rattle.placements.specs.Bridge.{startsIn}
-use Rattle.placements.proofs.Placing.{starts-placed, starts-count}
 use Rattle.stretches.specs.Walk.{cellNamed}
 use Rattle.stretches.proofs.Part.{part-made}
 use Rattle.stretches.specs.ByBlock.{Cells}
+use Rattle.stretches.proofs.ByBlock.{digits-all, messages-all}
 use Rattle.encoder.specs.Fill.{Resumes}
-use Rattle.encoder.proofs.Filling.{filled-on, so-far-most, some, digits-all, messages-all}
+use Rattle.encoder.proofs.Filling.{filled-on, so-far-most, some}
 
 module _ {l : Layout} {at : Placement} {ds ms out : List ℕ} {x spelled sent : ℕ} (g : Resumes l at ds ms out x spelled sent) where
   kd : ℕ → Cell
-  kd = kindAt (figuresOf l) (startsIn at)
+  kd = kindIn (frameOf l (startsIn at))
 
   all-digits : tally digit (tabulate (l .n) 0 kd) ≤ length ds
   unfolding kd
-  all-digits =
-      omega (arith, g .digits-lent, digits-all (figuresOf l) (served l (g .placing .layout)) (startsIn at) (starts-placed l at (g .placing)) (starts-count l at (g .placing)))
+  all-digits = omega (arith, g .digits-lent, digits-all l at (g .placing))
 
   all-message : tally message (tabulate (l .n) 0 kd) ≤ length ms
   unfolding kd
-  all-message =
-      omega (arith, g .message-lent, messages-all (figuresOf l) (served l (g .placing .layout)) (startsIn at) (starts-placed l at (g .placing)) (starts-count l at (g .placing)))
+  all-message = omega (arith, g .message-lent, messages-all l at (g .placing))
 
   module _ (to : ℕ) (up : x ≤ to) (in-word : to ≤ l .n) where
     -- the symbols that cells of a kind ask for are there

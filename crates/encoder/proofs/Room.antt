@@ -1,5 +1,5 @@
 -- The digits of every rank have room: figures that fit need fewer than the array holds, and they spell every rank. Assumes nothing.
-use mathlib.Core.Path.{_≡_, refl, ap, _∙_}
+use mathlib.Core.Path.{_≡_, refl, ap, ap₂, _∙_}
 use mathlib.Core.Bool.{true}
 use mathlib.Core.List.{List}
 use Prim.Native.Nat.{ℕ, zero, suc, _+_, _-_, _*_, _^_, _≤_, _<_}
@@ -9,16 +9,17 @@ use native.Mathlib.Omega.{arith}
 use lib.ListN.{length, take}
 use lib.Pow.{pow-add, pow-mono}
 use Rattle.combinatorics.proofs.Cases.{by-le}
-use Rattle.cells.specs.Cells.{weave}
+use Rattle.cells.specs.Cells.{Cell, weave}
+use Rattle.cells.specs.Plan.{planIn}
 use Rattle.cells.specs.Digits.{span, spell, places}
 use Rattle.cells.proofs.Digits.{span-places, span-first, span-longer, length-places, length-spell}
 use Rattle.construction_a.specs.Figures.{Params, isPlacement, placementCount, indexTail}
-use Rattle.construction_a.specs.Writing.{plan, rank, word}
+use Rattle.construction_a.specs.Writing.{rank, word}
 use Rattle.construction_a.proofs.Figures.{Served, index-least, span-enough}
 use Rattle.construction_a.proofs.Ranking.{rank-bijection}
-use Rattle.params.specs.Given.{figuresOf, Fitting}
+use Rattle.params.specs.Given.{figuresOf, frameOf, Fitting}
 use Rattle.params.specs.declared.Layout.{Layout}
-use Rattle.params.proofs.Fitting.{served}
+use Rattle.params.proofs.Fitting.{served, plan-is}
 use Rattle.encoder.specs.Digits.{maxDigits, Spellable}
 
 -- the largest count of placements that is served is below this power of 2
@@ -79,8 +80,9 @@ module _ (l : Layout) (g : Fitting l) where
 
   -- the word that these digits give
   pub word-of : (ss ds ms out : List ℕ) (v : ℕ) → v ≡ rank (figuresOf l) ss → take (l .m * suc (l .«index_tail»)) ds ≡ spell (l .q) (places (l .m) (l .«index_tail»)) v
-      → out ≡ weave (plan (figuresOf l) ss) (take (l .m * (l .«index_tail» + 1)) ds) ms → out ≡ word (figuresOf l) ss ms
+      → out ≡ weave (planIn (frameOf l ss)) (take (l .m * (l .«index_tail» + 1)) ds) ms → out ≡ word (figuresOf l) ss ms
   unfolding word
   word-of ss ds ms out v e d o =
-      o ∙ ap (λ (y : List ℕ). weave (plan (figuresOf l) ss) y ms) (ap (λ (r : ℕ). take (l .m * r) ds) (add-one (l .«index_tail»)) ∙ d ∙ ap (spell (l .q) (places (l .m) (l .«index_tail»))) e
+      o ∙ ap₂ (λ (cs : List Cell) (y : List ℕ). weave cs y ms) (plan-is l g ss)
+      (ap (λ (r : ℕ). take (l .m * r) ds) (add-one (l .«index_tail»)) ∙ d ∙ ap (spell (l .q) (places (l .m) (l .«index_tail»))) e
       ∙ ap (λ (r : ℕ). spell (l .q) (places (l .m) r) (rank (figuresOf l) ss)) (g .laid .tail-is))

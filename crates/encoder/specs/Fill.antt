@@ -5,12 +5,12 @@ use Prim.Native.Nat.{ℕ, suc, _+_, _*_, _≤_, _<_}
 use lib.ListN.{length, take}
 use Rattle.combinatorics.specs.Stretch.{tabulate}
 use Rattle.cells.specs.Cells.{Cell, digit, message, burst, weave}
+use Rattle.cells.specs.Plan.{kindIn}
 use Rattle.cells.proofs.Walk.{tally}
-use Rattle.construction_a.specs.Writing.{kindAt}
-use Rattle.construction_a.specs.Figures.{Params, blocks, indexTail, messageLen}
+use Rattle.construction_a.specs.Figures.{blocks}
 use Rattle.params.specs.declared.Layout.{Layout}
 use Rattle.placements.specs.declared.Placement.{Placement}
-use Rattle.params.specs.Given.{figuresOf}
+use Rattle.params.specs.Given.{figuresOf, frameOf}
 use Rattle.placements.specs.Bridge.{Placing, startsIn}
 use Rattle.stretches.specs.ByBlock.{Entering, Past, Cells}
 use Rattle.encoder.specs.declared.fill.Filling.{Filling}
@@ -18,12 +18,12 @@ use Rattle.encoder.specs.declared.fill.Filling.{Filling}
 -- a placement, a message and room for the word
 pub record Fillable (l : Layout) (at : Placement) (ms out : List ℕ) : Type 0 where
   pub placing : Placing l at
-  pub sent : length ms ≡ messageLen (figuresOf l)
+  pub sent : length ms ≡ l .«message_len»
   pub room : length out ≡ l .n
 
 -- enough digits for the heads of the index blocks
-abbrev pub DigitsFor : Params → List ℕ → Type 0
-DigitsFor f ds = f .m * suc (indexTail f) ≤ length ds
+abbrev pub DigitsFor : Layout → List ℕ → Type 0
+DigitsFor l ds = l .m * suc (l .«index_tail») ≤ length ds
 
 -- the cells before x are filled, from so many digits and so much of the message; what lies behind them may be anything
 pub record Filled (n : ℕ) (kd : ℕ → Cell) (ds ms : List ℕ) (x : ℕ) (out : List ℕ) (spelled sent : ℕ) : Type 0 where
@@ -35,9 +35,9 @@ pub record Filled (n : ℕ) (kd : ℕ → Cell) (ds ms : List ℕ) (x : ℕ) (ou
 -- a word that is filled so far, with the digits and the message that the rest is filled from
 pub record Resumes (l : Layout) (at : Placement) (ds ms out : List ℕ) (x spelled sent : ℕ) : Type 0 where
   pub placing : Placing l at
-  pub digits-lent : DigitsFor (figuresOf l) ds
-  pub message-lent : length ms ≡ messageLen (figuresOf l)
-  pub filled : Filled (l .n) (kindAt (figuresOf l) (startsIn at)) ds ms x out spelled sent
+  pub digits-lent : DigitsFor l ds
+  pub message-lent : length ms ≡ l .«message_len»
+  pub filled : Filled (l .n) (kindIn (frameOf l (startsIn at))) ds ms x out spelled sent
 
 -- ---- What the functions that fill a block ask for, and give back
 
@@ -47,14 +47,14 @@ FilledTo l at ds ms out here = Resumes l at ds ms out (here .at) (here .spelled)
 
 -- the walk comes to a block, or to the word's end
 abbrev pub ComesTo : Layout → Placement → ℕ → Filling → Type 0
-ComesTo l at block here = Entering (figuresOf l) (startsIn at) block (here .at) (here .passed)
+ComesTo l at block here = Entering (l .«index_tail») (figuresOf l) (startsIn at) block (here .at) (here .passed)
 
 abbrev pub Enters : Layout → Placement → ℕ → Filling → Type 0
 Enters l at block here = (block < blocks (figuresOf l)) × ComesTo l at block here
 
 -- the walk has passed a block's head
 abbrev pub HeadPassed : Layout → Placement → ℕ → Filling → Type 0
-HeadPassed l at block here = Past (figuresOf l) (startsIn at) block (here .at) (here .passed)
+HeadPassed l at block here = Past (l .«index_tail») (figuresOf l) (startsIn at) block (here .at) (here .passed)
 
 abbrev pub MessageUpTo : Layout → Placement → ℕ → Filling → Type 0
 MessageUpTo l at to here = (here .at ≤ to) × (to ≤ l .n) × Cells l at message (here .at) to

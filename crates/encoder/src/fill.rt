@@ -3,9 +3,10 @@
 ghost use mathlib.Core.Path.{_≡_};
 ghost use Prim.Native.Nat.{suc};
 ghost use Rattle.cells.specs.Cells.{weave};
-ghost use Rattle.construction_a.specs.Writing.{plan, word as wordOf};
+ghost use Rattle.cells.specs.Plan.{planIn};
+ghost use Rattle.construction_a.specs.Writing.{word as wordOf};
 ghost use Rattle.placements.specs.Bridge.{startsIn};
-ghost use Rattle.params.specs.Given.{figuresOf};
+ghost use Rattle.params.specs.Given.{figuresOf, frameOf, Fitting};
 ghost use Rattle.stretches.specs.ByBlock.{Tables, KindIs};
 ghost use Rattle.encoder.specs.Fill.{Fillable, DigitsFor, FilledTo, ComesTo, Enters, HeadPassed, MessageUpTo, BurstHere, BurstPassed};
 use crate::digits;
@@ -15,7 +16,7 @@ use placements::Placement;
 
 // The word of a placement and a message.
 pub fn fill(layout: Layout, at: Placement, message: &[u8], word: &mut [u8])
-    requires { ⌜ Fillable layout at (now message) (now word) ⌝ }
+    requires { ⌜ Fitting layout × Fillable layout at (now message) (now word) ⌝ }
     ensures { λ _. ⌜ now (word .exit) ≡ wordOf (figuresOf layout) (startsIn at) (now (message .entry)) ⌝ }
 {
     let kinds = blocks::kinds_of(layout, at);
@@ -43,8 +44,8 @@ fn fill_cells(
     message: &[u8],
     word: &mut [u8],
 )
-    requires { ⌜ Fillable layout at (now message) (now word) × DigitsFor (figuresOf layout) (now digits) × Tables layout at (now heads) (now kinds) ⌝ }
-    ensures { λ _. ⌜ now (word .exit) ≡ weave (plan (figuresOf layout) (startsIn at)) (now (digits .entry)) (now (message .entry)) ⌝ }
+    requires { ⌜ Fillable layout at (now message) (now word) × DigitsFor layout (now digits) × Tables layout at (now heads) (now kinds) ⌝ }
+    ensures { λ _. ⌜ now (word .exit) ≡ weave (planIn (frameOf layout (startsIn at))) (now (digits .entry)) (now (message .entry)) ⌝ }
 {
     let blocks = layout.parts * layout.m;
     let mut here = Filling {

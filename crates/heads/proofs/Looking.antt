@@ -19,17 +19,17 @@ use Rattle.construction_a.specs.Reading.{looksFixed, indexFound}
 use Rattle.construction_a.proofs.Pattern.{taken-bare, found-within, found-count}
 use Rattle.construction_a.proofs.Rule.{not-true}
 use Rattle.params.specs.declared.Layout.{Layout}
-use Rattle.params.proofs.Fitting.{bound}
-use Rattle.params.specs.Given.{figuresOf, Fitting}
+use Rattle.params.proofs.Shape.{bound}
+use Rattle.params.specs.Given.{figuresOf, Shaped}
 use Rattle.heads.specs.Given.{Finding}
 use Rattle.heads.specs.declared.pattern.IndexBlocks.{IndexBlocks}
 use Rattle.heads.specs.Looks.{startsFixed, looksIn}
 use Rattle.heads.specs.Patterns.{Parted, indexIn}
 use Rattle.heads.specs.Written.{Shown}
 
--- ---- A layout of figures that fit
+-- ---- A layout's parts and blocks
 
-module _ (l : Layout) (h : Fitting l) where
+module _ (l : Layout) (h : Shaped l) where
   pub parted : Parted (l .parts) (l .m)
   unfolding parts
   parted =
@@ -39,7 +39,7 @@ module _ (l : Layout) (h : Fitting l) where
         some-blocks = omega arith;
         few-parts = b .parts-most;
         few-blocks = b .m-most;
-        alike = λ g. h .laid .parts-is ∙ (rw (leb-fails (l .m) 2 g));
+        alike = λ g. h .parts-is ∙ (rw (leb-fails (l .m) 2 g));
       }
 
 -- ---- The part of a word from a position on
@@ -58,11 +58,11 @@ module _ (at : ℕ) (w : List ℕ) where
   part-head = part-at 0 ∙ rw (add-zero at)
 
 -- a block looks fixed by its own stretch exactly where it does in the word
-pub stretch-looks : (l : Layout) → Fitting l → (w : List ℕ) (k at : ℕ) → at ≡ blockHead (l .n) (l .parts) (l .m) k
+pub stretch-looks : (l : Layout) → Shaped l → (w : List ℕ) (k at : ℕ) → at ≡ blockHead (l .n) (l .parts) (l .m) k
     → startsFixed (take (length w - at) (drop at w)) ≡ looksFixed (figuresOf l) w k
 unfolding looksFixed
 stretch-looks l h w k at e =
-    let d : at ≡ headOf (figuresOf l) k = e ∙ (rw (h .laid .parts-is)) in
+    let d : at ≡ headOf (figuresOf l) k = e ∙ (rw (h .parts-is)) in
     rw (part-head at w, d)
 
 -- ---- A list of 0 and 1 that has the first k numbers of a set
@@ -127,7 +127,7 @@ shown l w a h t e =
     found = sym e ∙ rw t
 
     count : length ks ≡ l .m
-    count = found-count p (l .m) looks ks (λ g. sym (h .layout .laid .parts-is) ∙ parted l (h .layout) .alike g) found
+    count = found-count p (l .m) looks ks (λ g. sym (h .layout .parts-is) ∙ parted l (h .layout) .alike g) found
 
     same : (j : ℕ) → j < l .m → getD ks j 0 ≡ getD (a .blocks) j 0
     same j g = getD-take (l .m) (a .blocks) j 0 g

@@ -12,8 +12,8 @@ use Rattle.combinatorics.proofs.Cases.{eqb-false}
 use Rattle.combinatorics.proofs.Loops.{left-next}
 use Rattle.cells.specs.Digits.{plain, span, value, places}
 use Rattle.cells.proofs.Digits.{horner, horner-is, horner-capped, horner-blocks}
-use Rattle.construction_a.specs.Figures.{Params, headOf, indexTail}
-use Rattle.construction_a.specs.Reading.{looksFixed, heads, written}
+use Rattle.construction_a.specs.Figures.{Params, headOf}
+use Rattle.construction_a.specs.Reading.{looksFixed, headsWith, writtenWith}
 
 -- ---- Digit by digit
 
@@ -62,48 +62,46 @@ module _ (q r cap high : ℕ) (h : 2 ≤ q) where
 -- ---- Block by block
 
 -- the digits of the first j of a list of blocks are taken in
-pub record Summed (f : Params) (w ks : List ℕ) (cap j v : ℕ) : Type 0 where
+pub record Summed (r : ℕ) (f : Params) (w ks : List ℕ) (cap j v : ℕ) : Type 0 where
   pub most : v ≤ cap
-  pub same : min (horner (f .q) (places (f .m - j) (indexTail f)) (heads f w (drop j (take (f .m) ks))) v) cap ≡ min (written f w (take (f .m) ks)) cap
+  pub same : min (horner (f .q) (places (f .m - j) r) (headsWith r f w (drop j (take (f .m) ks))) v) cap ≡ min (writtenWith r f w (take (f .m) ks)) cap
 
-module _ (f : Params) (w ks : List ℕ) (cap : ℕ) (h : 2 ≤ f .q) where
-  pub summed-none : Summed f w ks cap 0 0
-  unfolding written
+module _ (r : ℕ) (f : Params) (w ks : List ℕ) (cap : ℕ) (h : 2 ≤ f .q) where
+  pub summed-none : Summed r f w ks cap 0 0
   summed-none =
       let e : f .m - 0 ≡ f .m = omega arith in
-      let hs = heads f w (take (f .m) ks) in
+      let hs = headsWith r f w (take (f .m) ks) in
       record {
         most = omega arith;
-        same = rw e (ap (λ (y : ℕ). min y cap) (horner-is (f .q) (places (f .m) (indexTail f)) hs 0 ∙ omega arith));
+        same = rw e (ap (λ (y : ℕ). min y cap) (horner-is (f .q) (places (f .m) r) hs 0 ∙ omega arith));
       }
 
   module _ (j v : ℕ) where
-    one-block : (part : List ℕ) → j < f .m → f .m ≤ length ks → ((i : ℕ) → i < suc (indexTail f) → getD part i 0 ≡ getD w (headOf f (getD ks j 0) + i) 0)
-        → horner (f .q) (places (f .m - j) (indexTail f)) (heads f w (drop j (take (f .m) ks))) v
-        ≡ horner (f .q) (places (f .m - (j + 1)) (indexTail f)) (heads f w (drop (j + 1) (take (f .m) ks))) (horner (f .q) (places 1 (indexTail f)) part v)
-    unfolding heads
+    one-block : (part : List ℕ) → j < f .m → f .m ≤ length ks → ((i : ℕ) → i < suc r → getD part i 0 ≡ getD w (headOf f (getD ks j 0) + i) 0)
+        → horner (f .q) (places (f .m - j) r) (headsWith r f w (drop j (take (f .m) ks))) v
+        ≡ horner (f .q) (places (f .m - (j + 1)) r) (headsWith r f w (drop (j + 1) (take (f .m) ks))) (horner (f .q) (places 1 r) part v)
     one-block part l g p =
         let e : f .m - j ≡ suc (f .m - (j + 1)) = omega arith in
         rw (e, left-next (f .m) j ks l g)
-        (horner-blocks (f .q) (indexTail f) (headOf f) (λ x. getD w x 0) (f .m - (j + 1)) (getD ks j 0) (drop (j + 1) (take (f .m) ks)) part v p)
+        (horner-blocks (f .q) r (headOf f) (λ x. getD w x 0) (f .m - (j + 1)) (getD ks j 0) (drop (j + 1) (take (f .m) ks)) part v p)
 
-    pub summed-on : (part : List ℕ) → j < f .m → f .m ≤ length ks → ((i : ℕ) → i < suc (indexTail f) → getD part i 0 ≡ getD w (headOf f (getD ks j 0) + i) 0)
-        → Summed f w ks cap j v → Summed f w ks cap (j + 1) (min (v * span (f .q) (places 1 (indexTail f)) + value (f .q) (places 1 (indexTail f)) part) cap)
+    pub summed-on : (part : List ℕ) → j < f .m → f .m ≤ length ks → ((i : ℕ) → i < suc r → getD part i 0 ≡ getD w (headOf f (getD ks j 0) + i) 0)
+        → Summed r f w ks cap j v → Summed r f w ks cap (j + 1) (min (v * span (f .q) (places 1 r) + value (f .q) (places 1 r) part) cap)
     summed-on part l g p s =
-        let ps = places 1 (indexTail f) in
-        let rest = places (f .m - (j + 1)) (indexTail f) in
-        let hs = heads f w (drop (j + 1) (take (f .m) ks)) in
+        let ps = places 1 r in
+        let rest = places (f .m - (j + 1)) r in
+        let hs = headsWith r f w (drop (j + 1) (take (f .m) ks)) in
         record {
           most = omega arith;
           same = rw (← horner-is (f .q) ps part v)
               (horner-capped (f .q) rest hs (horner (f .q) ps part v) cap h ∙ ap (λ (y : ℕ). min y cap) (sym (one-block part l g p)) ∙ s .same);
         }
 
-    pub summed-all : f .m ≤ j → Summed f w ks cap j v → v ≡ min (written f w (take (f .m) ks)) cap
+    pub summed-all : f .m ≤ j → Summed r f w ks cap j v → v ≡ min (writtenWith r f w (take (f .m) ks)) cap
     unfolding horner places
     summed-all l s =
         let e : f .m - j ≡ 0 = omega arith in
-        let all : min v cap ≡ min (written f w (take (f .m) ks)) cap = rw e at (s .same) in
+        let all : min v cap ≡ min (writtenWith r f w (take (f .m) ks)) cap = rw e at (s .same) in
         omega (arith, s .most, all)
 
 -- ---- Blocks that don't look F

@@ -12,34 +12,34 @@ use Rattle.combinatorics.specs.Stretch.{tabulate}
 use Rattle.combinatorics.proofs.Lists.{all-both}
 use Rattle.combinatorics.proofs.Loops.{left-next, left-none}
 use Rattle.combinatorics.proofs.Stretch.{take-is}
-use Rattle.construction_a.specs.Figures.{Params, headOf, indexTail}
-use Rattle.construction_a.specs.Reading.{heads}
+use Rattle.construction_a.specs.Figures.{Params, headOf}
+use Rattle.construction_a.specs.Reading.{headsWith}
 
-module _ (f : Params) (w ks : List ℕ) where
+module _ (r : ℕ) (f : Params) (w ks : List ℕ) where
   -- those of the blocks from j on decide for all
   abbrev pub Tested : ℕ → Type 0
-  Tested j = allBelow (f .q) (heads f w (drop j (take (f .m) ks))) ≡ allBelow (f .q) (heads f w (take (f .m) ks))
+  Tested j = allBelow (f .q) (headsWith r f w (drop j (take (f .m) ks))) ≡ allBelow (f .q) (headsWith r f w (take (f .m) ks))
 
   pub tested-none : Tested 0
   tested-none = refl
 
   -- the first 1 + r symbols of block j, lent as a part of the word
-  module _ (j : ℕ) (part : List ℕ) (l : j < f .m) (long : f .m ≤ length ks) (size : length part ≡ suc (indexTail f))
-      (at : (i : ℕ) → i < suc (indexTail f) → getD part i 0 ≡ getD w (headOf f (getD ks j 0) + i) 0) where
-    one-block : allBelow (f .q) (heads f w (drop j (take (f .m) ks))) ≡ (allBelow (f .q) part && allBelow (f .q) (heads f w (drop (j + 1) (take (f .m) ks))))
-    unfolding heads flatMap
+  module _ (j : ℕ) (part : List ℕ) (l : j < f .m) (long : f .m ≤ length ks) (size : length part ≡ suc r)
+      (at : (i : ℕ) → i < suc r → getD part i 0 ≡ getD w (headOf f (getD ks j 0) + i) 0) where
+    one-block : allBelow (f .q) (headsWith r f w (drop j (take (f .m) ks))) ≡ (allBelow (f .q) part && allBelow (f .q) (headsWith r f w (drop (j + 1) (take (f .m) ks))))
+    unfolding flatMap
     one-block =
-        let here = tabulate (suc (indexTail f)) (headOf f (getD ks j 0)) (λ x. getD w x 0) in
+        let here = tabulate (suc r) (headOf f (getD ks j 0)) (λ x. getD w x 0) in
         let is : part ≡ here =
-        sym (take-all (suc (indexTail f)) part (omega (arith, size))) ∙ take-is (suc (indexTail f)) (headOf f (getD ks j 0)) part (λ x. getD w x 0) (omega (arith, size)) at in
-        rw (left-next (f .m) j ks l long, is) (all-both (λ x. ltb x (f .q)) here (heads f w (drop (j + 1) (take (f .m) ks))))
+        sym (take-all (suc r) part (omega (arith, size))) ∙ take-is (suc r) (headOf f (getD ks j 0)) part (λ x. getD w x 0) (omega (arith, size)) at in
+        rw (left-next (f .m) j ks l long, is) (all-both (λ x. ltb x (f .q)) here (headsWith r f w (drop (j + 1) (take (f .m) ks))))
 
     pub tested-on : allBelow (f .q) part ≡ true → Tested j → Tested (j + 1)
     tested-on e t = (rw e at (sym one-block)) ∙ t
 
-    pub tested-fails : allBelow (f .q) part ≡ false → Tested j → allBelow (f .q) (heads f w (take (f .m) ks)) ≡ false
+    pub tested-fails : allBelow (f .q) part ≡ false → Tested j → allBelow (f .q) (headsWith r f w (take (f .m) ks)) ≡ false
     tested-fails e t = sym t ∙ (rw e at one-block)
 
-  pub tested-all : (j : ℕ) → f .m ≤ j → Tested j → allBelow (f .q) (heads f w (take (f .m) ks)) ≡ true
-  unfolding heads flatMap all
+  pub tested-all : (j : ℕ) → f .m ≤ j → Tested j → allBelow (f .q) (headsWith r f w (take (f .m) ks)) ≡ true
+  unfolding flatMap all
   tested-all j l t = sym t ∙ (rw (left-none (f .m) j ks l))

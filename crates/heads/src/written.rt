@@ -4,8 +4,7 @@ ghost use Prim.Native.Nat.{_+_, _*_, _<_, min};
 ghost use lib.ListN.{take};
 ghost use Rattle.cells.specs.Digits.{span, value, places};
 ghost use Rattle.combinatorics.specs.Lists.{allBelow};
-ghost use Rattle.construction_a.specs.Reading;
-ghost use Rattle.construction_a.specs.Reading.{written};
+ghost use Rattle.construction_a.specs.Reading.{headsWith, writtenWith};
 ghost use Rattle.params.specs.Given.{figuresOf, HeadsOf};
 ghost use Rattle.heads.specs.Written.{Shown, LeadsIn};
 use params::Layout;
@@ -19,7 +18,7 @@ pub fn written_value(
     blocks: [u8; Placement::MAX],
 ) -> u64
     requires { ⌜ Shown layout (now word) blocks × HeadsOf (figuresOf layout) (now heads) ⌝ }
-    ensures { λ r. ⌜ r ≡ min (written (figuresOf layout) (now (word .entry)) (take (layout .m) blocks)) (layout .«placement_count») ⌝ }
+    ensures { λ r. ⌜ r ≡ min (writtenWith (layout .«index_tail») (figuresOf layout) (now (word .entry)) (take (layout .m) blocks)) (layout .«placement_count») ⌝ }
 {
     let cap = layout.placement_count;
     let mut value: u64 = 0;
@@ -41,7 +40,7 @@ pub fn heads_below(
     blocks: [u8; Placement::MAX],
 ) -> bool
     requires { ⌜ Shown layout (now word) blocks × HeadsOf (figuresOf layout) (now heads) ⌝ }
-    ensures { λ r. ⌜ r ≡ allBelow (layout .q) (Rattle.construction_a.specs.Reading.heads (figuresOf layout) (now (word .entry)) (take (layout .m) blocks)) ⌝ }
+    ensures { λ r. ⌜ r ≡ allBelow (layout .q) (headsWith (layout .«index_tail») (figuresOf layout) (now (word .entry)) (take (layout .m) blocks)) ⌝ }
 {
     let mut j: usize = 0;
     while j < layout.m {

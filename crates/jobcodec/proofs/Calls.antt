@@ -15,13 +15,13 @@ use Rattle.cells.specs.Bytes.{payloadLen}
 use Rattle.construction_a.specs.Figures.{Params, maxWord, inRange, fits, messageLen}
 use Rattle.construction_a.specs.Writing.{word}
 use Rattle.construction_a.specs.Outcomes.{Held, inUse, Encoded, unwritten, unserved, figuresOut}
-use Rattle.construction_a.proofs.Figures.{serve}
 use Rattle.construction_a.proofs.Outcomes.{figured-fits}
 use Rattle.params.specs.Answer.{figuredAs}
 use Rattle.params.specs.declared.LayoutAnswer.{LayoutAnswer}
 use Rattle.params.specs.declared.LayoutAnswer.the-variants.{Fit}
 use Rattle.params.specs.declared.Layout.{Layout}
-use Rattle.params.proofs.Answered.{Told, fit-learnt, Bounds, bounds}
+use Rattle.params.proofs.Answered.{Told, fit-learnt, Bounds}
+use Rattle.params.proofs.Fitting.{laid-fits, bound}
 use Rattle.jobs.specs.declared.Entry.{Entry}
 use Rattle.jobs.specs.Jobs.{isJob, Status, unknown, opened, onHold, cancelled, needsOpen}
 use Rattle.ledger.specs.Replay.{ReplayOut, replayOut}
@@ -62,7 +62,7 @@ module _ (f : Params) (es : List Entry) where
 
 module _ (f : Params) (l : Layout) (es : List Entry) (h : Laid f l es) where
   pub laid-bounds : Bounds l
-  laid-bounds = bounds f l (serve f (h .range) (h .fit)) (h .layout)
+  laid-bounds = bound l (laid-fits f l (h .range) (h .fit) (h .layout) .1)
 
   pub bytes-are : (count : ℕ) → count ≡ payloadLen (l .q) (l .«message_len») → count ≡ payloadLen (f .q) (messageLen f)
   bytes-are count e = e ∙ rw (h .layout .q-is, h .layout .len-is)

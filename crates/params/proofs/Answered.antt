@@ -1,12 +1,9 @@
 -- What a caller learns of a layout that was answered. Assumes nothing.
 use mathlib.Core.Path.{_≡_, sym, ap, _∙_, subst}
 use Prim.Native.Nat.{ℕ, _*_, _≤_, _<_}
-use native.Mathlib.Nat.{mul-le-mul}
-use native.Mathlib.Omega.{arith}
-use Rattle.cells.specs.Cut.{blockHead}
-use Rattle.construction_a.specs.Figures.{Params, maxWord, maxAlphabet, maxBursts, blockMin, headOf}
+use Rattle.construction_a.specs.Figures.{Params, maxWord, maxAlphabet, maxBursts}
 use Rattle.construction_a.specs.Outcomes.{unserved, figuresNumber, figuresOut}
-use Rattle.construction_a.proofs.Figures.{Served, parts-few}
+use Rattle.construction_a.proofs.Figures.{Served}
 use Rattle.construction_a.proofs.Outcomes.{figured-served}
 use Rattle.params.specs.declared.Layout.{Layout}
 use Rattle.params.specs.declared.LayoutAnswer.{LayoutAnswer}
@@ -42,27 +39,4 @@ pub record Bounds (l : Layout) : Type 0 where
   pub parts-least : 3 ≤ l .parts
   pub parts-most : l .parts ≤ maxBursts
   pub blocks-most : l .parts * l .m ≤ maxBursts * maxBursts
-  pub tail-room : l .«index_tail» < l .«block_min»
-
-pub bounds : (f : Params) (l : Layout) → Served f → LaidOut f l → Bounds l
-unfolding blockMin
-bounds f l ok is =
-    let r = ok .range in
-    let p : l .parts ≤ maxBursts = omega (arith, parts-few f r) in
-    let m : l .m ≤ maxBursts = omega arith in
-    record {
-      n-most = omega arith;
-      q-least = omega arith;
-      q-most = omega arith;
-      m-least = omega arith;
-      m-most = m;
-      b-least = omega arith;
-      parts-least = omega arith;
-      parts-most = p;
-      blocks-most = mul-le-mul {n₂ = maxBursts} {m₂ = maxBursts} p m;
-      tail-room = omega arith;
-    }
-
--- the first position of a block, by the figures
-pub head-is : (f : Params) (l : Layout) (k : ℕ) → LaidOut f l → blockHead (l .n) (l .parts) (l .m) k ≡ headOf f k
-head-is f l k is = rw (is .n-is, is .parts-is, is .m-is)
+  pub tail-room : l .«index_tail» < l .n

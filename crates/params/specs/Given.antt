@@ -1,10 +1,12 @@
--- What inner functions of the layers above may count on: a layout of figures that fit. Assumes nothing.
+-- What inner functions of the layers above may count on: a layout of figures that fit, or the shape of its words alone. Assumes nothing.
 use mathlib.Core.Path.{_≡_}
 use mathlib.Core.Bool.{true}
 use mathlib.Core.List.{List}
-use Prim.Native.Nat.{ℕ, _*_, _≤_}
+use Prim.Native.Nat.{ℕ, _+_, _-_, _*_, _≤_, _<_}
 use lib.ListN.{getD}
-use Rattle.construction_a.specs.Figures.{Params, params, maxBursts, inRange, fits, blocks, headOf}
+use Rattle.cells.specs.Plan.{Frame, Spares}
+use Rattle.construction_a.specs.Figures.{Params, params, maxBursts, inRange, isPlacement, parts, blocks, headOf, blockMin, fits}
+use Rattle.construction_a.specs.Writing.{frameWith}
 use Rattle.params.specs.Answer.{LaidOut}
 use Rattle.params.specs.declared.Layout.{Layout}
 
@@ -25,6 +27,21 @@ pub record Fitting (l : Layout) : Type 0 where
   pub range : inRange (figuresOf l) ≡ true
   pub fit : fits (figuresOf l) ≡ true
   pub laid : LaidOut (figuresOf l) l
+
+-- the blocks of a placement's word and its bursts, by the layout's own r
+abbrev pub frameOf : Layout → List ℕ → Frame
+frameOf l ss = frameWith (l .«index_tail») (figuresOf l) ss
+
+-- a layout whose words have this shape, whichever construction laid it out: figures in range; a word cut into as many parts as they say; blocks with room
+-- for 1 + r symbols, and for a burst; k symbols left for the message; bursts that spare the heads of I- and F-blocks
+pub record Shaped (l : Layout) : Type 0 where
+  pub range : inRange (figuresOf l) ≡ true
+  pub parts-is : l .parts ≡ parts (figuresOf l)
+  pub total : l .m * l .b ≤ l .n
+  pub room : l .«index_tail» < blockMin (figuresOf l)
+  pub short : l .b ≤ blockMin (figuresOf l)
+  pub len-is : l .«message_len» + l .m * (l .b + l .parts + l .«index_tail» - 1) ≡ l .n
+  pub spares : (ss : List ℕ) → isPlacement (figuresOf l) ss ≡ true → Spares (frameOf l ss)
 
 -- the first position of each block, and behind them the word's length
 abbrev pub HeadsOf : Params → List ℕ → Type 0

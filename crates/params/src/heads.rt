@@ -4,13 +4,13 @@ ghost use Prim.Native.Nat.{ℕ, suc, _+_, _≤_, _<_};
 ghost use lib.ListN.{length, getD};
 ghost use Rattle.cells.specs.Cut.{pieceStart};
 ghost use Rattle.construction_a.specs.Figures.{maxWord};
-ghost use Rattle.params.specs.Given.{maxBlocks, figuresOf, Fitting, HeadsOf};
+ghost use Rattle.params.specs.Given.{maxBlocks, figuresOf, Shaped, HeadsOf};
 use crate::Layout;
 use crate::cut;
 
 // The first position of each block, counted through the word, and behind them the word's length.
 pub fn heads_of(layout: Layout) -> [u16; Layout::MAX_HEADS]
-    requires { ⌜ Fitting layout ⌝ }
+    requires { ⌜ Shaped layout ⌝ }
     ensures { λ r. ⌜ HeadsOf (figuresOf layout) r ⌝ }
 {
     let parts = layout.parts;

@@ -9,7 +9,7 @@ ghost use Rattle.cells.specs.Erasures.{foundBound};
 ghost use Rattle.params.specs.Bridge.{given};
 ghost use Rattle.params.specs.Answer.{figuredAs, layoutNumber, LaidIn};
 ghost use Rattle.params.specs.Blocks.{HasPosition};
-ghost use Rattle.params.specs.Given.{figuresOf, Fitting, HeadsOf};
+ghost use Rattle.params.specs.Given.{figuresOf, Shaped, HeadsOf};
 use binomials::CountAnswer;
 use refusals::Refusal;
 
@@ -199,7 +199,7 @@ impl Layout {
 
     // The first position of block k, counted through the word, from the array of all; the word's length for the number behind the last block's.
     pub fn block_head(self, heads: &[u16; Layout::MAX_HEADS], k: usize) -> usize
-        requires { ⌜ Fitting self × HeadsOf (figuresOf self) (now heads) × (k ≤ self .parts * self .m) ⌝ }
+        requires { ⌜ Shaped self × HeadsOf (figuresOf self) (now heads) × (k ≤ self .parts * self .m) ⌝ }
         ensures { λ r. ⌜ r ≡ blockHead (self .n) (self .parts) (self .m) k ⌝ }
     {
         let head = heads[k];

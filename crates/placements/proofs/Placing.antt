@@ -10,17 +10,17 @@ use Rattle.combinatorics.proofs.Bursts.{Placed, placed-at}
 use Rattle.combinatorics.proofs.Cases.{eqb-same}
 use Rattle.construction_a.specs.Figures.{maxBursts, isPlacement}
 use Rattle.construction_a.proofs.Figures.{placed-starts}
-use Rattle.params.specs.Given.{figuresOf, Fitting}
-use Rattle.params.proofs.Fitting.{served}
+use Rattle.params.specs.Given.{figuresOf, Shaped}
+use Rattle.params.proofs.Shape.{in-range}
 use Rattle.params.specs.declared.Layout.{Layout}
 use Rattle.placements.specs.Bridge.{startsIn, Placing}
 use Rattle.placements.specs.declared.Placement.{Placement}
 
 -- a placement that passed the tests for refusals 3 and 5
-pub placing-of : (l : Layout) (at : Placement) → length (at .starts) ≡ maxBursts → Fitting l → at .count ≡ l .m → apart (l .b) (l .n) 0 (startsIn at) ≡ true → Placing l at
+pub placing-of : (l : Layout) (at : Placement) → length (at .starts) ≡ maxBursts → Shaped l → at .count ≡ l .m → apart (l .b) (l .n) 0 (startsIn at) ≡ true → Placing l at
 unfolding isPlacement
 placing-of l at sized g e valid =
-    let count : length (startsIn at) ≡ l .m = length-take-le (at .count) (at .starts) (omega (arith, served l g .range .m-most, sized)) ∙ e in
+    let count : length (startsIn at) ≡ l .m = length-take-le (at .count) (at .starts) (omega (arith, in-range l g .m-most, sized)) ∙ e in
     record { layout = g; count = e; placed = rw (eqb-same (length (startsIn at)) (l .m) count) valid }
 
 module _ (l : Layout) (at : Placement) (g : Placing l at) where

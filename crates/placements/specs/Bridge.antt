@@ -8,7 +8,7 @@ use lib.ListN.{length, getD}
 use Rattle.combinatorics.specs.Bursts.{apart, placements, rankOf, startsOf, coverRank}
 use Rattle.construction_a.specs.Figures.{maxWord, maxBursts, maxCount, isPlacement}
 use Rattle.construction_a.specs.Outcomes.{Held, inUse, held, worn, Covered}
-use Rattle.params.specs.Given.{figuresOf, Fitting}
+use Rattle.params.specs.Given.{figuresOf, Shaped}
 use Rattle.params.specs.declared.Layout.{Layout}
 use Rattle.placements.specs.declared.Placement.{Placement}
 use Rattle.placements.specs.declared.CoverAnswer.{CoverAnswer}
@@ -60,8 +60,8 @@ leastCover n m b map = cond (coverable n m b map) (held (startsOf n m b (coverRa
 abbrev pub coveredAs : CoverAnswer → Covered
 coveredAs c = record { answer = c .answer; placement = heldAs (c .placement) }
 
--- a placement of the bursts of a layout whose figures fit
+-- a placement of the bursts of a layout
 pub record Placing (l : Layout) (at : Placement) : Type 0 where
-  pub layout : Fitting l
+  pub layout : Shaped l
   pub count : at .count ≡ l .m
   pub placed : isPlacement (figuresOf l) (startsIn at) ≡ true

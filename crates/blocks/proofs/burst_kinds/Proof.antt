@@ -7,7 +7,7 @@ use Rattle.cells.proofs.Cut.{block-with}
 use Rattle.placements.specs.Bridge.{startsIn}
 use Rattle.params.specs.Given.{figuresOf}
 use Rattle.blocks.proofs.Bursting.{Bursting, bursting-start, bursting-turn, bursting-done}
-use Rattle.params.proofs.Fitting.{blocks-fit, blocks-most, blocks-wide, many, served}
+use Rattle.params.proofs.Shape.{in-range, bound, blocks-fit, blocks-most, blocks-wide, many}
 use Rattle.placements.proofs.Placing.{starts-count, start-is, start-in}
 use Rattle.blocks.proofs.burst_kinds.Statement.{statement}
 use Rattle.blocks.proofs.burst_kinds.Tie as tie
@@ -27,37 +27,37 @@ loop-holds c = (omega arith, refl, bursting-start (figuresOf (c .before .args .l
 mul-s : tie.Need-mul-s Inv-loop μ-loop
 mul-s c =
     let s = c .before .before .before .before in
-    omega (arith, served (s .args .layout) (s .pre .layout) .range .m-most)
+    omega (arith, in-range (s .args .layout) (s .pre .layout) .m-most)
 
 element-copy-out-s : tie.Need-element-copy-out-s Inv-loop μ-loop
 element-copy-out-s c =
     let s = c .before .before .before .before in
-    omega (arith, served (s .args .layout) (s .pre .layout) .range .m-most)
+    omega (arith, in-range (s .args .layout) (s .pre .layout) .m-most)
 
 cast-start : tie.Need-cast-start Inv-loop μ-loop
 cast-start c =
     let s = c .before .before .before .before .before in
-    omega (arith, start-in (s .args .layout) (s .args .t2) (s .pre) (c .before .before .before .loop .j) (omega arith), served (s .args .layout) (s .pre .layout) .long)
+    omega (arith, start-in (s .args .layout) (s .args .t2) (s .pre) (c .before .before .before .loop .j) (omega arith), in-range (s .args .layout) (s .pre .layout) .b-least)
 
 add-block-of : tie.Need-add-block-of Inv-loop μ-loop
 add-block-of c =
     let s = c .before .before .before .before .before .before in
-    omega (arith, start-in (s .args .layout) (s .args .t2) (s .pre) (c .before .before .before .before .loop .j) (omega arith), served (s .args .layout) (s .pre .layout) .long)
+    omega (arith, start-in (s .args .layout) (s .args .t2) (s .pre) (c .before .before .before .before .loop .j) (omega arith), in-range (s .args .layout) (s .pre .layout) .b-least)
 
 sub-block-of : tie.Need-sub-block-of Inv-loop μ-loop
 sub-block-of c =
     let s = c .before .before .before .before .before .before in
-    omega (arith, start-in (s .args .layout) (s .args .t2) (s .pre) (c .before .before .before .before .loop .j) (omega arith), served (s .args .layout) (s .pre .layout) .long)
+    omega (arith, start-in (s .args .layout) (s .args .t2) (s .pre) (c .before .before .before .before .loop .j) (omega arith), in-range (s .args .layout) (s .pre .layout) .b-least)
 
 block-of-requires : tie.Need-block-of-requires Inv-loop μ-loop
 block-of-requires c κs =
     let s = c .before .before .before .before .before .before in
-    let ok = served (s .args .layout) (s .pre .layout) in
+    let b = bound (s .args .layout) (s .pre .layout) in
     record {
-      some-parts = omega (arith, s .pre .layout .laid .parts-is, ok .three);
-      some-blocks = ok .some;
+      some-parts = omega (arith, b .parts-least);
+      some-blocks = b .m-least;
       wide = blocks-wide (s .args .layout) (s .pre .layout);
-      inside = omega (arith, start-in (s .args .layout) (s .args .t2) (s .pre) (c .before .before .before .before .loop .j) (omega arith), ok .long);
+      inside = omega (arith, start-in (s .args .layout) (s .args .t2) (s .pre) (c .before .before .before .before .loop .j) (omega arith), b .b-least);
     }
 
 with-burst-requires : tie.Need-with-burst-requires Inv-loop μ-loop
@@ -65,12 +65,12 @@ with-burst-requires c κs =
     let s = c .before .before .before .before .before .before .before in
     let b = c .before .before .before .before .before in
     let l = s .args .layout in
-    let ok = served l (s .pre .layout) in (
+    let g = bound l (s .pre .layout) in (
       rw (c .block-of .ensures)
-          (block-with (l .n) (l .parts) (l .m) (getD (s .args .t2 .starts) (b .loop .j) 0 + l .b - 1) (omega (arith, s .pre .layout .laid .parts-is, ok .three)) (ok .some)
-          (omega (arith, start-in l (s .args .t2) (s .pre) (b .loop .j) (omega arith), ok .long)) .below),
+          (block-with (l .n) (l .parts) (l .m) (getD (s .args .t2 .starts) (b .loop .j) 0 + l .b - 1) (omega (arith, g .parts-least)) (g .m-least)
+          (omega (arith, start-in l (s .args .t2) (s .pre) (b .loop .j) (omega arith), g .b-least)) .below),
       blocks-fit l (s .pre .layout),
-      rw (s .pre .layout .laid .parts-is) (omega (arith, b .loop .inv .2 .marked, many l (s .pre .layout))),
+      rw (s .pre .layout .parts-is) (omega (arith, b .loop .inv .2 .marked, many l (s .pre .layout))),
     )
 
 add-j : tie.Need-add-j Inv-loop μ-loop
@@ -85,8 +85,7 @@ loop-again c =
     let b = c .before .before .before .before .before .before in
     let l = s .args .layout in
     let f = figuresOf l in
-    let p = s .pre .layout .laid .parts-is in
-    let ok = served l (s .pre .layout) in (
+    let p = s .pre .layout .parts-is in (
       omega arith,
       refl,
       rw (c .with-burst .ensures, p)

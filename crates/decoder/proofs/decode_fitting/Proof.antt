@@ -4,6 +4,7 @@ use borrow.Author.Needs.{needs}
 use borrow.Author.Tests.{not-true, not-false}
 use Rattle.construction_a.specs.Figures.{Params}
 use Rattle.params.specs.Given.{figuresOf}
+use Rattle.params.proofs.Fitting.{shaped}
 use Rattle.decoder.proofs.Calls.{decode-short, decode-room, decode-symbol, decode-read}
 use Rattle.decoder.proofs.decode_fitting.Statement.{statement}
 use Rattle.decoder.proofs.decode_fitting.Tie as tie
@@ -44,16 +45,17 @@ returns-3 c =
     ∙ sym (decode-symbol (f s) (s .args .word .now) (s .args .message .now) (s .pre .range) (s .pre .fit) (c .before .before .before .before .before .before .if1 .left) (c .before .before .before .before .if2 .left ∙ s .pre .laid .len-is) (sym (c .before .before .can-be-found .ensures) ∙ not-true _ (c .before .if3 .taken)))
 
 heads-of-requires : tie.Need-heads-of-requires
-heads-of-requires c κs = search needs
+heads-of-requires c κs = let s = c .before .before .before .before .before .before .before .before .before in shaped (s .args .layout) (s .pre)
 
 decode-found-requires : tie.Need-decode-found-requires
 decode-found-requires c κs =
     let s = c .before .before .before .before .before .before .before .before .before .before .before .before in (
       record {
-        finding = record { layout = s .pre; complete = c .before .before .before .before .before .before .before .before .if1 .left };
+        fitting = s .pre;
+        finding = record { layout = shaped (s .args .layout) (s .pre); complete = c .before .before .before .before .before .before .before .before .if1 .left };
         found = sym (c .before .before .before .before .can-be-found .ensures) ∙ not-false _ (c .before .before .before .if3 .left);
         scanned = c .before .before .before .before .before .all-below .ensures;
-        room = c .before .before .before .before .before .before .if2 .left ∙ s .pre .laid .len-is;
+        room = c .before .before .before .before .before .before .if2 .left;
       },
       c .before .before .heads-of .ensures,
     )

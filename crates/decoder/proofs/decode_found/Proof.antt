@@ -12,12 +12,12 @@ use Rattle.combinatorics.specs.Lists.{allBelow}
 use Rattle.combinatorics.proofs.Lists.{below-at}
 use Rattle.cells.specs.Erasures.{foundBound}
 use Rattle.cells.proofs.Erasures.{found-least, below-whole}
-use Rattle.construction_a.specs.Figures.{Params, parts}
+use Rattle.construction_a.specs.Figures.{Params, parts, indexTail}
 use Rattle.construction_a.specs.Outcomes.{decodeAs}
 use Rattle.construction_a.specs.Reading.{looksFixed, indexFound, heads, written, readRank}
 use Rattle.construction_a.proofs.Found.{heads-below}
 use Rattle.params.specs.Given.{figuresOf}
-use Rattle.params.proofs.Fitting.{bound}
+use Rattle.params.proofs.Fitting.{bound, heads-are, written-is}
 use Rattle.heads.proofs.Listed.{index-none}
 use Rattle.heads.proofs.Looking.{shown}
 use Rattle.decoder.proofs.Calls.{read-none, read-erased, read-large, read-shown, index-some}
@@ -58,10 +58,11 @@ unread-requires-2 c κs = search needs
 
 -- no value above q is left
 known : (s : tie.Start) (ks : List ℕ) → allBelow (foundBound (f s .q)) (heads (f s) (s .args .word .now) ks) ≡ true
+unfolding heads
 known s ks =
     let q = f s .q in
-    heads-below (f s) (foundBound q) (s .args .word .now) ks
-    (below-at (foundBound q) (s .args .word .now) (omega (arith, found-least q, bound (s .args .layout) (s .pre .0 .finding .layout) .q-least)) (s .pre .0 .found))
+    heads-below (indexTail (f s)) (f s) (foundBound q) (s .args .word .now) ks
+    (below-at (foundBound q) (s .args .word .now) (omega (arith, found-least q, bound (s .args .layout) (s .pre .0 .fitting) .q-least)) (s .pre .0 .found))
 
 returns-2 : tie.Need-returns-2
 returns-2 c =
@@ -69,7 +70,8 @@ returns-2 c =
     let ks = take (s .args .layout .m) (c .before .before .before .before .before .before .index-read .result .blocks) in
     c .unread2 .ensures (s .args .message .now)
     ∙ sym (ap (decodeAs (f s) (s .args .message .now))
-    (read-erased (f s) (s .args .word .now) ks (found (c .before .before .before .before)) (known s ks) (sym (c .before .before .index-whole .ensures) ∙ not-true _ (c .before .if2 .taken))))
+    (read-erased (f s) (s .args .word .now) ks (found (c .before .before .before .before)) (known s ks)
+    (ap (allBelow (f s .q)) (sym (heads-are (s .args .layout) (s .pre .0 .fitting) (s .args .word .now) ks)) ∙ sym (c .before .before .index-whole .ensures) ∙ not-true _ (c .before .if2 .taken))))
 
 written-value-requires : tie.Need-written-value-requires
 written-value-requires c κs =
@@ -79,7 +81,10 @@ written-value-requires c κs =
 
 -- the first symbols of the index blocks are below q
 whole : (c : tie.Else2) → allBelow (f (c .before .before .before .before .before .before .before .before) .q) (heads (f (c .before .before .before .before .before .before .before .before)) (c .before .before .before .before .before .before .before .before .args .word .now) (take (c .before .before .before .before .before .before .before .before .args .layout .m) (c .before .before .before .before .before .index-read .result .blocks))) ≡ true
-whole c = sym (c .before .index-whole .ensures) ∙ not-false _ (c .if2 .left)
+whole c =
+    let s = c .before .before .before .before .before .before .before .before in
+    let ks = take (s .args .layout .m) (c .before .before .before .before .before .index-read .result .blocks) in
+    ap (allBelow (f s .q)) (sym (heads-are (s .args .layout) (s .pre .0 .fitting) (s .args .word .now) ks)) ∙ sym (c .before .index-whole .ensures) ∙ not-false _ (c .if2 .left)
 
 unread-requires-3 : tie.Need-unread-requires-3
 unread-requires-3 c κs = search needs
@@ -90,7 +95,7 @@ returns-3 c =
     let ks = take (s .args .layout .m) (c .before .before .before .before .before .before .before .before .before .index-read .result .blocks) in
     c .unread3 .ensures (s .args .message .now)
     ∙ sym (ap (decodeAs (f s) (s .args .message .now))
-    (read-large (f s) (s .args .word .now) ks (found (c .before .before .before .before .before .before .before)) (known s ks) (whole (c .before .before .before .before)) (omega (arith, c .before .before .before .written-value .ensures, c .before .if3 .taken, s .pre .0 .finding .layout .laid .count-is))))
+    (read-large (f s) (s .args .word .now) ks (found (c .before .before .before .before .before .before .before)) (known s ks) (whole (c .before .before .before .before)) (omega (arith, written-is (s .args .layout) (s .pre .0 .fitting) (s .args .word .now) ks, c .before .before .before .written-value .ensures, c .before .if3 .taken, s .pre .0 .fitting .laid .count-is))))
 
 decode-rank-requires : tie.Need-decode-rank-requires
 decode-rank-requires c κs =
@@ -100,8 +105,8 @@ decode-rank-requires c κs =
       record {
         lent = s .pre .0;
         index = record { pattern = found (c .before .before .before .before .before .before .before); whole = below-whole (f s .q) (heads (f s) w ks) (whole (c .before .before .before .before)) };
-        spelled = omega (arith, c .before .before .before .written-value .ensures, c .before .if3 .left);
-        below = omega (arith, c .before .if3 .left, s .pre .0 .finding .layout .laid .count-is);
+        spelled = omega (arith, written-is (s .args .layout) (s .pre .0 .fitting) w ks, c .before .before .before .written-value .ensures, c .before .if3 .left);
+        below = omega (arith, c .before .if3 .left, s .pre .0 .fitting .laid .count-is);
       },
       s .pre .1,
     )
@@ -114,7 +119,7 @@ returns-4 c =
     let s = c .before .before .before .before .before .before .before .before .before .before .before .before .before .before .before in
     let w = s .args .word .now in
     let ks = take (s .args .layout .m) (c .before .before .before .before .before .before .before .before .before .before .before .before .index-read .result .blocks) in
-    let v : c .before .before .before .before .before .before .written-value .result ≡ written (f s) w ks = omega (arith, c .before .before .before .before .before .before .written-value .ensures, c .before .before .before .before .if3 .left) in
+    let v : c .before .before .before .before .before .before .written-value .result ≡ written (f s) w ks = omega (arith, written-is (s .args .layout) (s .pre .0 .fitting) w ks, c .before .before .before .before .before .before .written-value .ensures, c .before .before .before .before .if3 .left) in
     c .before .before .decode-rank .ensures
     ∙ ap (λ (x : ℕ). decodeAs (f s) (s .args .message .now) (readRank (f s) w ks x)) v
     ∙ sym (ap (decodeAs (f s) (s .args .message .now)) (read-shown (f s) w ks (found (c .before .before .before .before .before .before .before .before .before .before)) (known s ks) (whole (c .before .before .before .before .before .before .before))))

@@ -11,7 +11,7 @@ use lib.ListN.{take}
 use Rattle.combinatorics.specs.Bursts.{covers}
 use Rattle.combinatorics.specs.Lists.{allBelow}
 use Rattle.combinatorics.proofs.Lists.{below-at}
-use Rattle.cells.specs.Cells.{message as messageCell, pick}
+use Rattle.cells.specs.Cells.{Cell, message as messageCell, pick}
 use Rattle.cells.specs.Erasures.{foundBound, erasedAt}
 use Rattle.cells.proofs.Erasures.{found-least}
 use Rattle.construction_a.specs.Figures.{Params, maxWord, parts}
@@ -21,8 +21,8 @@ use Rattle.construction_a.proofs.Erased.{erasures-covered}
 use Rattle.construction_a.proofs.Figures.{Served}
 use Rattle.construction_a.proofs.Found.{message-below}
 use Rattle.params.specs.Given.{figuresOf}
-use Rattle.params.proofs.Fitting.{served}
-use Rattle.placements.specs.Bridge.{heldAs}
+use Rattle.params.proofs.Fitting.{served, plan-is}
+use Rattle.placements.specs.Bridge.{heldAs, startsIn}
 use Rattle.placements.proofs.Calls.{room-of, starts-held}
 use Rattle.blocks.specs.Blocks.{KindsOf}
 use Rattle.decoder.proofs.Calls.{disagreeing, erasing, agreeing, placing}
@@ -33,7 +33,7 @@ abbrev f : tie.Start → Params
 f s = figuresOf (s .args .layout)
 
 ok : (s : tie.Start) → Served (f s)
-ok s = served (s .args .layout) (s .pre .0 .lent .finding .layout)
+ok s = served (s .args .layout) (s .pre .0 .lent .fitting)
 
 burst-fits : (s : tie.Start) → s .args .layout .b ≤ maxWord
 burst-fits s = omega (arith, ok s .short, ok s .range .n-most, div-le-self (f s .n) (parts (f s) * f s .m))
@@ -62,7 +62,7 @@ unrank-requires c κs =
 kinds-of-requires : tie.Need-kinds-of-requires
 kinds-of-requires c κs =
     let s = c .before .before .before .before .before .before in
-    placing (s .args .layout) (s .args .rank) (c .unrank .result) (s .pre .0 .lent .finding .layout) (s .pre .0 .below) (c .unrank .ensures)
+    placing (s .args .layout) (s .args .rank) (c .unrank .result) (s .pre .0 .lent .fitting) (s .pre .0 .below) (c .unrank .ensures)
 
 agrees-requires : tie.Need-agrees-requires
 agrees-requires c κs = search needs
@@ -82,7 +82,7 @@ message-whole-requires : tie.Need-message-whole-requires
 message-whole-requires c κs =
     let s = c .before .before .before .before .before .before .before .before .before .before in
     let un = c .before .before .before .before .unrank in
-    (s .pre .0 .lent .scanned, s .pre .0 .lent .finding, placing (s .args .layout) (s .args .rank) (un .result) (s .pre .0 .lent .finding .layout) (s .pre .0 .below) (un .ensures))
+    (s .pre .0 .lent .scanned, s .pre .0 .lent .finding, placing (s .args .layout) (s .args .rank) (un .result) (s .pre .0 .lent .fitting) (s .pre .0 .below) (un .ensures))
 
 unread-requires-2 : tie.Need-unread-requires-2
 unread-requires-2 c κs = search needs
@@ -113,7 +113,7 @@ whole-is c =
     let lent = s .pre .0 .lent in
     c .message-whole .ensures
     ∙ ap (λ (r : List ℕ). covers (f s .n) (f s .b) (erasedAt (f s .q) w) r) (starts-held {p = un .result} ss (un .ensures))
-    ∙ erasures-covered (f s) (lent .finding .layout .range) (lent .finding .layout .fit) w (lent .finding .complete) (lent .found) (take (s .args .layout .m) (s .args .index)) ss
+    ∙ erasures-covered (f s) (lent .fitting .range) (lent .fitting .fit) w (lent .finding .complete) (lent .found) (take (s .args .layout .m) (s .args .index)) ss
     (record { index = s .pre .0 .index; below = omega (arith, s .pre .0 .spelled, s .pre .0 .below); starts = ap (placementOf (f s)) (sym (s .pre .0 .spelled)); agreed = agreed (c .before) })
 
 returns-2 : tie.Need-returns-2
@@ -129,7 +129,7 @@ take-message-requires c κs =
     let s = c .before .before .before .before .before .before .before .before .before .before .before .before .before .before in
     let un = c .before .before .before .before .before .before .before .before .unrank in
     let lent = s .pre .0 .lent in (
-      record { finding = lent .finding; room = lent .room; placing = placing (s .args .layout) (s .args .rank) (un .result) (lent .finding .layout) (s .pre .0 .below) (un .ensures) },
+      record { finding = lent .finding; room = lent .room; placing = placing (s .args .layout) (s .args .rank) (un .result) (lent .fitting) (s .pre .0 .below) (un .ensures) },
       (s .pre .1, c .before .before .before .before .before .before .before .kinds-of .ensures),
     )
 
@@ -145,7 +145,8 @@ returns-3 c =
     let w = s .args .word .now in
     agreeing (f s) w (take (s .args .layout .m) (s .args .index)) (s .args .message .now) (s .args .rank) (s .pre .0 .below) (agreed (c .before .before .before .before .before .before .before)) (known s)
     (heldAs (un .result)) (c .before .before .take-message .last .1 .1 .1 .1 .1 .0) (ok s) (sym (whole-is (c .before .before .before .before .before .before)) ∙ not-false _ (c .before .before .before .before .before .if2 .left)) (un .ensures)
-    (c .before .before .take-message .ensures ∙ ap (λ (r : List ℕ). pick messageCell (plan (f s) r) w) (starts-held {p = un .result} ss (un .ensures)))
+    (c .before .before .take-message .ensures ∙ ap (λ (p : List Cell). pick messageCell p w) (plan-is (s .args .layout) (s .pre .0 .lent .fitting) (startsIn (un .result)))
+    ∙ ap (λ (r : List ℕ). pick messageCell (plan (f s) r) w) (starts-held {p = un .result} ss (un .ensures)))
 
 pub decode-rank-spec : {M : Type 1} → statement M
 decode-rank-spec =

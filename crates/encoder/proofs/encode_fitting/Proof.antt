@@ -10,7 +10,7 @@ use Rattle.construction_a.specs.Figures.{maxBursts}
 use Rattle.construction_a.specs.Writing.{word}
 use Rattle.params.specs.Given.{figuresOf}
 use Rattle.params.specs.declared.Layout.{Layout}
-use Rattle.params.proofs.Fitting.{bound, long}
+use Rattle.params.proofs.Fitting.{shaped, bound, long}
 use Rattle.placements.specs.Bridge.{heldAs, startsIn}
 use Rattle.placements.proofs.Placing.{placing-of}
 use Rattle.encoder.proofs.Outcomes.{told, encode-count, encode-message, encode-word, encode-starts, encode-symbol, encode-served}
@@ -70,9 +70,9 @@ fill-requires : tie.Need-fill-requires
 fill-requires c κs =
     let s = c .before .before .before .before .before .before .before .before .before .before .before .before .before .before .before .before in
     let sized : length (s .args .at .starts) ≡ maxBursts = search needs in
-    let len = c .before .before .before .before .before .before .before .before .before .if2 .left ∙ s .pre .laid .len-is in
+    let len = c .before .before .before .before .before .before .before .before .before .if2 .left in
     let valid : apart (l s .b) (l s .n) 0 (startsIn (s .args .at)) ≡ true = sym (c .before .before .before .before .apart .ensures) ∙ not-false _ (c .before .before .before .if4 .left) in
-    record { placing = placing-of (l s) (s .args .at) sized (s .pre) (c .before .before .before .before .before .before .before .before .before .before .before .if1 .left) valid; sent = len; room = c .before .before .before .before .before .before .before .if3 .left }
+    (s .pre, record { placing = placing-of (l s) (s .args .at) sized (shaped (l s) (s .pre)) (c .before .before .before .before .before .before .before .before .before .before .before .if1 .left) valid; sent = len; room = c .before .before .before .before .before .before .before .if3 .left })
 
 same-length : tie.Need-same-length
 same-length c = search needs

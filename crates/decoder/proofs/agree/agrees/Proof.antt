@@ -8,7 +8,7 @@ use lib.ListN.{take}
 use Rattle.combinatorics.specs.Lists.{sameList}
 use Rattle.combinatorics.specs.Stretch.{members}
 use Rattle.construction_a.specs.Figures.{blocks}
-use Rattle.params.proofs.Fitting.{bound, blocks-fit, blocks-is}
+use Rattle.params.proofs.Shape.{bound, blocks-fit, blocks-is}
 use Rattle.params.specs.Given.{figuresOf}
 use Rattle.blocks.specs.Blocks.{indexKind}
 use Rattle.decoder.specs.Reader.{ofKind}

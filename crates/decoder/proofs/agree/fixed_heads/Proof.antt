@@ -12,7 +12,7 @@ use Rattle.combinatorics.proofs.Stretch.{has-start, has-here, has-on, has-over}
 use Rattle.cells.specs.Cut.{blockHead}
 use Rattle.construction_a.specs.Figures.{blocks as blocksOf}
 use Rattle.construction_a.specs.Reading.{looksFixed}
-use Rattle.params.proofs.Fitting.{bound, blocks-is, head-room}
+use Rattle.params.proofs.Shape.{bound, blocks-is, head-room}
 use Rattle.params.specs.Given.{figuresOf}
 use Rattle.blocks.specs.Blocks.{fixedKind}
 use Rattle.heads.proofs.Looking.{part-length, stretch-looks}

@@ -6,7 +6,7 @@ use lib.ListN.{take}
 use Rattle.combinatorics.proofs.Lists.{below-at}
 use Rattle.construction_a.proofs.Found.{heads-below}
 use Rattle.params.specs.Given.{figuresOf}
-use Rattle.params.proofs.Fitting.{bound}
+use Rattle.params.proofs.Shape.{bound}
 use Rattle.decoder.proofs.erasures.index_whole.Statement.{statement}
 use Rattle.decoder.proofs.erasures.index_whole.Tie as tie
 
@@ -15,7 +15,7 @@ returns c =
     let s = c .before .before in
     let l = s .args .layout in
     let w = s .args .word .now in
-    sym (heads-below (figuresOf l) (l .q) w (take (l .m) (s .args .index))
+    sym (heads-below (l .«index_tail») (figuresOf l) (l .q) w (take (l .m) (s .args .index))
     (below-at (l .q) w (omega (arith, bound l (s .pre .1 .finding .layout) .q-least)) (sym (s .pre .0) ∙ c .if1 .taken)))
 
 heads-below-requires : tie.Need-heads-below-requires

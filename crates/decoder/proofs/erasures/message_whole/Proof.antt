@@ -13,7 +13,7 @@ use Rattle.combinatorics.proofs.Lists.{below-at}
 use Rattle.cells.specs.Erasures.{erasedAt}
 use Rattle.construction_a.proofs.Figures.{placed-starts}
 use Rattle.params.specs.Given.{figuresOf}
-use Rattle.params.proofs.Fitting.{bound, long}
+use Rattle.params.proofs.Shape.{bound, long}
 use Rattle.placements.specs.Bridge.{startsIn}
 use Rattle.decoder.proofs.erasures.message_whole.Statement.{statement}
 use Rattle.decoder.proofs.erasures.message_whole.Tie as tie

@@ -6,7 +6,7 @@ use Rattle.construction_a.specs.Writing.{isIndex, isBurst}
 use Rattle.params.specs.Given.{figuresOf}
 use Rattle.placements.specs.Bridge.{startsIn}
 use Rattle.stretches.specs.Walk.{headCells}
-use Rattle.params.proofs.Fitting.{bound}
+use Rattle.params.proofs.Shape.{bound}
 use Rattle.stretches.proofs.ByBlock.{fixed-kind, index-kind, burst-kind}
 use Rattle.decoder.proofs.taking.head_cells.Statement.{statement}
 use Rattle.decoder.proofs.taking.head_cells.Tie as tie
@@ -33,7 +33,7 @@ returns-2 : tie.Need-returns-2
 unfolding headCells
 returns-2 c =
     let s = c .before .before .before in
-    rw (index-kind (index s) (burst s) (sym (s .pre .1) ∙ c .before .if2 .taken)) (omega (arith, s .pre .0 .layout .laid .tail-is))
+    rw (index-kind (index s) (burst s) (sym (s .pre .1) ∙ c .before .if2 .taken)) (omega arith)
 
 returns-3 : tie.Need-returns-3
 unfolding headCells

@@ -5,8 +5,8 @@ use native.Mathlib.Numerals.{add-one}
 use native.Mathlib.Omega.{arith}
 use lib.ListN.{getD}
 use Rattle.construction_a.specs.Figures.{headOf}
-use Rattle.params.specs.Given.{figuresOf, maxBlocks}
-use Rattle.params.proofs.Fitting.{blocks-most}
+use Rattle.params.specs.Given.{figuresOf, frameOf, maxBlocks}
+use Rattle.params.proofs.Shape.{blocks-most}
 use Rattle.placements.specs.Bridge.{startsIn}
 use Rattle.stretches.specs.Walk.{headCells, nextStart}
 use Rattle.stretches.specs.ByBlock.{Past}
@@ -18,7 +18,7 @@ use Rattle.decoder.proofs.taking.take_block.Tie as tie
 
 abbrev Inv-loop : tie.InvT-loop
 Inv-loop layout at heads kinds word message₀ block edge here₀ stop₀ message here stop =
-    (edge ≡ headOf (figuresOf layout) (suc block)) × (stop ≡ nextStart (figuresOf layout) (startsIn at) (here .passed)) × Past (figuresOf layout) (startsIn at) block (here .at) (here .passed)
+    (edge ≡ headOf (figuresOf layout) (suc block)) × (stop ≡ nextStart (figuresOf layout) (startsIn at) (here .passed)) × Past (layout .«index_tail») (figuresOf layout) (startsIn at) block (here .at) (here .passed)
     × Takes layout at word message (here .at) (here .taken)
 
 abbrev μ-loop : tie.MeasureT-loop
@@ -29,7 +29,7 @@ abbrev μ-loop : tie.MeasureT-loop
 abbrev Start : Type 0
 Start = tie.Start Inv-loop μ-loop
 
-w : (s : Start) → Walkable (figuresOf (s .args .layout)) (startsIn (s .args .at))
+w : (s : Start) → Walkable (s .args .layout .«index_tail») (figuresOf (s .args .layout)) (startsIn (s .args .at))
 w s = walkable (s .args .layout) (s .args .at) (s .pre .0 .placing)
 
 block-most : (s : Start) → s .args .block < maxBlocks
@@ -38,8 +38,8 @@ block-most s = omega (arith, s .pre .1 .0, blocks-most (s .args .layout) (s .pre
 edge-is : (s : Start) → getD (s .args .heads .now) (s .args .block + 1) 0 ≡ headOf (figuresOf (s .args .layout)) (suc (s .args .block))
 edge-is s = rw (← add-one (s .args .block)) (s .pre .2 .0 (s .args .block + 1) (omega (arith, s .pre .1 .0)))
 
-past : (s : Start) → Past (figuresOf (s .args .layout)) (startsIn (s .args .at)) (s .args .block)
-    (s .args .from .at + headCells (figuresOf (s .args .layout)) (startsIn (s .args .at)) (s .args .block)) (s .args .from .passed)
+past : (s : Start) → Past (s .args .layout .«index_tail») (figuresOf (s .args .layout)) (startsIn (s .args .at)) (s .args .block)
+    (s .args .from .at + headCells (frameOf (s .args .layout) (startsIn (s .args .at))) (s .args .block)) (s .args .from .passed)
 past s = head-past (w s) (s .args .block) (s .args .from .at) (s .args .from .passed) (s .pre .1 .0) (s .pre .1 .1)
 
 -- ---- What is left of the code
@@ -59,7 +59,7 @@ element-copy-out-edge c =
 cast-edge : tie.Need-cast-edge Inv-loop μ-loop
 cast-edge c =
     let s = c .before .before .before in
-    omega (arith, edge-is s, edge-in (w s) (s .args .block) (s .pre .1 .0), w s .fits .range .n-most)
+    omega (arith, edge-is s, edge-in (w s) (s .args .block) (s .pre .1 .0), w s .range .n-most)
 
 element-copy-out-head-cells : tie.Need-element-copy-out-head-cells Inv-loop μ-loop
 element-copy-out-head-cells c =
@@ -73,7 +73,7 @@ head-cells-requires c κs =
 add-t13 : tie.Need-add-t13 Inv-loop μ-loop
 add-t13 c =
     let s = c .before .before .before .before .before .before in
-    omega (arith, c .before .head-cells .ensures, past s .between .within, w s .fits .range .n-most)
+    omega (arith, c .before .head-cells .ensures, past s .between .within, w s .range .n-most)
 
 next-start-requires : tie.Need-next-start-requires Inv-loop μ-loop
 next-start-requires c κs =

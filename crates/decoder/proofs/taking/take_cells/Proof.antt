@@ -4,7 +4,6 @@ use Prim.Native.Nat.{_+_, _-_, _≤_}
 use native.Mathlib.Omega.{arith}
 use lib.ListN.{length, length-drop}
 use Rattle.cells.proofs.Walk.{rest-is}
-use Rattle.construction_a.specs.Figures.{messageLen}
 use Rattle.stretches.proofs.ByBlock.{walkable}
 use Rattle.decoder.proofs.GoingOn.{room, goes-on}
 use borrow.Author.Needs.{needs}
@@ -48,10 +47,9 @@ copy-over-requires c κs =
     )
 
 add-t12 : tie.Need-add-t12
-unfolding messageLen
 add-t12 c =
     let s = c .before .before .before .before .before .before .before in
-    omega (arith, fits s, s .pre .0 .so-far .size, walkable (s .args .layout) (s .args .at) (s .pre .0 .placing) .fits .range .n-most)
+    omega (arith, fits s, s .pre .0 .so-far .size, walkable (s .args .layout) (s .args .at) (s .pre .0 .placing) .range .n-most)
 
 same-length : tie.Need-same-length
 same-length c = search needs

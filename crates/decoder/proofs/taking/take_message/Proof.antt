@@ -3,23 +3,22 @@ use mathlib.Core.Path.{_≡_, sym, ap, _∙_, subst}
 use Prim.Native.Nat.{ℕ, _-_, _≤_}
 use native.Mathlib.Numerals.{add-one}
 use native.Mathlib.Omega.{arith}
-use Rattle.cells.proofs.Cut.{block-end}
-use Rattle.construction_a.specs.Figures.{parts, blocks, headOf, messageLen}
-use Rattle.construction_a.specs.Writing.{kindAt, plan}
-use Rattle.params.specs.Given.{figuresOf}
-use Rattle.params.proofs.Fitting.{blocks-is, blocks-fit}
+use Rattle.cells.specs.Cells.{Cell}
+use Rattle.cells.specs.Plan.{kindIn}
+use Rattle.construction_a.specs.Figures.{blocks, headOf}
+use Rattle.params.specs.Given.{figuresOf, frameOf}
+use Rattle.params.proofs.Shape.{blocks-is, blocks-fit}
 use Rattle.placements.specs.Bridge.{startsIn}
 use Rattle.stretches.specs.ByBlock.{Entering}
-use Rattle.stretches.proofs.ByBlock.{Walkable, walkable, entering-first}
+use Rattle.stretches.proofs.ByBlock.{Walkable, walkable, framed, entering-first, messages-all}
 use Rattle.decoder.specs.Take.{Taken, Takes}
 use Rattle.decoder.proofs.Picking.{taken-start, taken-done}
-use Rattle.decoder.proofs.GoingOn.{all}
 use Rattle.decoder.proofs.taking.take_message.Statement.{statement}
 use Rattle.decoder.proofs.taking.take_message.Tie as tie
 
 abbrev Inv-loop : tie.InvT-loop
 Inv-loop layout at heads kinds word message₀ count here₀ block₀ message here block =
-    (count ≡ blocks (figuresOf layout)) × (block ≤ count) × Entering (figuresOf layout) (startsIn at) block (here .at) (here .passed)
+    (count ≡ blocks (figuresOf layout)) × (block ≤ count) × Entering (layout .«index_tail») (figuresOf layout) (startsIn at) block (here .at) (here .passed)
     × Takes layout at word message (here .at) (here .taken)
 
 abbrev μ-loop : tie.MeasureT-loop
@@ -30,7 +29,7 @@ abbrev μ-loop : tie.MeasureT-loop
 abbrev Start : Type 0
 Start = tie.Start Inv-loop μ-loop
 
-w : (s : Start) → Walkable (figuresOf (s .args .layout)) (startsIn (s .args .at))
+w : (s : Start) → Walkable (s .args .layout .«index_tail») (figuresOf (s .args .layout)) (startsIn (s .args .at))
 w s = walkable (s .args .layout) (s .args .at) (s .pre .0 .placing)
 
 -- ---- What is left of the code
@@ -53,7 +52,7 @@ loop-holds c =
         placing = p;
         whole = complete;
         so-far =
-            taken-start (l .n) (messageLen (figuresOf l)) (kindAt (figuresOf l) (startsIn (s .args .at))) (s .args .word .now) complete (all l (s .args .at) p) (s .args .message .now)
+            taken-start (l .n) (l .«message_len») (kindIn (frameOf l (startsIn (s .args .at)))) (s .args .word .now) complete (messages-all l (s .args .at) p) (s .args .message .now)
             (s .pre .0 .room);
       },
     )
@@ -82,19 +81,18 @@ same-length : tie.Need-same-length Inv-loop μ-loop
 same-length c = c .before .loop .inv .3 .so-far .size ∙ sym (c .before .before .before .before .before .pre .0 .room)
 
 returns : tie.Need-returns Inv-loop μ-loop
-unfolding plan
 returns c =
     let s = c .before .before .before .before .before in
     let t = c .before .loop in
     let l = s .args .layout in
     let f = figuresOf l in
-    let kd = kindAt f (startsIn (s .args .at)) in
+    let kd : ℕ → Cell = kindIn (frameOf l (startsIn (s .args .at))) in
     let word = s .args .word .now in
     let k : t .block ≡ blocks f = omega (arith, t .inv .0, t .inv .1) in
-    let n : headOf f (blocks f) ≡ l .n = block-end (f .n) (parts f) (f .m) (omega (arith, w s .fits .three)) (w s .fits .some) in
+    let n : headOf f (blocks f) ≡ l .n = framed (w s) .last in
     let e : t .here .at ≡ l .n = omega (arith, t .inv .2 .from, t .inv .2 .between .within, ap (headOf f) k, n) in
-    taken-done (l .n) (messageLen f) kd word (t .inv .3 .whole) (all l (s .args .at) (s .pre .0 .placing)) (t .here .taken) (t .message)
-    (subst (λ (x : ℕ). Taken (messageLen f) kd word x (t .message) (t .here .taken)) e (t .inv .3 .so-far))
+    taken-done (l .n) (l .«message_len») kd word (t .inv .3 .whole) (messages-all l (s .args .at) (s .pre .0 .placing)) (t .here .taken) (t .message)
+    (subst (λ (x : ℕ). Taken (l .«message_len») kd word x (t .message) (t .here .taken)) e (t .inv .3 .so-far))
 
 pub take-message-spec : {M : Type 1} → statement M
 take-message-spec =

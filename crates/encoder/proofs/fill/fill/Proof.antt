@@ -25,7 +25,7 @@ abbrev l : tie.Start → Layout
 l s = s .args .layout
 
 fit : (s : tie.Start) → Fitting (l s)
-fit s = s .pre .placing .layout
+fit s = s .pre .0
 
 kinds-of-requires : tie.Need-kinds-of-requires
 kinds-of-requires c κs = search needs
@@ -37,12 +37,12 @@ rank-requires : tie.Need-rank-requires
 rank-requires c κs =
     let s = c .before .before .before .before in
     let ok = served (l s) (fit s) in
-    rankable {p = s .args .at} (l s .n) (l s .b) (omega (arith, s .pre .placing .count, ok .range .m-most)) (ok .range .n-most) (ok .long)
-    (of-placed (l s .b) (l s .n) 0 (startsIn (s .args .at)) (starts-placed (l s) (s .args .at) (s .pre .placing)))
-    (omega (arith, rank-bijection (figuresOf (l s)) ok .below (startsIn (s .args .at)) (s .pre .placing .placed), ok .counted))
+    rankable {p = s .args .at} (l s .n) (l s .b) (omega (arith, s .pre .1 .placing .count, ok .range .m-most)) (ok .range .n-most) (ok .long)
+    (of-placed (l s .b) (l s .n) 0 (startsIn (s .args .at)) (starts-placed (l s) (s .args .at) (s .pre .1 .placing)))
+    (omega (arith, rank-bijection (figuresOf (l s)) ok .below (startsIn (s .args .at)) (s .pre .1 .placing .placed), ok .counted))
 
 spelled-requires : tie.Need-spelled-requires
-spelled-requires c κs = let s = c .before .before .before .before .before in spellable (l s) (fit s) (startsIn (s .args .at)) _ (s .pre .placing .placed) (c .rank .ensures)
+spelled-requires c κs = let s = c .before .before .before .before .before in spellable (l s) (fit s) (startsIn (s .args .at)) _ (s .pre .1 .placing .placed) (c .rank .ensures)
 
 add-count : tie.Need-add-count
 add-count c = let s = c .before .before .before .before .before .before .before in omega (arith, bound (l s) (fit s) .tail-room)
@@ -68,7 +68,7 @@ fill-cells-requires c κs =
     let s = c .before .before .before .before .before .before .before .before .before .before .before .before .before in
     let spelled = c .before .before .before .before .before .before .before .spelled in
     let count = spelled-count (l s .q) (l s .m) (l s .«index_tail») _ (spelled .result) (spelled .ensures) in
-    (s .pre, omega (arith, count, ap (λ (y : ℕ). l s .m * suc y) (fit s .laid .tail-is)), (c .before .before .before .before .heads-of .ensures, c .before .before .before .before .before .before .before .before .before .before .kinds-of .ensures))
+    (s .pre .1, omega (arith, count), (c .before .before .before .before .heads-of .ensures, c .before .before .before .before .before .before .before .before .before .before .kinds-of .ensures))
 
 same-length : tie.Need-same-length
 same-length c = search needs

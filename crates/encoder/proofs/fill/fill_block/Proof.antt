@@ -6,7 +6,7 @@ use native.Mathlib.Omega.{arith}
 use lib.ListN.{getD}
 use Rattle.construction_a.specs.Figures.{headOf}
 use Rattle.params.specs.Given.{figuresOf}
-use Rattle.params.proofs.Fitting.{blocks-most}
+use Rattle.params.proofs.Shape.{blocks-most}
 use Rattle.placements.specs.Bridge.{startsIn}
 use Rattle.stretches.specs.Walk.{nextStart}
 use Rattle.stretches.specs.ByBlock.{Past}
@@ -17,7 +17,7 @@ use Rattle.encoder.proofs.fill.fill_block.Tie as tie
 
 abbrev Inv-loop : tie.InvT-loop
 Inv-loop layout at heads kinds digits ms word₀ block edge here₀ stop₀ word here stop =
-    (edge ≡ headOf (figuresOf layout) (suc block)) × (stop ≡ nextStart (figuresOf layout) (startsIn at) (here .passed)) × Past (figuresOf layout) (startsIn at) block (here .at) (here .passed)
+    (edge ≡ headOf (figuresOf layout) (suc block)) × (stop ≡ nextStart (figuresOf layout) (startsIn at) (here .passed)) × Past (layout .«index_tail») (figuresOf layout) (startsIn at) block (here .at) (here .passed)
     × Resumes layout at digits ms word (here .at) (here .spelled) (here .sent)
 
 abbrev μ-loop : tie.MeasureT-loop
@@ -25,7 +25,7 @@ abbrev μ-loop : tie.MeasureT-loop
 
 -- ---- What the contract lends
 
-w : (s : tie.Start Inv-loop μ-loop) → Walkable (figuresOf (s .args .layout)) (startsIn (s .args .at))
+w : (s : tie.Start Inv-loop μ-loop) → Walkable (s .args .layout .«index_tail») (figuresOf (s .args .layout)) (startsIn (s .args .at))
 w s = walkable (s .args .layout) (s .args .at) (s .pre .0 .placing)
 
 -- ---- What is left of the code
@@ -57,7 +57,7 @@ cast-edge c =
     let a = s .args in
     let R = s .pre .0 in
     let e : getD (a .heads .now) (a .block + 1) 0 ≡ headOf (figuresOf (a .layout)) (suc (a .block)) = rw (← add-one (a .block)) (s .pre .2 .0 (a .block + 1) (omega (arith, s .pre .1 .0))) in
-    omega (arith, e, edge-in (w s) (a .block) (s .pre .1 .0), w s .fits .range .n-most)
+    omega (arith, e, edge-in (w s) (a .block) (s .pre .1 .0), w s .range .n-most)
 
 element-copy-out-fill-head : tie.Need-element-copy-out-fill-head Inv-loop μ-loop
 element-copy-out-fill-head c =

@@ -4,14 +4,13 @@ use Prim.Native.Nat.{ℕ, _-_, _≤_}
 use native.Mathlib.Numerals.{add-one}
 use native.Mathlib.Omega.{arith}
 use Rattle.combinatorics.specs.Stretch.{tabulate}
-use Rattle.cells.proofs.Cut.{block-end}
-use Rattle.construction_a.specs.Figures.{parts, blocks, headOf}
-use Rattle.construction_a.specs.Writing.{kindAt, plan}
-use Rattle.params.specs.Given.{figuresOf}
-use Rattle.params.proofs.Fitting.{served, blocks-is, blocks-fit}
+use Rattle.cells.specs.Plan.{kindIn}
+use Rattle.construction_a.specs.Figures.{blocks, headOf}
+use Rattle.params.specs.Given.{figuresOf, frameOf}
+use Rattle.params.proofs.Shape.{blocks-is, blocks-fit}
 use Rattle.placements.specs.Bridge.{startsIn}
 use Rattle.stretches.specs.ByBlock.{Entering}
-use Rattle.stretches.proofs.ByBlock.{walkable, entering-first}
+use Rattle.stretches.proofs.ByBlock.{walkable, framed, entering-first}
 use Rattle.encoder.specs.Fill.{Filled, Resumes}
 use Rattle.encoder.proofs.Filling.{filled-start, filled-done}
 use Rattle.encoder.proofs.fill.fill_cells.Statement.{statement}
@@ -19,7 +18,7 @@ use Rattle.encoder.proofs.fill.fill_cells.Tie as tie
 
 abbrev Inv-loop : tie.InvT-loop
 Inv-loop layout at heads kinds digits ms word₀ count here₀ block₀ word here block =
-    (count ≡ blocks (figuresOf layout)) × (block ≤ count) × Entering (figuresOf layout) (startsIn at) block (here .at) (here .passed)
+    (count ≡ blocks (figuresOf layout)) × (block ≤ count) × Entering (layout .«index_tail») (figuresOf layout) (startsIn at) block (here .at) (here .passed)
     × Resumes layout at digits ms word (here .at) (here .spelled) (here .sent)
 
 abbrev μ-loop : tie.MeasureT-loop
@@ -44,7 +43,7 @@ loop-holds c =
         placing = R .placing;
         digits-lent = s .pre .1;
         message-lent = R .sent;
-        filled = filled-start (a .layout .n) (kindAt (figuresOf (a .layout)) (startsIn (a .at))) (a .digits .now) (a .message .now) (a .word .now) (R .room);
+        filled = filled-start (a .layout .n) (kindIn (frameOf (a .layout) (startsIn (a .at)))) (a .digits .now) (a .message .now) (a .word .now) (R .room);
       },
     )
 
@@ -74,7 +73,7 @@ same-length : tie.Need-same-length Inv-loop μ-loop
 same-length c = c .before .loop .inv .3 .filled .size ∙ sym (c .before .before .before .before .before .before .pre .0 .room)
 
 returns : tie.Need-returns Inv-loop μ-loop
-unfolding plan tabulate
+unfolding tabulate
 returns c =
     let s = c .before .before .before .before .before .before in
     let a = s .args in
@@ -82,10 +81,10 @@ returns c =
     let t = c .before .loop in
     let f = figuresOf (a .layout) in
     let k : t .block ≡ blocks f = omega (arith, t .inv .0, t .inv .1) in
-    let n : headOf f (blocks f) ≡ a .layout .n = block-end (f .n) (parts f) (f .m) (omega (arith, served (a .layout) (R .placing .layout) .three)) (served (a .layout) (R .placing .layout) .some) in
+    let n : headOf f (blocks f) ≡ a .layout .n = framed (walkable (a .layout) (a .at) (R .placing)) .last in
     let e : t .here .at ≡ a .layout .n = omega (arith, t .inv .2 .from, t .inv .2 .between .within, ap (headOf f) k, n) in
-    filled-done (a .layout .n) (kindAt f (startsIn (a .at))) (a .digits .now) (a .message .now) (t .here .spelled) (t .here .sent) (t .word)
-    (subst (λ (x : ℕ). Filled (a .layout .n) (kindAt f (startsIn (a .at))) (a .digits .now) (a .message .now) x (t .word) (t .here .spelled) (t .here .sent)) e (t .inv .3 .filled))
+    filled-done (a .layout .n) (kindIn (frameOf (a .layout) (startsIn (a .at)))) (a .digits .now) (a .message .now) (t .here .spelled) (t .here .sent) (t .word)
+    (subst (λ (x : ℕ). Filled (a .layout .n) (kindIn (frameOf (a .layout) (startsIn (a .at)))) (a .digits .now) (a .message .now) x (t .word) (t .here .spelled) (t .here .sent)) e (t .inv .3 .filled))
 
 pub fill-cells-spec : {M : Type 1} → statement M
 fill-cells-spec =

@@ -9,7 +9,7 @@ use lib.ListN.{length, set, length-set, length-drop}
 use lib.Seq.{take-suc-set}
 use Rattle.cells.specs.Cells.{digit}
 use Rattle.cells.proofs.Walk.{rest-is}
-use Rattle.construction_a.specs.Figures.{Params, indexTail}
+use Rattle.construction_a.specs.Figures.{Params}
 use Rattle.construction_a.specs.Writing.{isIndex, isBurst}
 use Rattle.params.specs.Given.{figuresOf}
 use Rattle.placements.specs.Bridge.{startsIn}
@@ -35,7 +35,7 @@ ss s = startsIn (s .args .at)
 abbrev x : Start → ℕ
 x s = s .args .from .at
 
-w : (s : Start) → Walkable (f s) (ss s)
+w : (s : Start) → Walkable (s .args .layout .«index_tail») (f s) (ss s)
 w s = walkable (s .args .layout) (s .args .at) (s .pre .0 .placing)
 
 -- ---- A fixed block
@@ -43,7 +43,7 @@ w s = walkable (s .args .layout) (s .args .at) (s .pre .0 .placing)
 is-fixed : (s : Start) → s .args .kind ≡ fixedKind → (isIndex (f s) (ss s) (s .args .block) ≡ false) × (isBurst (f s) (ss s) (s .args .block) ≡ false)
 is-fixed s e = fixed-kind (isIndex (f s) (ss s) (s .args .block)) (isBurst (f s) (ss s) (s .args .block)) (sym (s .pre .2) ∙ e)
 
-fixed-past : (s : Start) → s .args .kind ≡ fixedKind → Past (f s) (ss s) (s .args .block) (x s + 1) (s .args .from .passed)
+fixed-past : (s : Start) → s .args .kind ≡ fixedKind → Past (s .args .layout .«index_tail») (f s) (ss s) (s .args .block) (x s + 1) (s .args .from .passed)
 fixed-past s e = head-fixed (w s) (s .args .block) (x s) (s .args .from .passed) (s .pre .1 .0) (s .pre .1 .1) (is-fixed s e .0) (is-fixed s e .1) .past
 
 -- ---- An index block
@@ -55,15 +55,15 @@ is-index s e = index-kind (isIndex (f s) (ss s) (s .args .block)) (isBurst (f s)
 abbrev to : Start → ℕ
 to s = x s + (s .args .layout .«index_tail» + 1)
 
-to-is : (s : Start) → x s + suc (indexTail (f s)) ≡ to s
-to-is s = omega (arith, s .pre .0 .placing .layout .laid .tail-is)
+to-is : (s : Start) → x s + suc (s .args .layout .«index_tail») ≡ to s
+to-is s = omega arith
 
 up : (s : Start) → x s ≤ to s
 up s = omega arith
 
-index-past : (s : Start) → s .args .kind ≡ indexKind → Past (f s) (ss s) (s .args .block) (to s) (s .args .from .passed)
+index-past : (s : Start) → s .args .kind ≡ indexKind → Past (s .args .layout .«index_tail») (f s) (ss s) (s .args .block) (to s) (s .args .from .passed)
 index-past s e =
-    subst (λ (y : ℕ). Past (f s) (ss s) (s .args .block) y (s .args .from .passed)) (to-is s)
+    subst (λ (y : ℕ). Past (s .args .layout .«index_tail») (f s) (ss s) (s .args .block) y (s .args .from .passed)) (to-is s)
     (head-index (w s) (s .args .block) (x s) (s .args .from .passed) (s .pre .1 .0) (s .pre .1 .1) (is-index s e) .past)
 
 digit-cells : (s : Start) → s .args .kind ≡ indexKind → Cells (s .args .layout) (s .args .at) digit (x s) (to s)
@@ -108,7 +108,7 @@ returns c =
 add-len : tie.Need-add-len
 add-len c =
     let s = c .before .before .before .before .before .before in
-    omega (arith, index-past s (c .before .if2 .taken) .between .within, w s .fits .range .n-most)
+    omega (arith, index-past s (c .before .if2 .taken) .between .within, w s .range .n-most)
 
 sub-copy-over : tie.Need-sub-copy-over
 sub-copy-over c = search needs
@@ -142,7 +142,7 @@ copy-over-requires c κs =
 add-t17 : tie.Need-add-t17
 add-t17 c =
     let s = c .before .before .before .before .before .before .before .before .before .before .before in
-    omega (arith, index-past s (c .before .before .before .before .before .before .if2 .taken) .between .within, w s .fits .range .n-most)
+    omega (arith, index-past s (c .before .before .before .before .before .before .if2 .taken) .between .within, w s .range .n-most)
 
 add-t21 : tie.Need-add-t21
 add-t21 c =

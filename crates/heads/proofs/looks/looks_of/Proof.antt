@@ -9,7 +9,7 @@ use lib.ListN.{length, length-set}
 use Rattle.construction_a.specs.Reading.{looksFixed}
 use Rattle.params.specs.Given.{figuresOf, maxBlocks}
 use Rattle.heads.proofs.Looking.{Marked, marked-none, marked-in, marked-out, marked-all, part-length, stretch-looks}
-use Rattle.params.proofs.Fitting.{bound, blocks-is, head-room}
+use Rattle.params.proofs.Shape.{bound, blocks-is, head-room}
 use Rattle.heads.proofs.looks.looks_of.Statement.{statement}
 use Rattle.heads.proofs.looks.looks_of.Tie as tie
 

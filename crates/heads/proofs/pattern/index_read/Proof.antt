@@ -24,7 +24,7 @@ returns c =
     let l = s .args .layout in
     let looks : ℕ → Bool = looksFixed (figuresOf l) (s .args .word .now) in
     let seen = c .before .before .looks-of .result in
-    c .index-found .ensures ∙ ap (λ (p : ℕ). indexFound p (l .m) (looksIn seen)) (s .pre .0 .layout .laid .parts-is)
+    c .index-found .ensures ∙ ap (λ (p : ℕ). indexFound p (l .m) (looksIn seen)) (s .pre .0 .layout .parts-is)
     ∙ found-same (parts (figuresOf l)) (l .m) (looksIn seen) looks (looks-set (blocks (figuresOf l)) looks seen (c .before .before .looks-of .ensures))
 
 pub index-read-spec : {M : Type 1} → statement M

@@ -8,16 +8,15 @@ use borrow.Author.Tests.{not-true, not-false}
 use lib.ListN.{length, getD, take, drop, length-drop}
 use lib.Seq.{getD-take, getD-drop, length-take-le}
 use Rattle.cells.specs.Cut.{blockHead}
-use Rattle.construction_a.specs.Figures.{headOf, indexTail}
+use Rattle.construction_a.specs.Figures.{headOf}
 use Rattle.params.specs.Given.{figuresOf}
-use Rattle.params.proofs.Answered.{head-is}
-use Rattle.params.proofs.Fitting.{bound, block-in, head-room}
+use Rattle.params.proofs.Shape.{bound, block-in, head-room, head-is}
 use Rattle.heads.proofs.Whole.{Tested, tested-none, tested-on, tested-fails, tested-all}
 use Rattle.heads.proofs.written.heads_below.Statement.{statement}
 use Rattle.heads.proofs.written.heads_below.Tie as tie
 
 abbrev Inv-loop : tie.InvT-loop
-Inv-loop layout heads word blocks j₀ j = (j ≤ layout .m) × Tested (figuresOf layout) word blocks j
+Inv-loop layout heads word blocks j₀ j = (j ≤ layout .m) × Tested (layout .«index_tail») (figuresOf layout) word blocks j
 
 abbrev μ-loop : tie.MeasureT-loop
 μ-loop layout heads word blocks j₀ j = layout .m - j
@@ -38,23 +37,23 @@ module _ (s : tie.Start Inv-loop μ-loop) (j : ℕ) (l : j < s .args .layout .m)
     abbrev part : List ℕ
     part = take (at + s .args .layout .«index_tail» + 1 - at) (drop at (s .args .word .now))
 
-    part-size : length part ≡ suc (indexTail (figuresOf (s .args .layout)))
+    part-size : length part ≡ suc (s .args .layout .«index_tail»)
     part-size =
         length-take-le (at + s .args .layout .«index_tail» + 1 - at) (drop at (s .args .word .now)) (omega (arith, e, head-within, length-drop at (s .args .word .now)))
-        ∙ omega (arith, s .pre .0 .finding .layout .laid .tail-is)
+        ∙ omega arith
 
-    part-cells : (i : ℕ) → i < suc (indexTail (figuresOf (s .args .layout))) → getD part i 0 ≡ getD (s .args .word .now) (headOf (figuresOf (s .args .layout)) block + i) 0
+    part-cells : (i : ℕ) → i < suc (s .args .layout .«index_tail») → getD part i 0 ≡ getD (s .args .word .now) (headOf (figuresOf (s .args .layout)) block + i) 0
     part-cells i b =
         let h = s .pre .0 .finding .layout in
-        let is : at ≡ headOf (figuresOf (s .args .layout)) block = e ∙ head-is (figuresOf (s .args .layout)) (s .args .layout) block (h .laid) in
-        getD-take (at + s .args .layout .«index_tail» + 1 - at) (drop at (s .args .word .now)) i 0 (omega (arith, h .laid .tail-is))
+        let is : at ≡ headOf (figuresOf (s .args .layout)) block = e ∙ head-is (s .args .layout) h block in
+        getD-take (at + s .args .layout .«index_tail» + 1 - at) (drop at (s .args .word .now)) i 0 (omega arith)
         ∙ getD-drop at (s .args .word .now) i 0 ∙ ap (λ (y : ℕ). getD (s .args .word .now) (y + i) 0) is
 
     enough : s .args .layout .m ≤ length (s .args .t4)
     enough = omega (arith, bound (s .args .layout) (s .pre .0 .finding .layout) .m-most)
 
 loop-holds : tie.Need-loop-holds Inv-loop μ-loop
-loop-holds c = let s = c .before in (omega arith, tested-none (figuresOf (s .args .layout)) (s .args .word .now) (s .args .t4))
+loop-holds c = let s = c .before in (omega arith, tested-none (s .args .layout .«index_tail») (figuresOf (s .args .layout)) (s .args .word .now) (s .args .t4))
 
 array-read-number : tie.Need-array-read-number Inv-loop μ-loop
 array-read-number c = omega (arith, bound (c .before .before .before .before .args .layout) (c .before .before .before .before .pre .0 .finding .layout) .m-most)
@@ -100,7 +99,7 @@ returns c =
     let t = c .before .before .before .before .before .before .before .loop in
     let l = c .before .before .before .before .before .if1 .taken in
     let h = c .before .before .before .before .block-head in
-    sym (tested-fails (figuresOf (s .args .layout)) (s .args .word .now) (s .args .t4) (t .j) (part s (t .j) l (h .result) (h .ensures)) l (enough s (t .j) l (h .result) (h .ensures))
+    sym (tested-fails (s .args .layout .«index_tail») (figuresOf (s .args .layout)) (s .args .word .now) (s .args .t4) (t .j) (part s (t .j) l (h .result) (h .ensures)) l (enough s (t .j) l (h .result) (h .ensures))
     (part-size s (t .j) l (h .result) (h .ensures)) (part-cells s (t .j) l (h .result) (h .ensures)) (sym (c .before .all-below .ensures) ∙ not-true _ (c .if2 .taken)) (t .inv .1))
 
 add-j : tie.Need-add-j Inv-loop μ-loop
@@ -118,7 +117,7 @@ loop-again c =
     let l = c .before .before .before .before .before .if1 .taken in
     let h = c .before .before .before .before .block-head in (
       omega arith,
-      tested-on (figuresOf (s .args .layout)) (s .args .word .now) (s .args .t4) (t .j) (part s (t .j) l (h .result) (h .ensures)) l (enough s (t .j) l (h .result) (h .ensures))
+      tested-on (s .args .layout .«index_tail») (figuresOf (s .args .layout)) (s .args .word .now) (s .args .t4) (t .j) (part s (t .j) l (h .result) (h .ensures)) l (enough s (t .j) l (h .result) (h .ensures))
           (part-size s (t .j) l (h .result) (h .ensures)) (part-cells s (t .j) l (h .result) (h .ensures)) (sym (c .before .all-below .ensures) ∙ not-false _ (c .if2 .left)) (t .inv .1),
     )
 
@@ -126,7 +125,7 @@ returns-2 : tie.Need-returns-2 Inv-loop μ-loop
 returns-2 c =
     let s = c .before .before .before .before in
     let t = c .before .before .loop in
-    sym (tested-all (figuresOf (s .args .layout)) (s .args .word .now) (s .args .t4) (t .j) (omega arith) (t .inv .1))
+    sym (tested-all (s .args .layout .«index_tail») (figuresOf (s .args .layout)) (s .args .word .now) (s .args .t4) (t .j) (omega arith) (t .inv .1))
 
 pub heads-below-spec : {M : Type 1} → statement M
 heads-below-spec =

@@ -5,16 +5,15 @@ use native.Mathlib.Omega.{arith}
 use borrow.Author.Needs.{needs}
 use lib.ListN.{length, getD, take, drop}
 use Rattle.construction_a.specs.Figures.{headOf}
-use Rattle.params.proofs.Answered.{head-is}
 use Rattle.params.specs.Given.{figuresOf}
-use Rattle.params.proofs.Fitting.{bound, block-in, head-room}
+use Rattle.params.proofs.Shape.{bound, block-in, head-room, head-is}
 use Rattle.heads.proofs.Looking.{part-at, part-head, part-length}
 use Rattle.heads.proofs.Valued.{Summed, summed-none, summed-on, summed-all, open-lead}
 use Rattle.heads.proofs.written.written_value.Statement.{statement}
 use Rattle.heads.proofs.written.written_value.Tie as tie
 
 abbrev Inv-loop : tie.InvT-loop
-Inv-loop layout heads word blocks cap value₀ j₀ value j = (j ≤ layout .m) × (cap ≡ layout .«placement_count») × Summed (figuresOf layout) word blocks cap j value
+Inv-loop layout heads word blocks cap value₀ j₀ value j = (j ≤ layout .m) × (cap ≡ layout .«placement_count») × Summed (layout .«index_tail») (figuresOf layout) word blocks cap j value
 
 abbrev μ-loop : tie.MeasureT-loop
 μ-loop layout heads word blocks cap value₀ j₀ value j = layout .m - j
@@ -23,7 +22,7 @@ loop-holds : tie.Need-loop-holds Inv-loop μ-loop
 loop-holds c =
     let s = c .before in
     let l = s .args .layout in
-    (omega arith, refl, summed-none (figuresOf l) (s .args .word .now) (s .args .t4) (l .«placement_count») (bound l (s .pre .0 .finding .layout) .q-least))
+    (omega arith, refl, summed-none (l .«index_tail») (figuresOf l) (s .args .word .now) (s .args .t4) (l .«placement_count») (bound l (s .pre .0 .finding .layout) .q-least))
 
 array-read-block : tie.Need-array-read-block Inv-loop μ-loop
 array-read-block c = omega (arith, bound (c .before .before .before .before .args .layout) (c .before .before .before .before .pre .0 .finding .layout) .m-most)
@@ -72,7 +71,7 @@ with-block-requires c κs =
     record {
       alphabet = bound l h .q-least;
       room = rw (part-length at w) (omega (arith, c .before .block-head .ensures, head-room l h k (block-in l h (s .pre .0 .within j (omega arith)))));
-      lead = rw (part-head at w) (open-lead (figuresOf l) w k at (c .before .block-head .ensures ∙ head-is (figuresOf l) l k (h .laid)) (s .pre .0 .open-heads j (omega arith)));
+      lead = rw (part-head at w) (open-lead (figuresOf l) w k at (c .before .block-head .ensures ∙ head-is l h k) (s .pre .0 .open-heads j (omega arith)));
     }
 
 add-j : tie.Need-add-j Inv-loop μ-loop
@@ -90,11 +89,11 @@ loop-again c =
     let w = s .args .word .now in
     let k = getD (s .args .t4) (t .j) 0 in
     let at = c .before .before .block-head .result in
-    let e : at ≡ headOf (figuresOf l) k = c .before .before .block-head .ensures ∙ head-is (figuresOf l) l k (h .laid) in (
+    let e : at ≡ headOf (figuresOf l) k = c .before .before .block-head .ensures ∙ head-is l h k in (
       omega arith,
       refl,
-      rw (c .with-block .ensures, h .laid .tail-is)
-          (summed-on (figuresOf l) w (s .args .t4) (l .«placement_count») (bound l h .q-least) (t .j) (t .value) (take (length w - at) (drop at w))
+      rw (c .with-block .ensures)
+          (summed-on (l .«index_tail») (figuresOf l) w (s .args .t4) (l .«placement_count») (bound l h .q-least) (t .j) (t .value) (take (length w - at) (drop at w))
           (omega arith) (omega (arith, bound l h .m-most)) (λ i _. part-at at w i ∙ ap (λ (y : ℕ). getD w (y + i) 0) e) (t .inv .2)),
     )
 
@@ -103,7 +102,7 @@ returns c =
     let s = c .before .before .before .before in
     let t = c .before .before .loop in
     let l = s .args .layout in
-    summed-all (figuresOf l) (s .args .word .now) (s .args .t4) (l .«placement_count») (bound l (s .pre .0 .finding .layout) .q-least) (t .j) (t .value) (omega arith) (t .inv .2)
+    summed-all (l .«index_tail») (figuresOf l) (s .args .word .now) (s .args .t4) (l .«placement_count») (bound l (s .pre .0 .finding .layout) .q-least) (t .j) (t .value) (omega arith) (t .inv .2)
 
 pub written-value-spec : {M : Type 1} → statement M
 written-value-spec =

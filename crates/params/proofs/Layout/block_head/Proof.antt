@@ -4,8 +4,7 @@ use Prim.Native.Nat.{_≤_}
 use native.Mathlib.Omega.{arith}
 use Rattle.construction_a.specs.Figures.{blocks}
 use Rattle.params.specs.Given.{figuresOf}
-use Rattle.params.proofs.Answered.{head-is}
-use Rattle.params.proofs.Fitting.{blocks-is, blocks-fit, heads-small}
+use Rattle.params.proofs.Shape.{blocks-is, blocks-fit, heads-small, head-is}
 use Rattle.params.proofs.Layout.block_head.Statement.{statement}
 use Rattle.params.proofs.Layout.block_head.Tie as tie
 
@@ -26,7 +25,7 @@ cast-result c =
 returns : tie.Need-returns
 returns c =
     let s = c .before in
-    s .pre .1 (s .args .k) (within s) ∙ sym (head-is (figuresOf (s .args .self)) (s .args .self) (s .args .k) (s .pre .0 .laid))
+    s .pre .1 (s .args .k) (within s) ∙ sym (head-is (s .args .self) (s .pre .0) (s .args .k))
 
 pub block-head-spec : {M : Type 1} → statement M
 block-head-spec = tie.close (tie.spec mul-head element-copy-out-head cast-result returns)

@@ -11,7 +11,7 @@ use Rattle.cells.proofs.Cut.{piece-next, piece-most}
 use Rattle.construction_a.specs.Figures.{maxWord}
 use Rattle.params.specs.Given.{maxBlocks, figuresOf}
 use Rattle.params.proofs.Answered.{Bounds}
-use Rattle.params.proofs.Fitting.{bound}
+use Rattle.params.proofs.Shape.{bound}
 use Rattle.params.proofs.Starting.{part-more, end-more}
 use Rattle.params.proofs.heads.heads_of.Statement.{statement}
 use Rattle.params.proofs.heads.heads_of.Tie as tie
@@ -94,7 +94,7 @@ returns c =
     let b = limits (s .before) in
     let all : s .loop .i ≡ l .parts = omega arith in
     let so-far : (k : ℕ) → k < l .parts * l .m → getD (s .loop .heads) k 0 ≡ blockHead (l .n) (l .parts) (l .m) k = rw all at (s .loop .inv .2) in
-    let is = s .before .pre .laid .parts-is in
+    let is = s .before .pre .parts-is in
     λ k h. end-more (l .n) (l .parts) (l .m) (s .loop .heads) (omega (arith, b)) (omega (arith, b)) (omega (arith, b, s .loop .inv .1)) so-far k (rw (← is) at h)
     ∙ ap (λ (p : ℕ). blockHead (l .n) p (l .m) k) is
 
