@@ -5,11 +5,10 @@ ghost use lib.ListN.{take};
 ghost use Rattle.combinatorics.specs.Bursts.{covers};
 ghost use Rattle.combinatorics.specs.Lists.{allBelow};
 ghost use Rattle.cells.specs.Erasures.{foundBound, erasedAt};
-ghost use Rattle.construction_a.specs.Reading.{headsWith};
 ghost use Rattle.params.specs.Given.{figuresOf, HeadsOf};
 ghost use Rattle.placements.specs.Bridge.{startsIn, Placing};
 ghost use Rattle.heads.specs.Given.{Finding};
-ghost use Rattle.heads.specs.Written.{Shown};
+ghost use Rattle.heads.specs.Written.{headsIn, Shown};
 use params::Layout;
 use placements::Placement;
 
@@ -33,7 +32,7 @@ pub fn index_whole(
     word: &[u8],
 ) -> bool
     requires { ⌜ (whole ≡ allBelow (layout .q) (now word)) × Shown layout (now word) index × HeadsOf (figuresOf layout) (now heads) ⌝ }
-    ensures { λ r. ⌜ r ≡ allBelow (layout .q) (headsWith (layout .«index_tail») (figuresOf layout) (now (word .entry)) (take (layout .m) index)) ⌝ }
+    ensures { λ r. ⌜ r ≡ allBelow (layout .q) (headsIn layout (now (word .entry)) (take (layout .m) index)) ⌝ }
 {
     if whole {
         return true;

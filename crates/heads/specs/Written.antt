@@ -5,10 +5,17 @@ use mathlib.Core.List.{List}
 use Prim.Native.Nat.{ℕ, _≤_, _<_}
 use lib.ListN.{length, getD}
 use Rattle.construction_a.specs.Figures.{blocks}
-use Rattle.construction_a.specs.Reading.{looksFixed}
+use Rattle.construction_a.specs.Reading.{looksFixed, headsWith, writtenWith}
 use Rattle.params.specs.declared.Layout.{Layout}
 use Rattle.params.specs.Given.{figuresOf}
 use Rattle.heads.specs.Given.{Finding}
+
+-- the first 1 + r symbols of blocks, by the layout's own r, and what they spell
+abbrev pub headsIn : Layout → List ℕ → List ℕ → List ℕ
+headsIn l = headsWith (l .«index_tail») (figuresOf l)
+
+abbrev pub writtenIn : Layout → List ℕ → List ℕ → ℕ
+writtenIn l = writtenWith (l .«index_tail») (figuresOf l)
 
 -- blocks of a found word, none of which looks F
 pub record Shown (l : Layout) (w ks : List ℕ) : Type 0 where

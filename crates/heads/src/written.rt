@@ -1,12 +1,12 @@
-// What the heads of the index blocks hold: whether all of it can be read, and the value that it spells, by sums that stop at the count of placements, so that none passes 64 bits. Assumes nothing.
+// What the heads of the index blocks hold: whether all of it can be read, and the value that it spells, by sums that stop at the count of placements,
+// so that none passes 64 bits. Assumes nothing.
 ghost use mathlib.Core.Path.{_≡_};
 ghost use Prim.Native.Nat.{_+_, _*_, _<_, min};
 ghost use lib.ListN.{take};
 ghost use Rattle.cells.specs.Digits.{span, value, places};
 ghost use Rattle.combinatorics.specs.Lists.{allBelow};
-ghost use Rattle.construction_a.specs.Reading.{headsWith, writtenWith};
 ghost use Rattle.params.specs.Given.{figuresOf, HeadsOf};
-ghost use Rattle.heads.specs.Written.{Shown, LeadsIn};
+ghost use Rattle.heads.specs.Written.{headsIn, writtenIn, Shown, LeadsIn};
 use params::Layout;
 use placements::Placement;
 
@@ -18,7 +18,7 @@ pub fn written_value(
     blocks: [u8; Placement::MAX],
 ) -> u64
     requires { ⌜ Shown layout (now word) blocks × HeadsOf (figuresOf layout) (now heads) ⌝ }
-    ensures { λ r. ⌜ r ≡ min (writtenWith (layout .«index_tail») (figuresOf layout) (now (word .entry)) (take (layout .m) blocks)) (layout .«placement_count») ⌝ }
+    ensures { λ r. ⌜ r ≡ min (writtenIn layout (now (word .entry)) (take (layout .m) blocks)) (layout .«placement_count») ⌝ }
 {
     let cap = layout.placement_count;
     let mut value: u64 = 0;
@@ -40,7 +40,7 @@ pub fn heads_below(
     blocks: [u8; Placement::MAX],
 ) -> bool
     requires { ⌜ Shown layout (now word) blocks × HeadsOf (figuresOf layout) (now heads) ⌝ }
-    ensures { λ r. ⌜ r ≡ allBelow (layout .q) (headsWith (layout .«index_tail») (figuresOf layout) (now (word .entry)) (take (layout .m) blocks)) ⌝ }
+    ensures { λ r. ⌜ r ≡ allBelow (layout .q) (headsIn layout (now (word .entry)) (take (layout .m) blocks)) ⌝ }
 {
     let mut j: usize = 0;
     while j < layout.m {

@@ -22,7 +22,7 @@ pub record Between (f : Params) (ss : List ℕ) (x i : ℕ) : Type 0 where
   pub behind : (j : ℕ) → j < i → getD ss j 0 + f .b ≤ x
   pub ahead : x ≤ nextStart f ss i
 
--- the walk comes to block k, where r further symbols follow the first of an I-block: at the block's first cell, or behind a burst that ends in it, and then it has no head cells
+-- the walk comes to block k: at its first cell, or behind a burst that ends in it, and then it has no head cells; r symbols follow the first of an I-block
 pub record Entering (r : ℕ) (f : Params) (ss : List ℕ) (k x i : ℕ) : Type 0 where
   pub between : Between f ss x i
   pub from : headOf f k ≤ x
