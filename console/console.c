@@ -2,13 +2,19 @@
  * A console for one strip: reads a found word given as hex and prints its placement and message, or the refusal by name; then the positions of its
  * silent cells, which the heads report as q, where it has any.
  *
- *     console N Q M B WORD     e.g. console 15 256 1 2 000000000741FFFF42430744454647
+ *     console N Q M B WORD         e.g. console 15 256 1 2 000000000741FFFF42430744454647
+ *
+ * With a job number behind the word it prints the prescription that the strip carries for this job, as a job table hands it out that has this job open and
+ * no other. A strip of another job is refused.
+ *
+ *     console N Q M B WORD JOB     e.g. console 25 256 1 2 0000000702FF000007F600045A000000000000007F00000000 7
  *
  * Exit status: 0 for a word that is accepted, 1 for one that is refused, 2 for a call that can't be understood.
  */
 #include "burgzemi.h"
 
 #include <errno.h>
+#include <inttypes.h>
 #include <stdio.h>
 #include <stdlib.h>
 #include <string.h>
@@ -26,6 +32,9 @@ static const char *refusal_text(unsigned answer)
     case BURGZEMI_PATTERN: return "first symbols in no listed pattern";
     case BURGZEMI_VALUE: return "the written value is no rank";
     case BURGZEMI_DISAGREES: return "the placement disagrees with the blocks";
+    case BURGZEMI_PAYLOAD: return "no room for a job, or symbols that spell none";
+    case BURGZEMI_NOT_OPEN: return "the strip of another job";
+    case BURGZEMI_PRESCRIPTION: return "the job's text is no prescription";
     case BURGZEMI_ERASED: return "a silent cell where a symbol is needed";
     default: return "an unlisted number";
     }
@@ -33,7 +42,7 @@ static const char *refusal_text(unsigned answer)
 
 static int usage(const char *what)
 {
-    fprintf(stderr, "console: %s\nusage: console N Q M B WORD, where WORD has two hex digits for each symbol\n", what);
+    fprintf(stderr, "console: %s\nusage: console N Q M B WORD [JOB], where WORD has two hex digits for each symbol\n", what);
     return 2;
 }
 
@@ -97,29 +106,84 @@ static void print_silent(const uint8_t *word, size_t word_len, uint32_t q)
         printf("\n");
 }
 
-int main(int argc, char **argv)
+/* Dioptres with their sign, and with two decimals, or three where an eighth needs them. */
+static void print_power(double dioptres)
 {
-    static uint8_t word[MAX_SYMBOLS], message[BURGZEMI_MAX_WORD], starts[2 * BURGZEMI_MAX_BURSTS];
-    uint32_t n, q, m, b;
+    long eighths = (long)(8 * dioptres);
+    printf(" %+.*f", eighths % 2 == 0 ? 2 : 3, dioptres);
+}
 
-    if (argc != 6)
-        return usage("four figures and a word are wanted");
-    if (!figure(argv[1], &n) || !figure(argv[2], &q) || !figure(argv[3], &m) || !figure(argv[4], &b))
-        return usage("a figure is no number of 32 bits");
-    int len = symbols(argv[5], word);
-    if (len < 0)
-        return usage("the word is no hex, or longer than any word");
+static void print_eye(char which, uint8_t kind, uint8_t axis, const double *powers)
+{
+    printf("%c", which);
+    if (kind == BURGZEMI_PLANO)
+        printf(" plano");
+    else
+        print_power(powers[0]);
+    if (kind == BURGZEMI_TORIC) {
+        print_power(powers[1]);
+        printf(" \u00D7 %u", (unsigned)axis);
+    }
+    printf("\n");
+}
+
+/* A table with one job open. */
+static void open_alone(uint8_t *table, uint32_t job)
+{
+    memset(table, 0, BURGZEMI_TABLE_LEN);
+    table[0] = 1;
+    for (int i = 0; i < 4; i++)
+        table[1 + i] = (uint8_t)(job >> (24 - 8 * i));
+}
+
+static unsigned read_prescription(uint32_t n, uint32_t q, uint32_t m, uint32_t b, const uint8_t *word, size_t word_len, uint32_t job)
+{
+    uint8_t table[BURGZEMI_TABLE_LEN], marks[BURGZEMI_MARKS_LEN];
+    double powers[BURGZEMI_POWERS_LEN];
+
+    open_alone(table, job);
+    unsigned answer = burgzemi_prescription_read(n, q, m, b, table, sizeof table, word, word_len, marks, BURGZEMI_MARKS_LEN, powers, BURGZEMI_POWERS_LEN);
+    if (answer != BURGZEMI_SERVED)
+        return answer;
+    printf("job %" PRIu32 "\n", (uint32_t)marks[0] << 24 | (uint32_t)marks[1] << 16 | (uint32_t)marks[2] << 8 | marks[3]);
+    print_eye('R', marks[4], marks[5], powers);
+    print_eye('L', marks[6], marks[7], powers + 2);
+    printf("PD %.1f\n", powers[4]);
+    return answer;
+}
+
+static unsigned read_word(uint32_t n, uint32_t q, uint32_t m, uint32_t b, const uint8_t *word, size_t word_len)
+{
+    static uint8_t message[BURGZEMI_MAX_WORD], starts[2 * BURGZEMI_MAX_BURSTS];
 
     /* Figures without a length are refused by the reader, whatever the buffers are. */
     uint32_t k = burgzemi_message_len(n, q, m, b);
     size_t message_len = k == BURGZEMI_NO_LENGTH ? 0 : k;
     size_t starts_len = k == BURGZEMI_NO_LENGTH ? 0 : 2 * (size_t)m;
-    unsigned answer = burgzemi_decode(n, q, m, b, word, (size_t)len, message, message_len, starts, starts_len);
-    if (answer != BURGZEMI_SERVED) {
-        printf("refused %u: %s\n", answer, refusal_text(answer));
-    } else {
+    unsigned answer = burgzemi_decode(n, q, m, b, word, word_len, message, message_len, starts, starts_len);
+    if (answer == BURGZEMI_SERVED)
         print_accepted(starts, starts_len, message, message_len);
-    }
+    return answer;
+}
+
+int main(int argc, char **argv)
+{
+    static uint8_t word[MAX_SYMBOLS];
+    uint32_t n, q, m, b, job = 0;
+
+    if (argc != 6 && argc != 7)
+        return usage("four figures and a word are wanted, and a job number may follow");
+    if (!figure(argv[1], &n) || !figure(argv[2], &q) || !figure(argv[3], &m) || !figure(argv[4], &b))
+        return usage("a figure is no number of 32 bits");
+    int len = symbols(argv[5], word);
+    if (len < 0)
+        return usage("the word is no hex, or longer than any word");
+    if (argc == 7 && !figure(argv[6], &job))
+        return usage("the job is no number of 32 bits");
+
+    unsigned answer = argc == 7 ? read_prescription(n, q, m, b, word, (size_t)len, job) : read_word(n, q, m, b, word, (size_t)len);
+    if (answer != BURGZEMI_SERVED)
+        printf("refused %u: %s\n", answer, refusal_text(answer));
     print_silent(word, (size_t)len, q);
     return answer != BURGZEMI_SERVED;
 }

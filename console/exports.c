@@ -1,5 +1,5 @@
-/* Calls the functions of libexports.a on document 01's bench strips and its transfer example, and sees that each refusal comes in its place and leaves
- * every buffer as it was. Ends with 0 where all is right. */
+/* Calls the functions of libexports.a on document 01's bench strips, its transfer example and on prescriptions, and sees that each refusal comes in its
+ * place and leaves every buffer as it was. Ends with 0 where all is right. */
 #include "burgzemi.h"
 
 #include <stdio.h>
@@ -502,6 +502,210 @@ static void transfer_example(void)
     read7("job 7 cancelled and never open, read", BURGZEMI_CANCELLED, 256, 2, table, len, found7, 15, 11);
 }
 
+/* ---- Prescriptions */
+
+struct eye {
+    uint8_t kind;
+    double sphere, cylinder;
+    uint8_t axis;
+};
+
+static const struct eye plano = {BURGZEMI_PLANO, 0, 0, 0}, toric = {BURGZEMI_TORIC, -1.25, 0.5, 90};
+
+/* Doubles bit by bit, so that minus zero is another than plus zero. */
+static void see_powers(const char *what, const double *powers, const double *expected, size_t len)
+{
+    if (memcmp(powers, expected, len * sizeof *powers) != 0) {
+        printf("exports: %s: other powers\n", what);
+        wrong = 1;
+    }
+}
+
+/* Transposed: the eye that is wanted, or the refusal with both buffers as they were. Transposed again, the bits of the eye that was given. */
+static void turn(const char *what, unsigned wanted, struct eye given, struct eye expected, size_t marks_len, size_t powers_len)
+{
+    uint8_t marks[4], kept[4] = {expected.kind, expected.axis, 0xA5, 0xA5};
+    double powers[3] = {7, 7, 7}, kept_powers[3] = {expected.sphere, expected.cylinder, 7}, untouched_powers[3] = {7, 7, 7};
+    memset(marks, 0xA5, sizeof marks);
+    unsigned answer = burgzemi_transpose(given.kind, given.sphere, given.cylinder, given.axis, marks, marks_len, powers, powers_len);
+    if (wanted != BURGZEMI_SERVED)
+        memset(kept, 0xA5, sizeof kept);
+    see(what, answer, wanted, marks, kept, sizeof kept);
+    see_powers(what, powers, wanted == BURGZEMI_SERVED ? kept_powers : untouched_powers, 3);
+    if (wanted != BURGZEMI_SERVED)
+        return;
+    const uint8_t first[2] = {given.kind, given.axis};
+    const double first_powers[2] = {given.sphere, given.cylinder};
+    answer = burgzemi_transpose(marks[0], powers[0], powers[1], marks[1], marks, 2, powers, 2);
+    see(what, answer, BURGZEMI_SERVED, marks, first, 2);
+    see_powers(what, powers, first_powers, 2);
+}
+
+static void equivalent(const char *what, unsigned wanted, struct eye given, double expected, size_t power_len)
+{
+    double power[2] = {7, 7}, kept[2] = {wanted == BURGZEMI_SERVED ? expected : 7, 7};
+    unsigned answer = burgzemi_spherical_equivalent(given.kind, given.sphere, given.cylinder, given.axis, power, power_len);
+    see(what, answer, wanted, untouched, untouched, 1);
+    see_powers(what, power, kept, 2);
+}
+
+/* An eye outside the rules is 16 for each call that it is given to. */
+static void outside(const char *what, struct eye given)
+{
+    uint8_t table[BURGZEMI_TABLE_LEN] = {1, 0, 0, 0, 7}, starts[2] = {0, 6}, word[25];
+    turn(what, BURGZEMI_PRESCRIPTION, given, given, 2, 2);
+    equivalent(what, BURGZEMI_PRESCRIPTION, given, 0, 1);
+    memcpy(word, untouched, sizeof word);
+    unsigned answer = burgzemi_prescription_write(25, 256, 1, 2, table, sizeof table, starts, 2, 7, given.kind, given.sphere, given.cylinder, given.axis,
+                                                  BURGZEMI_PLANO, 0, 0, 0, 63.5, word, sizeof word);
+    see(what, answer, BURGZEMI_PRESCRIPTION, word, untouched, sizeof word);
+    answer = burgzemi_prescription_write(25, 256, 1, 2, table, sizeof table, starts, 2, 7, BURGZEMI_PLANO, 0, 0, 0,
+                                         given.kind, given.sphere, given.cylinder, given.axis, 63.5, word, sizeof word);
+    see(what, answer, BURGZEMI_PRESCRIPTION, word, untouched, sizeof word);
+}
+
+static void eyes(void)
+{
+    const double minus_zero = -0.0, huge = 1e308 * 10, no_number = huge - huge;
+    const struct eye sphere = {BURGZEMI_SPHERE, -30, 0, 0}, turned = {BURGZEMI_TORIC, -0.75, -0.5, 180};
+
+    turn("a toric", BURGZEMI_SERVED, toric, turned, 2, 2);
+    turn("an axis of 91", BURGZEMI_SERVED, (struct eye){BURGZEMI_TORIC, 0, 0.125, 91}, (struct eye){BURGZEMI_TORIC, 0.125, -0.125, 1}, 2, 2);
+    turn("a sum of plus zero", BURGZEMI_SERVED, (struct eye){BURGZEMI_TORIC, -0.5, 0.5, 1}, (struct eye){BURGZEMI_TORIC, 0, -0.5, 91}, 2, 2);
+    turn("the widest cylinder", BURGZEMI_SERVED, (struct eye){BURGZEMI_TORIC, -30, 60, 180}, (struct eye){BURGZEMI_TORIC, 30, -60, 90}, 2, 2);
+    turn("a sphere", BURGZEMI_SERVED, sphere, sphere, 2, 2);
+    turn("a plano", BURGZEMI_SERVED, plano, plano, 2, 2);
+    equivalent("a toric's equivalent", BURGZEMI_SERVED, toric, -1, 1);
+    equivalent("an equivalent in sixteenths", BURGZEMI_SERVED, (struct eye){BURGZEMI_TORIC, 0, 0.125, 1}, 0.0625, 1);
+    equivalent("a sphere's equivalent", BURGZEMI_SERVED, sphere, -30, 1);
+    equivalent("a plano's equivalent", BURGZEMI_SERVED, plano, 0, 1);
+    for (size_t len = 0; len < 4; len++) {
+        if (len != 2) {
+            turn("marks of another length", BURGZEMI_LENGTH, toric, toric, len, 2);
+            turn("powers of another length", BURGZEMI_LENGTH, toric, toric, 2, len < 3 ? len : 3);
+        }
+        if (len == 0 || len == 2)
+            equivalent("a power of another length", BURGZEMI_LENGTH, toric, 0, len);
+    }
+    turn("a length before the eye", BURGZEMI_LENGTH, (struct eye){3, 0, 0, 0}, toric, 1, 2);
+    equivalent("a length before the eye", BURGZEMI_LENGTH, (struct eye){3, 0, 0, 0}, 0, 0);
+
+    outside("a kind of 3", (struct eye){3, 1, 0, 0});
+    outside("a kind of 255", (struct eye){255, 0, 0, 0});
+    outside("a plano with a sphere", (struct eye){BURGZEMI_PLANO, 1, 0, 0});
+    outside("a plano with a cylinder", (struct eye){BURGZEMI_PLANO, 0, 1, 0});
+    outside("a plano with an axis", (struct eye){BURGZEMI_PLANO, 0, 0, 1});
+    outside("a plano with minus zero", (struct eye){BURGZEMI_PLANO, minus_zero, 0, 0});
+    outside("a plano with a second minus zero", (struct eye){BURGZEMI_PLANO, 0, minus_zero, 0});
+    outside("a plano with a NaN", (struct eye){BURGZEMI_PLANO, no_number, 0, 0});
+    outside("a sphere of 0", (struct eye){BURGZEMI_SPHERE, 0, 0, 0});
+    outside("a sphere of minus zero", (struct eye){BURGZEMI_SPHERE, minus_zero, 0, 0});
+    outside("a sphere with minus zero unused", (struct eye){BURGZEMI_SPHERE, 1, minus_zero, 0});
+    outside("a sphere with a cylinder", (struct eye){BURGZEMI_SPHERE, 1, 1, 0});
+    outside("a sphere with an axis", (struct eye){BURGZEMI_SPHERE, 1, 0, 90});
+    outside("a sphere of 30.125", (struct eye){BURGZEMI_SPHERE, 30.125, 0, 0});
+    outside("a sixteenth", (struct eye){BURGZEMI_SPHERE, 0.0625, 0, 0});
+    outside("infinity", (struct eye){BURGZEMI_SPHERE, huge, 0, 0});
+    outside("a NaN", (struct eye){BURGZEMI_SPHERE, no_number, 0, 0});
+    outside("a toric with a sphere of minus zero", (struct eye){BURGZEMI_TORIC, minus_zero, 1, 90});
+    outside("a toric without cylinder", (struct eye){BURGZEMI_TORIC, 1, 0, 90});
+    outside("a toric with a cylinder of minus zero", (struct eye){BURGZEMI_TORIC, 1, minus_zero, 90});
+    outside("a sum of 30.125", (struct eye){BURGZEMI_TORIC, 30, 0.125, 90});
+    outside("a toric with a NaN", (struct eye){BURGZEMI_TORIC, 1, no_number, 90});
+    outside("an axis of 0", (struct eye){BURGZEMI_TORIC, 1, 1, 0});
+    outside("an axis of 181", (struct eye){BURGZEMI_TORIC, 1, 1, 181});
+}
+
+/* ---- Prescriptions on a strip: n 25, q 256, m 1, b 2; start 6, job 7 */
+
+static const uint8_t prescribed[25] = {0, 0, 0, 7, 2, 255, 0, 0, 7, 246, 0, 4, 90, 0, 0, 0, 0, 0, 0, 0, 127, 0, 0, 0, 0};
+
+struct lengths {
+    size_t table, starts, word, marks, powers;
+};
+
+static const struct lengths right_lengths = {BURGZEMI_TABLE_LEN, 2, 25, BURGZEMI_MARKS_LEN, BURGZEMI_POWERS_LEN};
+
+static void write_prescription(const char *what, unsigned wanted, uint32_t n, uint8_t state, uint32_t number, uint8_t start, double distance, struct lengths lens)
+{
+    uint8_t table[BURGZEMI_TABLE_LEN + 5], starts[4] = {0, start, 0, 0}, word[64];
+    memset(table, 0, sizeof table);
+    table[0] = state;
+    table[4] = 7;
+    memcpy(word, untouched, sizeof word);
+    unsigned answer = burgzemi_prescription_write(n, 256, 1, 2, table, lens.table, starts, lens.starts, number, toric.kind, toric.sphere, toric.cylinder,
+                                                  toric.axis, plano.kind, plano.sphere, plano.cylinder, plano.axis, distance, word, lens.word);
+    see(what, answer, wanted, word, wanted == BURGZEMI_SERVED ? prescribed : untouched, 25);
+    see(what, answer, wanted, word + 25, untouched + 25, sizeof word - 25);
+}
+
+static void read_prescription(const char *what, unsigned wanted, uint32_t b, uint8_t state, uint8_t number, uint8_t kind, struct lengths lens)
+{
+    uint8_t table[BURGZEMI_TABLE_LEN + 5], word[32], marks[12], handed[12] = {0, 0, 0, 7, 2, 90, 0, 0, 0xA5, 0xA5, 0xA5, 0xA5};
+    double powers[7] = {7, 7, 7, 7, 7, 7, 7}, handed_powers[7] = {-1.25, 0.5, 0, 0, 63.5, 7, 7}, kept[7] = {7, 7, 7, 7, 7, 7, 7};
+    memset(table, 0, sizeof table);
+    table[0] = state;
+    table[4] = number;
+    memset(word, 0, sizeof word);
+    memcpy(word, prescribed, sizeof prescribed);
+    word[4] = kind;
+    word[6] = 0xFF; /* damage inside the burst */
+    memset(marks, 0xA5, sizeof marks);
+    unsigned answer = burgzemi_prescription_read(25, 256, 1, b, table, lens.table, word, lens.word, marks, lens.marks, powers, lens.powers);
+    if (wanted != BURGZEMI_SERVED)
+        memset(handed, 0xA5, sizeof handed);
+    see(what, answer, wanted, marks, handed, sizeof handed);
+    see_powers(what, powers, wanted == BURGZEMI_SERVED ? handed_powers : kept, 7);
+}
+
+static struct lengths with(size_t table, size_t starts, size_t word, size_t marks, size_t powers)
+{
+    return (struct lengths){table, starts, word, marks, powers};
+}
+
+static void prescriptions(void)
+{
+    write_prescription("prescription write", BURGZEMI_SERVED, 25, 1, 7, 6, 63.5, right_lengths);
+    write_prescription("table short, and an unknown state", BURGZEMI_LENGTH, 25, 6, 7, 24, 0, with(319, 2, 25, 0, 0));
+    write_prescription("table long", BURGZEMI_LENGTH, 25, 1, 7, 24, 0, with(325, 2, 25, 0, 0));
+    write_prescription("starts short", BURGZEMI_LENGTH, 25, 1, 7, 24, 0, with(BURGZEMI_TABLE_LEN, 1, 25, 0, 0));
+    write_prescription("starts long", BURGZEMI_LENGTH, 25, 1, 7, 24, 0, with(BURGZEMI_TABLE_LEN, 4, 25, 0, 0));
+    write_prescription("word short", BURGZEMI_LENGTH, 25, 1, 7, 24, 0, with(BURGZEMI_TABLE_LEN, 2, 24, 0, 0));
+    write_prescription("word long", BURGZEMI_LENGTH, 25, 1, 7, 24, 0, with(BURGZEMI_TABLE_LEN, 2, 26, 0, 0));
+    write_prescription("an unknown state", BURGZEMI_INVALID, 25, 6, 7, 24, 0, with(BURGZEMI_TABLE_LEN, 1, 24, 0, 0));
+    write_prescription("n of 2", BURGZEMI_INVALID, 2, 1, 7, 24, 0, with(319, 1, 24, 0, 0));
+    write_prescription("unfit", BURGZEMI_UNFIT, 5, 1, 7, 24, 0, with(319, 1, 24, 0, 0));
+    write_prescription("no room for a job", BURGZEMI_PAYLOAD, 8, 1, 7, 24, 0, with(319, 1, 24, 0, 0));
+    write_prescription("a start past the end", BURGZEMI_STARTS, 25, 1, 7, 24, 0, right_lengths);
+    write_prescription("16 bytes, and a start past the end", BURGZEMI_STARTS, 20, 1, 7, 19, 63.5, with(BURGZEMI_TABLE_LEN, 2, 20, 0, 0));
+    write_prescription("16 bytes", BURGZEMI_PRESCRIPTION, 20, 1, 0, 6, 63.5, with(BURGZEMI_TABLE_LEN, 2, 20, 0, 0));
+    write_prescription("a distance of 39.5", BURGZEMI_PRESCRIPTION, 25, 1, 0, 6, 39.5, right_lengths);
+    write_prescription("a distance of 80.5", BURGZEMI_PRESCRIPTION, 25, 1, 0, 6, 80.5, right_lengths);
+    write_prescription("a quarter of a millimetre", BURGZEMI_PRESCRIPTION, 25, 1, 0, 6, 63.25, right_lengths);
+    write_prescription("a distance of minus 63.5", BURGZEMI_PRESCRIPTION, 25, 1, 0, 6, -63.5, right_lengths);
+    write_prescription("number 0", BURGZEMI_NUMBER_ZERO, 25, 1, 0, 6, 63.5, right_lengths);
+    write_prescription("a cancelled job", BURGZEMI_CANCELLED, 25, 2, 7, 6, 63.5, right_lengths);
+    write_prescription("a job on hold", BURGZEMI_HELD, 25, 4, 7, 6, 63.5, right_lengths);
+    write_prescription("an unknown job", BURGZEMI_NOT_OPEN, 25, 0, 7, 6, 63.5, right_lengths);
+
+    read_prescription("prescription read", BURGZEMI_SERVED, 2, 1, 7, 2, right_lengths);
+    read_prescription("table short", BURGZEMI_LENGTH, 2, 1, 7, 3, with(319, 0, 25, 8, 5));
+    for (size_t len = 0; len <= 10; len++) {
+        if (len != BURGZEMI_MARKS_LEN)
+            read_prescription("marks of another length", BURGZEMI_LENGTH, 2, 0, 7, 3, with(BURGZEMI_TABLE_LEN, 0, 25, len, 5));
+        if (len != BURGZEMI_POWERS_LEN && len <= 6)
+            read_prescription("powers of another length", BURGZEMI_LENGTH, 2, 0, 7, 3, with(BURGZEMI_TABLE_LEN, 0, 25, 8, len));
+    }
+    read_prescription("word short", BURGZEMI_LENGTH, 2, 0, 7, 3, with(BURGZEMI_TABLE_LEN, 0, 24, 8, 5));
+    read_prescription("word long", BURGZEMI_LENGTH, 2, 0, 7, 3, with(BURGZEMI_TABLE_LEN, 0, 26, 8, 5));
+    read_prescription("an unknown state before marks and powers", BURGZEMI_INVALID, 2, 6, 7, 3, with(BURGZEMI_TABLE_LEN, 0, 24, 7, 4));
+    read_prescription("unfit before marks and powers", BURGZEMI_UNFIT, 9, 1, 7, 3, with(BURGZEMI_TABLE_LEN, 0, 24, 7, 4));
+    read_prescription("a kind of 3, and an unknown job", BURGZEMI_PRESCRIPTION, 2, 0, 7, 3, right_lengths);
+    read_prescription("a cancelled job", BURGZEMI_CANCELLED, 2, 3, 7, 2, right_lengths);
+    read_prescription("a job on hold", BURGZEMI_HELD, 2, 4, 7, 2, right_lengths);
+    read_prescription("another job", BURGZEMI_NOT_OPEN, 2, 1, 8, 2, right_lengths);
+}
+
 int main(void)
 {
     words();
@@ -520,5 +724,7 @@ int main(void)
     calls();
     number_zero();
     transfer_example();
+    eyes();
+    prescriptions();
     return wrong;
 }

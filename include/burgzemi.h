@@ -27,6 +27,7 @@ enum burgzemi_answer {
     BURGZEMI_DISAGREES = 9,    /* the placement of that rank has other index blocks, or a fixed block that doesn't start with 0 */
     BURGZEMI_PAYLOAD = 10,     /* no room for a job, a byte's symbols that spell 256 or more, or a leftover symbol other than 0 */
     BURGZEMI_RECORD = 11,      /* a record unreadable or one too many, or a call's letter that is none of O, C, F, I, H, U */
+    BURGZEMI_PRESCRIPTION = 16, /* an eye, a pupil distance or a job's text outside the rules of prescriptions, or a payload below 17 bytes */
     BURGZEMI_DEPTH = 18,       /* a depth outside 1 to 16 */
     BURGZEMI_ERASED = 19,      /* a silent cell, q, in an index block's first r + 1 symbols or among the message */
     /* from the state of the job table */
@@ -66,8 +67,22 @@ enum burgzemi_answer {
 #define BURGZEMI_TABLE_LEN 320
 
 /*
- * Of every function here: starts are 2 bytes each, high byte first, ascending. Each buffer comes with its own length, and as many of its bytes are read
- * or written at most. Buffers of one call must not overlap, and none is NULL, also where its length is 0. One that is only written need not be
+ * An eye is given and answered as four values: its kind, sphere and cylinder in dioptres, and its axis in degrees. A plano has none of the three, a sphere
+ * its power as the sphere; what the kind doesn't use is 0, and plus zero where it is a double. Powers are whole eighths of a dioptre: a sphere, and a toric's
+ * sphere plus cylinder, from -30 to 30, a sphere's power and a cylinder never 0, an axis 1 to 180. A pupil distance is in millimetres, whole halves from 40
+ * to 80. Every other value, a part of an eighth, a minus zero and a NaN included, is outside the rules, and refused with 16.
+ */
+#define BURGZEMI_PLANO 0
+#define BURGZEMI_SPHERE 1
+#define BURGZEMI_TORIC 2
+
+/* What burgzemi_prescription_read lends: bytes of marks, and doubles of powers. */
+#define BURGZEMI_MARKS_LEN 8
+#define BURGZEMI_POWERS_LEN 5
+
+/*
+ * Of every function here: starts are 2 bytes each, high byte first, ascending. Each buffer comes with its own length, of doubles where it holds
+ * doubles, and as many of its elements are read or written at most. Buffers of one call must not overlap, and none is NULL, also where its length is 0. One that is only written need not be
  * initialised. A refusal leaves every buffer as it was.
  * Each function always returns and touches no other memory, which is what its proof says of any code here; it keeps nothing between calls, so that
  * several threads may call it at once with buffers of their own.
@@ -192,6 +207,54 @@ uint8_t burgzemi_interleave(uint32_t n, uint32_t q, uint32_t m, uint32_t b, uint
 uint8_t burgzemi_deinterleave(uint32_t n, uint32_t q, uint32_t m, uint32_t b, uint32_t depth,
                               const uint8_t *strip, size_t strip_len,
                               uint8_t *words, size_t words_len);
+
+/*
+ * Transposes an eye: the cylinder is added to the sphere and changes its sign, the axis turns by 90; a plano or a sphere stays as it is. `marks` gets the kind
+ * and the axis, 2 bytes, `powers` the sphere and the cylinder, 2 doubles. Transposed again, these give the values that were given, bit by bit.
+ *
+ * Refusals: 3 where marks_len or powers_len is not 2; 16 for an eye outside the rules.
+ */
+uint8_t burgzemi_transpose(uint8_t kind, double sphere, double cylinder, uint8_t axis,
+                           uint8_t *marks, size_t marks_len,
+                           double *powers, size_t powers_len);
+
+/*
+ * Puts the spherical equivalent of an eye, its sphere plus half its cylinder, into `power`, 1 double: exact, and plus zero for a plano.
+ *
+ * Refusals: 3 where power_len is not 1; 16 for an eye outside the rules.
+ */
+uint8_t burgzemi_spherical_equivalent(uint8_t kind, double sphere, double cylinder, uint8_t axis,
+                                      double *power, size_t power_len);
+
+/*
+ * Writes a job's number and its prescription, both eyes and the pupil distance, with the bursts at `starts` into `word`, of n bytes. The job must be open,
+ * and its number not 0. The payload, of K bytes, is the number, thirteen bytes of prescription and zeros.
+ *
+ * Refusals: 1, 2 and 10 as for burgzemi_job_write; 3 where table_len is not BURGZEMI_TABLE_LEN, starts_len not 2 * m or word_len not n; 5 for the starts; 16
+ * where K is below 17, or for an eye or a distance outside the rules; 17 for number 0, open or not; 12, 23 and 14 for the job.
+ */
+uint8_t burgzemi_prescription_write(uint32_t n, uint32_t q, uint32_t m, uint32_t b,
+                                    const uint8_t *table, size_t table_len,
+                                    const uint8_t *starts, size_t starts_len,
+                                    uint32_t number,
+                                    uint8_t right_kind, double right_sphere, double right_cylinder, uint8_t right_axis,
+                                    uint8_t left_kind, double left_sphere, double left_cylinder, uint8_t left_axis,
+                                    double distance,
+                                    uint8_t *word, size_t word_len);
+
+/*
+ * Reads a found word of n values, as burgzemi_decode does, and the prescription that its job's text is. `marks` gets the job number, 4 bytes, high byte first,
+ * then kind and axis of the right eye and kind and axis of the left: BURGZEMI_MARKS_LEN bytes. `powers` gets sphere and cylinder of the right eye, sphere and
+ * cylinder of the left, and the pupil distance: BURGZEMI_POWERS_LEN doubles. The job must be open; a 0 that the table holds open is read too.
+ *
+ * Refusals: 1, 2 and 10 as for burgzemi_job_write; 3 where table_len is not BURGZEMI_TABLE_LEN, word_len not n, marks_len not 8 or powers_len not 5; 4 7 19 8
+ * 9 19 for the word; 10 for a message that spells no payload; 16 where K is below 17, or for a text that is no prescription; 12, 23 and 14 for the job.
+ */
+uint8_t burgzemi_prescription_read(uint32_t n, uint32_t q, uint32_t m, uint32_t b,
+                                   const uint8_t *table, size_t table_len,
+                                   const uint8_t *word, size_t word_len,
+                                   uint8_t *marks, size_t marks_len,
+                                   double *powers, size_t powers_len);
 
 #ifdef __cplusplus
 }

@@ -5,7 +5,7 @@ use second::figures::{MAX_N, MAX_RUNS};
 use second::Figures;
 
 use crate::judge::Judge;
-use crate::sides::Numbers;
+use crate::sides::{Numbers, PrescriptionNumbers};
 
 const EDGES: [u32; 4] = [65535, 65536, 1 << 31, u32::MAX];
 
@@ -89,6 +89,9 @@ pub fn each(mut visit: impl FnMut(Numbers)) {
     }
 }
 
+/// Outside the rules.
+const NONE: PrescriptionNumbers = ((0, 0.0, 0.0, 0), (0, 0.0, 0.0, 0), 0.0);
+
 /// Makes every call with the figures alone: refusals 1, 2 and 10, and 18 or 3 for what fits.
 pub fn run(judge: &mut Judge) {
     let mut depths = (0..=17).cycle();
@@ -103,5 +106,7 @@ pub fn run(judge: &mut Judge) {
         judge.deinterleave(f, depth, &[], 0);
         judge.job_write(f, &[], &[], &[], 0);
         judge.job_read(f, &[], &[], 0);
+        judge.prescription_write(f, &[], &[], 0, NONE, 0);
+        judge.prescription_read(f, &[], &[], 0, 0);
     });
 }

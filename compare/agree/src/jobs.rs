@@ -33,14 +33,22 @@ pub fn round(judge: &mut Judge, rng: &mut Rng) {
 fn payload(rng: &mut Rng, f: &Figures, table: &[u8]) -> Vec<u8> {
     let mut payload = rng.bytes(payload_len(f));
     if payload.len() >= 4 {
-        let held: Vec<&[u8]> = table.chunks_exact(5).filter(|slot| slot[0] != 0).collect();
-        match held.len() {
-            0 => payload[..4].copy_from_slice(&number(rng, 70).to_be_bytes()),
-            _ if rng.once_in(5) => payload[..4].copy_from_slice(&number(rng, 70).to_be_bytes()),
-            len => payload[..4].copy_from_slice(&held[rng.index(len)][1..]),
-        }
+        payload[..4].copy_from_slice(&known_number(rng, table).to_be_bytes());
     }
     payload
+}
+
+/// A number that is mostly one of the table's.
+pub fn known_number(rng: &mut Rng, table: &[u8]) -> u32 {
+    let held: Vec<&[u8]> = table.chunks_exact(5).filter(|slot| slot[0] != 0).collect();
+    match held.len() {
+        0 => number(rng, 70),
+        _ if rng.once_in(5) => number(rng, 70),
+        len => {
+            let slot = held[rng.index(len)];
+            u32::from_be_bytes([slot[1], slot[2], slot[3], slot[4]])
+        }
+    }
 }
 
 fn read_back(
@@ -161,7 +169,7 @@ fn refused_reading(judge: &mut Judge, rng: &mut Rng, f: &Figures, good: &[u8]) {
 }
 
 /// Figures with one of them off.
-fn off(rng: &mut Rng, (n, q, m, b): (u32, u32, u32, u32)) -> (u32, u32, u32, u32) {
+pub fn off(rng: &mut Rng, (n, q, m, b): (u32, u32, u32, u32)) -> (u32, u32, u32, u32) {
     match rng.below(6) {
         0 => (rng.pick(&[0, 2, 4097]), q, m, b),
         1 => (n, rng.pick(&[0, 1, 257]), m, b),

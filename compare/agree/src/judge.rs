@@ -3,9 +3,11 @@
 use second::raw::DIFFERS;
 use second::Figures;
 
-use crate::lent::Lent;
+use crate::lent::{Item, Lent};
 use crate::sides::{Numbers, Side, PROVED, SECOND};
 use crate::tally::Tally;
+
+mod prescription;
 
 /// How many differences are printed in full.
 const PRINTED: u64 = 10;
@@ -28,6 +30,10 @@ pub enum Op {
     OtherLetter,
     JobWrite,
     JobRead,
+    Transpose,
+    SphericalEquivalent,
+    PrescriptionWrite,
+    PrescriptionRead,
 }
 
 impl Op {
@@ -46,7 +52,7 @@ impl Op {
 }
 
 /// Each kind of call, its name, and the answers that it can give, each of which a gate run must see.
-pub const OPS: [(Op, &str, &[u8]); 16] = [
+pub const OPS: [(Op, &str, &[u8]); 20] = [
     (Op::Figures, "figures", &[0, 1, 2]),
     (Op::Encode, "word write", &[0, 1, 2, 3, 4, 5]),
     (Op::Decode, "word read", &[0, 1, 2, 3, 4, 7, 8, 9, 19]),
@@ -71,16 +77,28 @@ pub const OPS: [(Op, &str, &[u8]); 16] = [
         "job read",
         &[0, 1, 2, 3, 4, 7, 8, 9, 10, 12, 14, 19, 23],
     ),
+    (Op::Transpose, "transposing", &[0, 3, 16]),
+    (Op::SphericalEquivalent, "equivalent", &[0, 3, 16]),
+    (
+        Op::PrescriptionWrite,
+        "prescription write",
+        &[0, 1, 2, 3, 5, 10, 12, 14, 16, 17, 23],
+    ),
+    (
+        Op::PrescriptionRead,
+        "prescription read",
+        &[0, 1, 2, 3, 4, 7, 8, 9, 10, 12, 14, 16, 19, 23],
+    ),
 ];
 
 /// A call of one side on its own two buffers.
-type Call<'a> = dyn Fn(&Side, &mut [u8], &mut [u8]) -> u8 + 'a;
+type Call<'a, T> = dyn Fn(&Side, &mut [u8], &mut [T]) -> u8 + 'a;
 
 /// What both sides answered: the number, and the written buffers (as they were where it is a refusal).
-pub struct Answer {
+pub struct Answer<T = u8> {
     pub number: u8,
     pub out: Vec<u8>,
-    pub also: Vec<u8>,
+    pub also: Vec<T>,
 }
 
 #[derive(Default)]
@@ -91,29 +109,30 @@ pub struct Judge {
 
 impl Judge {
     /// Makes one call on both sides with copies of the same two buffers, the second often empty.
-    fn both(
+    fn both<T: Item>(
         &mut self,
         op: Op,
         out: Lent,
-        also: Lent,
+        also: Lent<T>,
         inputs: &dyn Fn() -> String,
-        call: &Call,
-    ) -> Answer {
+        call: &Call<T>,
+    ) -> Answer<T> {
         let run = |side: &Side| {
             let (mut a, mut b) = (out.clone(), also.clone());
-            let number = call(side, a.bytes(), b.bytes());
+            let number = call(side, a.items(), b.items());
             (number, a, b)
         };
         let (ours, theirs) = (run(&PROVED), run(&SECOND));
         for (side, (number, a, b)) in [(&PROVED, &ours), (&SECOND, &theirs)] {
-            let kept = a.guards() == out.guards() && b.guards() == also.guards();
+            let kept = a.guarded(&out) && b.guarded(&also);
             if !kept || (*number != 0 && (*a != out || *b != also)) {
                 let what = format!("{} touched bytes, answer {number}", side.name);
                 self.report(op, inputs, &what);
             }
         }
         if ours != theirs {
-            let outs = [&ours.1 .0, &theirs.1 .0, &ours.2 .0, &theirs.2 .0].map(|b| hex(b));
+            let (outs, others) = ([&ours.1, &theirs.1], [&ours.2, &theirs.2]);
+            let outs = [outs.map(Lent::shown), others.map(Lent::shown)].concat();
             let outs = outs.join("\n          ");
             let what = format!("answers {} and {}\n  buffers {outs}", ours.0, theirs.0);
             self.report(op, inputs, &what);
@@ -121,8 +140,8 @@ impl Judge {
         self.count(op, theirs.0, inputs);
         Answer {
             number: theirs.0,
-            out: theirs.1.into_bytes(),
-            also: theirs.2.into_bytes(),
+            out: theirs.1.into_items(),
+            also: theirs.2.into_items(),
         }
     }
 

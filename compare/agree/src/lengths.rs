@@ -2,12 +2,14 @@
 
 use crate::calls::TABLE;
 use crate::judge::{Judge, Op};
-use crate::sides::{Numbers, Side, PROVED, SECOND};
+use crate::sides::{EyeNumbers, Numbers, PrescriptionNumbers, Side, PROVED, SECOND};
 
 /// Document 01's transfer example: n 15, k and K 11, one start.
 const FIGURES: Numbers = (15, 256, 1, 2);
 const WORD: usize = 15;
 const PAYLOAD: usize = 11;
+const PLANO: EyeNumbers = (0, 0.0, 0.0, 0);
+const ORDER: PrescriptionNumbers = (PLANO, PLANO, 60.0);
 
 /// A call that takes one buffer of a wrong length.
 type Call<'a> = &'a mut dyn FnMut(&mut [u8]) -> u8;
@@ -83,6 +85,50 @@ fn job_calls(side: &Side, with: &mut dyn FnMut(usize, Call) -> u8) -> [u8; 8] {
     ]
 }
 
+/// Likewise the prescription calls with a list of bytes.
+fn prescription_calls(side: &Side, with: &mut dyn FnMut(usize, Call) -> u8) -> [u8; 7] {
+    let f = FIGURES;
+    let (mut word, starts, table) = ([0; WORD], [0; 2], [0; TABLE]);
+    let (mut two, mut five) = ([0.0; 2], [0.0; 5]);
+    [
+        with(2, &mut |long| (side.transpose)(PLANO, long, &mut two)),
+        with(TABLE, &mut |long| {
+            (side.prescription_write)(f, long, &starts, 1, ORDER, &mut word)
+        }),
+        with(2, &mut |long| {
+            (side.prescription_write)(f, &table, long, 1, ORDER, &mut word)
+        }),
+        with(WORD, &mut |long| {
+            (side.prescription_write)(f, &table, &starts, 1, ORDER, long)
+        }),
+        with(TABLE, &mut |long| {
+            (side.prescription_read)(f, long, &word, &mut [0; 8], &mut five)
+        }),
+        with(WORD, &mut |long| {
+            (side.prescription_read)(f, &table, long, &mut [0; 8], &mut five)
+        }),
+        with(8, &mut |long| {
+            (side.prescription_read)(f, &table, &word, long, &mut five)
+        }),
+    ]
+}
+
+/// Likewise those with a list of doubles.
+fn power_calls(side: &Side, long: &mut [f64], extra: usize) -> [u8; 3] {
+    let (word, table) = ([0; WORD], [0; TABLE]);
+    [
+        (side.transpose)(PLANO, &mut [0; 2], &mut long[..2 + extra]),
+        (side.spherical_equivalent)(PLANO, &mut long[..1 + extra]),
+        (side.prescription_read)(FIGURES, &table, &word, &mut [0; 8], &mut long[..5 + extra]),
+    ]
+}
+
+fn all_three(judge: &mut Judge, side: &Side, extra: usize, answers: &[u8]) {
+    let right = answers.iter().all(|&answer| answer == 3);
+    let inputs = || format!("{}: {extra} too many: {answers:?}", side.name);
+    judge.expect(Op::Decode, right, &inputs, "3 is for another length");
+}
+
 pub fn run(judge: &mut Judge) {
     // Zeroed memory of this size takes no room until it is touched, which no call should do.
     let mut long = vec![0; (1 << 32) + 2 * TABLE];
@@ -92,9 +138,17 @@ pub fn run(judge: &mut Judge) {
             let mut answers = word_calls(&side, &mut with).to_vec();
             answers.extend(lane_calls(&side, &mut with));
             answers.extend(job_calls(&side, &mut with));
-            let right = answers.iter().all(|&answer| answer == 3);
-            let inputs = || format!("{}: {extra} bytes too many: {answers:?}", side.name);
-            judge.expect(Op::Decode, right, &inputs, "3 is for another length");
+            answers.extend(prescription_calls(&side, &mut with));
+            all_three(judge, &side, extra, &answers);
+        }
+    }
+    drop(long);
+    // Of doubles, as many bytes too many.
+    let mut long = vec![0.0; (1 << 29) + TABLE];
+    for extra in [1 << 5, 1 << 8, 1 << 13, 1 << 16, 1 << 29] {
+        for side in [PROVED, SECOND] {
+            let answers = power_calls(&side, &mut long, extra);
+            all_three(judge, &side, extra, &answers);
         }
     }
 }

@@ -1,9 +1,11 @@
 //! The two implementations behind one set of calls on plain numbers and bytes.
 
-pub type Numbers = (u32, u32, u32, u32);
+pub use second::raw::{EyeNumbers, Numbers, PrescriptionNumbers};
 
 type Lanes = fn(Numbers, u32, &[u8], &mut [u8]) -> u8;
 type JobWrite = fn(Numbers, &[u8], &[u8], &[u8], &mut [u8]) -> u8;
+type PrescriptionRead = fn(Numbers, &[u8], &[u8], &mut [u8], &mut [f64]) -> u8;
+type PrescriptionWrite = fn(Numbers, &[u8], &[u8], u32, PrescriptionNumbers, &mut [u8]) -> u8;
 
 pub struct Side {
     pub name: &'static str,
@@ -18,6 +20,10 @@ pub struct Side {
     pub call: fn(&mut [u8], u8, u32) -> u8,
     pub job_write: JobWrite,
     pub job_read: fn(Numbers, &[u8], &[u8], &mut [u8]) -> u8,
+    pub transpose: fn(EyeNumbers, &mut [u8], &mut [f64]) -> u8,
+    pub spherical_equivalent: fn(EyeNumbers, &mut [f64]) -> u8,
+    pub prescription_write: PrescriptionWrite,
+    pub prescription_read: PrescriptionRead,
 }
 
 pub const PROVED: Side = Side {
@@ -33,6 +39,10 @@ pub const PROVED: Side = Side {
     call: burgzemi::raw::call,
     job_write: burgzemi::raw::job_write,
     job_read: burgzemi::raw::job_read,
+    transpose: burgzemi::raw::transpose,
+    spherical_equivalent: burgzemi::raw::spherical_equivalent,
+    prescription_write: burgzemi::raw::prescription_write,
+    prescription_read: burgzemi::raw::prescription_read,
 };
 
 pub const SECOND: Side = Side {
@@ -48,4 +58,8 @@ pub const SECOND: Side = Side {
     call: second::raw::call,
     job_write: second::raw::job_write,
     job_read: second::raw::job_read,
+    transpose: second::raw::transpose,
+    spherical_equivalent: second::raw::spherical_equivalent,
+    prescription_write: second::raw::prescription_write,
+    prescription_read: second::raw::prescription_read,
 };

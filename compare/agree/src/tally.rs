@@ -46,7 +46,14 @@ impl Tally {
 
     /// How many words were written or read, or refused for more than their figures and lengths.
     pub fn words(&self) -> u64 {
-        let words = [Op::Encode, Op::Decode, Op::JobWrite, Op::JobRead];
+        let words = [
+            Op::Encode,
+            Op::Decode,
+            Op::JobWrite,
+            Op::JobRead,
+            Op::PrescriptionWrite,
+            Op::PrescriptionRead,
+        ];
         let judged = |&op: &Op| {
             let seen = &self.seen[op as usize];
             seen[0] + seen[4..].iter().sum::<u64>()
@@ -64,7 +71,7 @@ impl Tally {
                 .map(|&number| format!("{number}: {}", seen[number as usize]))
                 .collect();
             let total: u64 = seen.iter().sum();
-            println!("{name:>12} {total:>9}   {}", shown.join("  "));
+            println!("{name:>18} {total:>9}   {}", shown.join("  "));
             for &number in possible
                 .iter()
                 .filter(|&&number| seen[number as usize] == 0)

@@ -6,6 +6,13 @@ use crate::book::{Book, Former, Place, PLACES};
 use crate::figures::{Figures, MAX_RUNS};
 use crate::{codec, cover as planner, job, lanes};
 
+mod prescription;
+
+pub use prescription::{
+    prescription_read, prescription_write, spherical_equivalent, transpose, EyeNumbers,
+    PrescriptionNumbers,
+};
+
 pub const SLOT: usize = 5;
 pub const TABLE: usize = PLACES * SLOT;
 pub const NO_LENGTH: u32 = u32::MAX;

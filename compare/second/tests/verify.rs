@@ -37,7 +37,7 @@ fn every_word_and_list_of_small_figures() {
                 let listed = &unrank(&f, rank)[..f.m];
                 // Of the lists that the reader doesn't give back, some are enough.
                 for i in (0..messages.len())
-                    .filter(|i| (i + word[0] as usize) % 5 == 0 || messages[*i] == message)
+                    .filter(|i| (i + word[0] as usize).is_multiple_of(5) || messages[*i] == message)
                 {
                     let same = read && messages[i] == message && *listed == starts;
                     assert_eq!(verify(&f, listed, &messages[i], &word), Ok(same));
@@ -48,7 +48,7 @@ fn every_word_and_list_of_small_figures() {
         // Each list has the words with any values in its runs.
         assert_eq!(
             agreeing as u64,
-            f.t * messages.len() as u64 * (q as u64 + 1).pow((m * b) as u32)
+            f.t * messages.len() as u64 * (q as u64 + 1).pow(m * b)
         );
     }
 }

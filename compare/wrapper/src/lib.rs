@@ -1,4 +1,4 @@
-//! Burgzemi for Rust: the proved writer, reader, planner and job table, called safely through the library's C interface.
+//! Burgzemi for Rust: the proved writer, reader, planner, job table and prescriptions, called safely through the library's C interface.
 //!
 //! ```
 //! use burgzemi::{Figures, Refusal, Table};
@@ -20,12 +20,14 @@
 //! # Ok::<(), Refusal>(())
 //! ```
 
+mod prescription;
 pub mod raw;
 mod refusal;
 mod table;
 
 use std::ops::Deref;
 
+pub use prescription::{prescription_read, prescription_write, Eye, Prescription};
 pub use refusal::Refusal;
 pub use table::Table;
 

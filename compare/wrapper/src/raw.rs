@@ -4,6 +4,12 @@
 /// n, q, m and b.
 pub type Numbers = (u32, u32, u32, u32);
 
+/// An eye: kind (0 plano, 1 sphere, 2 toric), sphere, cylinder and axis, in dioptres and degrees. Those that the kind doesn't use are 0.
+pub type EyeNumbers = (u8, f64, f64, u8);
+
+/// Right eye, left eye, and the pupil distance in millimetres.
+pub type PrescriptionNumbers = (EyeNumbers, EyeNumbers, f64);
+
 /// What `message_len` and `payload_len` answer for figures that are refused.
 pub const NO_LENGTH: u32 = u32::MAX;
 
@@ -61,6 +67,30 @@ mod c {
             table: *const u8, table_len: usize,
             word: *const u8, word_len: usize,
             payload: *mut u8, payload_len: usize,
+        ) -> u8;
+        pub fn burgzemi_transpose(
+            kind: u8, sphere: f64, cylinder: f64, axis: u8,
+            marks: *mut u8, marks_len: usize,
+            powers: *mut f64, powers_len: usize,
+        ) -> u8;
+        pub fn burgzemi_spherical_equivalent(
+            kind: u8, sphere: f64, cylinder: f64, axis: u8,
+            power: *mut f64, power_len: usize,
+        ) -> u8;
+        pub fn burgzemi_prescription_write(
+            n: u32, q: u32, m: u32, b: u32,
+            table: *const u8, table_len: usize,
+            starts: *const u8, starts_len: usize, number: u32,
+            right_kind: u8, right_sphere: f64, right_cylinder: f64, right_axis: u8,
+            left_kind: u8, left_sphere: f64, left_cylinder: f64, left_axis: u8, distance: f64,
+            word: *mut u8, word_len: usize,
+        ) -> u8;
+        pub fn burgzemi_prescription_read(
+            n: u32, q: u32, m: u32, b: u32,
+            table: *const u8, table_len: usize,
+            word: *const u8, word_len: usize,
+            marks: *mut u8, marks_len: usize,
+            powers: *mut f64, powers_len: usize,
         ) -> u8;
     }
 }
@@ -155,4 +185,63 @@ pub fn job_read((n, q, m, b): Numbers, table: &[u8], word: &[u8], payload: &mut 
     let (to, room) = (payload.as_mut_ptr(), payload.len());
     // SAFETY: each pointer is a slice's own, never null, with its length; the one written to is lent alone.
     unsafe { c::burgzemi_job_read(n, q, m, b, at, size, from, len, to, room) }
+}
+
+/// Transposes an eye: kind and axis come as `marks`, sphere and cylinder as `powers`.
+pub fn transpose(
+    (kind, sphere, cylinder, axis): EyeNumbers,
+    marks: &mut [u8],
+    powers: &mut [f64],
+) -> u8 {
+    let (to, room) = (marks.as_mut_ptr(), marks.len());
+    let (also, count) = (powers.as_mut_ptr(), powers.len());
+    // SAFETY: each pointer is a slice's own, never null, with its length; both are lent alone.
+    unsafe { c::burgzemi_transpose(kind, sphere, cylinder, axis, to, room, also, count) }
+}
+
+/// The spherical equivalent of an eye comes as `power`.
+pub fn spherical_equivalent((kind, sphere, cylinder, axis): EyeNumbers, power: &mut [f64]) -> u8 {
+    let (to, room) = (power.as_mut_ptr(), power.len());
+    // SAFETY: the pointer is the slice's own, never null, with its length, and lent alone.
+    unsafe { c::burgzemi_spherical_equivalent(kind, sphere, cylinder, axis, to, room) }
+}
+
+/// Writes the word of an open job whose text is a prescription.
+#[rustfmt::skip]
+pub fn prescription_write(
+    (n, q, m, b): Numbers,
+    table: &[u8],
+    starts: &[u8],
+    number: u32,
+    (right, left, distance): PrescriptionNumbers,
+    word: &mut [u8],
+) -> u8 {
+    let (at, size) = (table.as_ptr(), table.len());
+    let (s, t) = (starts.as_ptr(), starts.len());
+    let (to, room) = (word.as_mut_ptr(), word.len());
+    // SAFETY: each pointer is a slice's own, never null, with its length; the one written to is lent alone.
+    unsafe {
+        c::burgzemi_prescription_write(
+            n, q, m, b, at, size, s, t, number,
+            right.0, right.1, right.2, right.3, left.0, left.1, left.2, left.3, distance,
+            to, room,
+        )
+    }
+}
+
+/// Reads the word of an open job whose text is a prescription. As `marks` come the job number, high byte first, and kind and axis of the right and
+/// of the left eye; as `powers` sphere and cylinder of the right and of the left eye, and the pupil distance.
+pub fn prescription_read(
+    (n, q, m, b): Numbers,
+    table: &[u8],
+    word: &[u8],
+    marks: &mut [u8],
+    powers: &mut [f64],
+) -> u8 {
+    let (at, size) = (table.as_ptr(), table.len());
+    let (from, len) = (word.as_ptr(), word.len());
+    let (to, room) = (marks.as_mut_ptr(), marks.len());
+    let (also, count) = (powers.as_mut_ptr(), powers.len());
+    // SAFETY: each pointer is a slice's own, never null, with its length; the two written to are lent alone.
+    unsafe { c::burgzemi_prescription_read(n, q, m, b, at, size, from, len, to, room, also, count) }
 }

@@ -2,11 +2,11 @@
 
 use std::fmt;
 
-/// The number of a refusal: 1 to 15, 17 to 20, 23 or 24.
+/// The number of a refusal: 1 to 20, 23 or 24.
 #[derive(Clone, Copy, PartialEq, Eq, Hash, Debug)]
 pub struct Refusal(u8);
 
-const TEXTS: [(u8, &str); 21] = [
+const TEXTS: [(u8, &str); 22] = [
     (
         1,
         "a figure is out of range, or a job table has an unknown state or one number twice",
@@ -31,6 +31,12 @@ const TEXTS: [(u8, &str); 21] = [
     (13, "the job number is already open"),
     (14, "the job number is not open"),
     (15, "64 job numbers are held and a new one is needed"),
+    (
+        16,
+        "no prescription by the rules: sphere and sphere plus cylinder are whole eighths of a dioptre from -30 to 30, a power that stands alone and a \
+         cylinder are not 0, none is minus zero, an axis is 1 to 180, the pupil distance is whole half millimetres from 40 to 80, and the payload has \
+         17 bytes or more; a plain job call carries any other text",
+    ),
     (17, "job number 0 is no job"),
     (18, "the depth is none of 1 to 16"),
     (
@@ -58,6 +64,7 @@ impl Refusal {
     pub const ALREADY_OPEN: Refusal = Refusal(13);
     pub const NOT_OPEN: Refusal = Refusal(14);
     pub const FULL: Refusal = Refusal(15);
+    pub const PRESCRIPTION: Refusal = Refusal(16);
     pub const NUMBER_ZERO: Refusal = Refusal(17);
     pub const DEPTH: Refusal = Refusal(18);
     pub const SILENT: Refusal = Refusal(19);

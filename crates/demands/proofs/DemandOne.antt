@@ -1,27 +1,24 @@
 -- Demand 1 holds of every outcome. Assumes nothing.
 use mathlib.Core.Path.{_≡_, refl, ap}
 use mathlib.Core.Logic.{_≢_}
-use mathlib.Core.Bool.{Bool, true, false, not, cond, _&&_, _||_, false≢true}
+use mathlib.Core.Bool.{Bool, true, false, not, cond, _&&_, false≢true}
 use mathlib.Core.List.{List, [], _∷_}
 use mathlib.Core.Option.{Option, none, some}
 use Prim.Native.Nat.{ℕ, suc, _*_}
 use native.Mathlib.Omega.{arith}
 use lib.Dec.{eqb, ltb}
 use lib.ListN.{length, take, drop, replicate}
-use Rattle.refusals.specs.Refusals.{must, served, invalid, unfit, wrongLength, noPattern, valueTooLarge, disagrees, erased, badPayload, badRecord, jobCancelled, jobHeld, notOpen}
+use Rattle.refusals.specs.Refusals.{must, served, invalid, unfit, wrongLength, badRecord}
 use Rattle.combinatorics.specs.Lists.{all, any, allBelow}
 use Rattle.combinatorics.specs.Bursts.{apart, coverRank}
 use Rattle.combinatorics.proofs.Cases.{by-bool, by-eq, eqb-true, eqb-other}
 use Rattle.combinatorics.proofs.Lists.{both}
 use Rattle.cells.specs.Bytes.{payloadLen}
-use Rattle.cells.specs.Cells.{message, pick}
-use Rattle.cells.specs.Codec.{Reading, accepted, refused}
-use Rattle.cells.specs.Erasures.{foundBound, hasErasure}
+use Rattle.cells.specs.Cells.{message}
+use Rattle.cells.specs.Erasures.{foundBound}
 use Rattle.construction_a.specs.DemandTwo.{constructionA}
-use Rattle.construction_a.specs.Figures.{Params, inRange, fits, parts, placementCount, indexTail, messageLen}
-use Rattle.construction_a.specs.Writing.{plan, placementOf}
-use Rattle.construction_a.specs.Reading.{looksFixed, indexFound, heads, written, agrees, readRank, readFrom, read}
-use Rattle.construction_a.specs.Outcomes.{Held, held, inUse, FiguresOut, figuresNumber, figuresOut, Encoded, unwritten, encodeOut, worn, Covered, coverOut, WordAnswer, rankIs, refusal, answerNumber, Decoded, decodeAs, decodeOut}
+use Rattle.construction_a.specs.Figures.{Params, inRange, fits, placementCount, indexTail, messageLen}
+use Rattle.construction_a.specs.Outcomes.{Held, held, inUse, FiguresOut, figuresNumber, figuresOut, unwritten, encodeOut, worn, Covered, coverOut, WordAnswer, rankIs, refusal, answerNumber, Decoded, decodeAs, decodeOut}
 use Rattle.construction_a.specs.DemandTwo.{constructionA}
 use Rattle.construction_a.proofs.DemandTwo.{demand-two}
 use Rattle.construction_a.proofs.Figures.{serve}
@@ -29,14 +26,14 @@ use Rattle.construction_a.proofs.Ranking.{covers-least}
 use Rattle.ledger.proofs.Simulates.{simulation}
 use Rattle.jobs.specs.declared.Entry.{Entry}
 use Rattle.jobs.specs.declared.Entry.the-variants.{Free, Open, OnHold, Cancelled}
-use Rattle.jobs.specs.Jobs.{Kind, opening, cancelling, finishing, reinstating, holding, releasing, isJob, Status, unknown, opened, onHold, cancelled}
+use Rattle.jobs.specs.Jobs.{Kind, opening, cancelling, finishing, reinstating, holding, releasing, isJob}
 use Rattle.jobs.specs.Letters.{kindOf, listKind, known, callBy, isLetter, isListLetter}
 use Rattle.ledger.specs.Replay.{lengthsFit, ReplayOut, replayOut}
 use Rattle.jobs.specs.Table.{isFree, lookup, TableOut, put, twice, decide, openJob, openAt, cancelAt, finishAt, reinstateAt, holdAt, releaseAt, openOut, cancelOut, finishOut, reinstateOut, holdOut, releaseOut, callAs}
 use Rattle.payloads.specs.Payload.{carriesJob, payloadIn, spellsPayload, jobNumber}
 use Rattle.decoder.specs.Exported.{Exported, answered, exportedOut}
 use Rattle.jobcodec.specs.DemandThree.{isRefusal}
-use Rattle.jobcodec.specs.JobWrite.{jobStatus, whereOpen, jobWriteOut}
+use Rattle.jobcodec.specs.JobWrite.{jobStatus, jobWriteOut}
 use Rattle.jobcodec.specs.JobRead.{JobRead, withhold, jobIn, jobReading, jobReadOut}
 use Rattle.jobcodec.specs.ListRead.{ListOut, listOut}
 use Rattle.lanes.specs.Interleaving.{inDepth, interleaved, deinterleaved}
@@ -44,7 +41,6 @@ use Rattle.lanes.specs.Outcomes.{Rearranged, rearranged, interleaveOut, deinter
 use Rattle.verifier.specs.Verify.{agreesOutside, agreeing, differing, unchecked, verifyOut}
 use Rattle.lent.specs.Covering.{CoverLent, coverBytesOut}
 use Rattle.lent.specs.Table.{tableLen, statesKnown, tableIn}
-use Rattle.lent.specs.Jobs.{isWhole as wholeTable, slotsFit, withTable}
 use Rattle.exports.specs.Words.{encodeBytesOut, differs, verifyBytesOut}
 use Rattle.exports.specs.Jobs.{CallLent, called, calledAs, callBytesOut, jobWriteBytesOut, jobReadBytesOut}
 use Rattle.text.specs.Text.{decimal, hex}
@@ -54,31 +50,9 @@ use Rattle.lines.specs.Lines.{letterS, letterW, letterR}
 use Rattle.records.specs.Records.{headLen, letterOf, isEmpty, current, figuresIn, startsIn, payloadOf, readable}
 use Rattle.transfer.specs.Steps.{Step, stopped, ended, goesOn, figuresStep, callStep, jobStep, writeOut, readOut, serveOut, stepOut}
 use Rattle.demands.specs.Orders.{figuresAlone, wordWrite, covering, wordRead, rearrangement, jobWrite, jobRead, call, callByLetter, callOnBytes, listOfCalls}
+use Rattle.demands.proofs.Answering.{keep, done, tested, where-open, by-read, with-table, one-more, Writes}
+use Rattle.demands.proofs.Prescriptions.{transpose, spherical-equivalent, read-text, write-text, prescription-write, prescription-read, transpose-lent, equivalent-lent, prescription-write-bytes, prescription-read-bytes}
 use Rattle.demands.specs.DemandOne.{AnswersBy, ChecksBy, ListAnswers, StepAnswers, at-end, stops, refuses, serves, DemandOne}
-
--- ---- The two ways to answer, and an order of refusals test by test
-
-module _ {A : Type 0} {order : List ℕ} where
-  -- a refusal of the order, with what was lent as it was
-  keep : {a : ℕ} {lent : A} → all isRefusal order ≡ true → any (eqb a) (served ∷ order) ≡ true → AnswersBy order a lent lent
-  keep n h = record { numbers = n; answer = h; keeps = λ _. refl }
-
-  done : {lent left : A} → all isRefusal order ≡ true → AnswersBy order served lent left
-  unfolding any
-  done n = record { numbers = n; answer = refl; keeps = λ d. absurd (d refl) }
-
-module _ {O : Type 0} (P : O → Type 0) where
-  tested : (t : Bool) {x rest : O} → P x → P rest → P (must t x rest)
-  tested true p r = r
-  tested false p r = p
-
-  -- "12 14", and 23 between them
-  where-open : (refuse : ℕ → O) (s : Status) {rest : O}
-      → P (refuse jobCancelled) → P (refuse jobHeld) → P (refuse notOpen) → P rest → P (whereOpen s refuse rest)
-  where-open refuse (cancelled s) p h q r = p
-  where-open refuse onHold p h q r = h
-  where-open refuse unknown p h q r = q
-  where-open refuse opened p h q r = r
 
 -- ---- Words
 
@@ -88,9 +62,6 @@ figures-alone f = tested P (inRange f) (keep refl refl) (tested P (fits f) (keep
   where
     P : FiguresOut → Type 0
     P o = AnswersBy {A = Unit {0}} figuresAlone (figuresNumber o) tt tt
-
-abbrev Writes : List ℕ → List ℕ → Encoded → Type 0
-Writes order out o = AnswersBy order (o .answer) out (o .word)
 
 word-write : (f : Params) (at : Held) (ms out : List ℕ) → Writes wordWrite out (encodeOut f at ms out)
 unfolding encodeOut isRefusal all any
@@ -115,23 +86,6 @@ cover f map =
     (tested Covers (allBelow 2 map) (keep refl refl)
     (tested Covers (ltb (coverRank (f .n) (f .m) (f .b) (worn map)) (placementCount f)) (keep refl refl)
     (done refl)))))
-
--- a word is refused with 7, 19, 8 or 9, or accepted
-module _ (f : Params) (w : List ℕ) (P : Reading → Type 0) (seven : P (refused noPattern)) (nineteen : P (refused erased)) (eight : P (refused valueTooLarge))
-    (nine : P (refused disagrees)) (taken : (ss ms : List ℕ) → P (accepted ss ms)) where
-  by-found : (found : Option (List ℕ)) → P (readFrom f w found)
-  unfolding readRank
-  by-found none = seven
-  by-found (some ks) =
-      let v = written f w ks in
-      tested P (not (hasErasure (f .q) (heads f w ks))) nineteen
-      (tested P (ltb v (placementCount f)) eight
-      (tested P (agrees f w ks (placementOf f v)) nine
-      (tested P (not (hasErasure (f .q) (pick message (plan f (placementOf f v)) w))) nineteen (taken _ _))))
-
-  by-read : P (read f w)
-  unfolding read
-  by-read = by-found (indexFound (parts f) (f .m) (looksFixed f w))
 
 abbrev Reads : List ℕ → Decoded → Type 0
 Reads out o = AnswersBy {A = Held × List ℕ} wordRead (answerNumber (o .answer)) (held [], out) (o .placement, o .message)
@@ -384,15 +338,6 @@ module _ (out starts : List ℕ) where
       (tested ReadsIn (eqb (length starts) (2 * f .m)) (keep refl refl)
       (read-in (d .answer) (d .placement) (d .message) (word-read f w out))))
 
--- "1 2 10 3" before a job's own
-with-table : {O : Type 0} (P : O → Type 0) (f : Params) (table : List ℕ) (lengths : Bool) (refuse : ℕ → O) {rest : O}
-    → P (refuse invalid) → P (refuse unfit) → P (refuse badPayload) → P (refuse wrongLength) → P rest → P (withTable f table lengths refuse rest)
-with-table P f table lengths refuse p₁ p₂ p₁₀ p₃ r =
-    tested P (inRange f && slotsFit table) p₁
-    (tested P (fits f) p₂
-    (tested P (carriesJob (f .q) (messageLen f)) p₁₀
-    (tested P (wholeTable table && lengths) p₃ r)))
-
 job-write-bytes : (f : Params) (table starts payload out : List ℕ) → Writes jobWrite out (jobWriteBytesOut f table starts payload out)
 unfolding jobWriteBytesOut isRefusal all any
 job-write-bytes f table starts payload out =
@@ -403,12 +348,6 @@ job-read-bytes : (f : Params) (table w out : List ℕ) → ReadsJob out (jobRead
 unfolding jobReadBytesOut isRefusal all any
 job-read-bytes f table w out =
     with-table (ReadsJob out) f table true (withhold out) (keep refl refl) (keep refl refl) (keep refl refl) (keep refl refl) (job-read f (tableIn table) w out)
-
--- one more number in front of an order
-one-more : (a b c : Bool) → (a || c) ≡ true → (a || (b || c)) ≡ true
-one-more true b c h = refl
-one-more false true c h = refl
-one-more false false c h = h
 
 module _ (table : List ℕ) where
   abbrev CallsIn : Option Kind → CallLent → Type 0
@@ -556,6 +495,12 @@ demand-one =
       job-write = job-write;
       job-read = job-read;
       list-and-read = list-and-read;
+      transpose = transpose;
+      spherical-equivalent = spherical-equivalent;
+      read-text = read-text;
+      write-text = λ p text. write-text text p;
+      prescription-write = λ f es at n p out. prescription-write f es at n out p;
+      prescription-read = prescription-read;
       word-read-bytes = λ f w out starts. word-read-bytes out starts f w;
       word-write-bytes = word-write-bytes;
       verify-bytes = verify-bytes;
@@ -563,6 +508,10 @@ demand-one =
       call-bytes = call-bytes;
       job-write-bytes = job-write-bytes;
       job-read-bytes = job-read-bytes;
+      transpose-lent = λ e marks powers. transpose-lent marks powers e;
+      equivalent-lent = λ e power. equivalent-lent power e;
+      prescription-write-bytes = prescription-write-bytes;
+      prescription-read-bytes = λ f table w marks powers. prescription-read-bytes marks powers f table w;
       step = step;
       table-conditions = simulation;
       cover-conditions = λ f i h map. covers-least f (serve f i h) (worn map);

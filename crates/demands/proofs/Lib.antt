@@ -1,2 +1,4 @@
+pub mod Answering
+pub mod Prescriptions
 pub mod DemandOne
 pub mod DemandThree

@@ -1,14 +1,15 @@
 -- Demand 1, of the outcome of every entry point and for every input: the answer is 0 or a listed number, and where it is not 0 nothing has changed. That
 -- each call ends and touches lent memory alone is what a proved function has; that its answer and lent memory are these outcomes is its contract. The
 -- proof is `demand-one` of proofs/DemandOne.antt. The lengths for other languages refuse nothing and have no field; two readings one after the other (`decode_both`) are
--- two times word read; a prescription in memory or as a text joins with the calls that carry it. Assumes nothing.
+-- two times word read. Assumes nothing.
 use mathlib.Core.Path.{_≡_}
 use mathlib.Core.Logic.{_≢_}
 use mathlib.Core.Bool.{true, false}
 use mathlib.Core.List.{List, [], _∷_}
-use mathlib.Core.Option.{Option}
+use mathlib.Core.Option.{Option, none}
 use Prim.Native.Nat.{ℕ}
 use lib.Dec.{eqb}
+use lib.Ieee.{Float}
 use Rattle.refusals.specs.Refusals.{served}
 use Rattle.combinatorics.specs.Lists.{all, any}
 use Rattle.construction_a.specs.Figures.{Params, inRange, fits}
@@ -26,16 +27,23 @@ use Rattle.jobcodec.specs.DemandThree.{isRefusal}
 use Rattle.jobcodec.specs.JobWrite.{jobWriteOut}
 use Rattle.jobcodec.specs.JobRead.{jobReadOut}
 use Rattle.jobcodec.specs.ListRead.{ListSaid, listRefused, jobAnswer, ListOut, listOut}
+use Rattle.prescription.specs.declared.eyes.Eye.{Eye}
+use Rattle.prescription.specs.declared.texts.Prescription.{Prescription}
+use Rattle.prescription.specs.Outcomes.{transposeOut, equivalentOut, readOut, writeOut}
+use Rattle.prescriptioncodec.specs.PrescriptionWrite.{prescriptionWriteOut}
+use Rattle.prescriptioncodec.specs.PrescriptionRead.{prescriptionReadOut}
 use Rattle.lanes.specs.Outcomes.{interleaveOut, deinterleaveOut}
 use Rattle.verifier.specs.Verify.{Verdict, agreeing, verdictRefusal, verifyOut}
 use Rattle.lent.specs.Covering.{coverBytesOut}
+use Rattle.lent_prescriptions.specs.Eyes.{PowersLent, transposeLent, equivalentLent}
+use Rattle.lent_prescriptions.specs.Prescriptions.{prescriptionWriteBytesOut, prescriptionReadBytesOut}
 use Rattle.exports.specs.Words.{encodeBytesOut, differs, verdictNumber, verifyBytesOut}
 use Rattle.exports.specs.Jobs.{callBytesOut, jobWriteBytesOut, jobReadBytesOut}
 use Rattle.records.specs.Session.{Session, after}
 use Rattle.lines.specs.Lines.{refusalLine, servedLine}
 use Rattle.records.specs.Records.{letterOf}
 use Rattle.transfer.specs.Steps.{Step, stopped, ended, goesOn, stepOut}
-use Rattle.demands.specs.Orders.{figuresAlone, wordWrite, covering, wordRead, rearrangement, jobWrite, jobRead, call, callByLetter, callOnBytes, listOfCalls}
+use Rattle.demands.specs.Orders.{figuresAlone, wordWrite, covering, wordRead, rearrangement, jobWrite, jobRead, prescriptionAlone, prescriptionWrite, prescriptionRead, prescriptionLent, call, callByLetter, callOnBytes, listOfCalls}
 
 -- A call whose order is given answers a; what was lent is then `left`.
 pub record AnswersBy {A : Type 0} (order : List ℕ) (a : ℕ) (lent left : A) : Type 0 where
@@ -53,6 +61,10 @@ pub record ChecksBy (o : Verdict) : Type 0 where
   pub number : any (eqb (verdictNumber o)) (served ∷ differs ∷ wordWrite) ≡ true
   pub only-yes : verdictNumber o ≡ served → o ≡ agreeing
   pub no-refusal : isRefusal differs ≡ false
+
+-- Marks and powers are lent together.
+abbrev pub AnswersLent : List ℕ → List ℕ → List Float → PowersLent → Type 0
+AnswersLent order marks powers o = AnswersBy {A = List ℕ × List Float} order (o .answer) (marks, powers) (o .marks, o .powers)
 
 -- A list of calls and the job reading after it: a list that is refused leaves both buffers; a reading that is refused leaves its own, and the calls
 -- were made.
@@ -102,6 +114,15 @@ pub record DemandOne : Type 0 where
   pub job-read : (f : Params) (es : List Entry) (w out : List ℕ) → AnswersBy jobRead (jobReadOut f es w out .answer) out (jobReadOut f es w out .payload)
   pub list-and-read : (f : Params) (es : List Entry) (letters numbers answers w out : List ℕ)
       → ListAnswers (listOut f es letters numbers answers w out .answer) answers out (listOut f es letters numbers answers w out)
+  -- ---- Prescriptions. A refusal has no value beside it.
+  pub transpose : (e : Eye) → AnswersBy prescriptionAlone (transposeOut e .number) none (transposeOut e .value)
+  pub spherical-equivalent : (e : Eye) → AnswersBy prescriptionAlone (equivalentOut e .number) none (equivalentOut e .value)
+  pub read-text : (text : List ℕ) → AnswersBy prescriptionAlone (readOut text .number) none (readOut text .value)
+  pub write-text : (p : Prescription) (text : List ℕ) → AnswersBy prescriptionAlone (writeOut p text .answer) text (writeOut p text .text)
+  pub prescription-write : (f : Params) (es : List Entry) (at : Held) (n : ℕ) (p : Prescription) (out : List ℕ)
+      → AnswersBy prescriptionWrite (prescriptionWriteOut f es at n p out .answer) out (prescriptionWriteOut f es at n p out .word)
+  pub prescription-read : (f : Params) (es : List Entry) (w : List ℕ)
+      → AnswersBy prescriptionRead (prescriptionReadOut f es w .number) none (prescriptionReadOut f es w .value)
   -- ---- For other languages
   pub word-read-bytes : (f : Params) (w out starts : List ℕ)
       → AnswersBy {A = List ℕ × List ℕ} wordRead (exportedOut f w out starts .answer) (out, starts)
@@ -116,6 +137,13 @@ pub record DemandOne : Type 0 where
       → AnswersBy jobWrite (jobWriteBytesOut f table starts payload out .answer) out (jobWriteBytesOut f table starts payload out .word)
   pub job-read-bytes : (f : Params) (table w out : List ℕ)
       → AnswersBy jobRead (jobReadBytesOut f table w out .answer) out (jobReadBytesOut f table w out .payload)
+  pub transpose-lent : (e : Eye) (marks : List ℕ) (powers : List Float) → AnswersLent prescriptionLent marks powers (transposeLent e marks powers)
+  pub equivalent-lent : (e : Eye) (power : List Float)
+      → AnswersBy prescriptionLent (equivalentLent e power .answer) power (equivalentLent e power .power)
+  pub prescription-write-bytes : (f : Params) (table starts : List ℕ) (n : ℕ) (p : Prescription) (out : List ℕ)
+      → AnswersBy prescriptionWrite (prescriptionWriteBytesOut f table starts n p out .answer) out (prescriptionWriteBytesOut f table starts n p out .word)
+  pub prescription-read-bytes : (f : Params) (table w marks : List ℕ) (powers : List Float)
+      → AnswersLent prescriptionRead marks powers (prescriptionReadBytesOut f table w marks powers)
   -- ---- The transfer program
   pub step : (s : Session) (bytes : List ℕ) → StepAnswers s (letterOf bytes) (stepOut s bytes)
   -- ---- "Each number comes under its condition and under no other": those of the table as the ledger has them, 6 where no placement covers the map,

@@ -1,10 +1,10 @@
 -- "Orders: ..": the numbers that each call can refuse with, in document 01's order; document 02, ticket 3: 17, "itself a state refusal and ahead of the
--- others"; ticket 7: 20, "after 1"; ticket 10: 23, "after 12 and before 14", and 24, "after 12"; ticket 5: 18; ticket 6: 19. Where lent bytes add a refusal,
+-- others"; ticket 7: 20, "after 1"; ticket 10: 23, "after 12 and before 14", and 24, "after 12"; ticket 5: 18; ticket 6: 19; ticket 2: 16. Where lent bytes add a refusal,
 -- it stands at its place. Which of them comes first is seen in the outcomes. Assumes nothing.
 use mathlib.Core.List.{List, [], _∷_}
 use mathlib.Core.Option.{Option, none, some}
 use Prim.Native.Nat.{ℕ}
-use Rattle.refusals.specs.Refusals.{invalid, unfit, wrongLength, badSymbol, badStarts, uncovered, noPattern, valueTooLarge, disagrees, erased, badPayload, badRecord, badDepth, jobCancelled, alreadyOpen, notOpen, tableFull, numberZero, notCancelled, jobHeld, notHeld}
+use Rattle.refusals.specs.Refusals.{invalid, unfit, wrongLength, badSymbol, badStarts, uncovered, noPattern, valueTooLarge, disagrees, erased, badPayload, badRecord, badPrescription, badDepth, jobCancelled, alreadyOpen, notOpen, tableFull, numberZero, notCancelled, jobHeld, notHeld}
 use Rattle.jobs.specs.Jobs.{Kind, opening, cancelling, finishing, reinstating, holding, releasing}
 
 -- "figures alone 1 2"
@@ -36,6 +36,23 @@ abbrev pub jobRead : List ℕ
 jobRead =
     invalid ∷ unfit ∷ badPayload ∷ wrongLength ∷ badSymbol ∷ noPattern ∷ erased ∷ valueTooLarge ∷ disagrees ∷ erased ∷ badPayload
     ∷ jobCancelled ∷ jobHeld ∷ notOpen ∷ []
+
+-- document 02, "The prescription on the tray": 16 "after all other input refusals"; alone where a value in memory or a text is all that is given
+abbrev pub prescriptionAlone : List ℕ
+prescriptionAlone = badPrescription ∷ []
+
+abbrev pub prescriptionWrite : List ℕ
+prescriptionWrite =
+    invalid ∷ unfit ∷ badPayload ∷ wrongLength ∷ badStarts ∷ badPrescription ∷ numberZero ∷ jobCancelled ∷ jobHeld ∷ notOpen ∷ []
+
+abbrev pub prescriptionRead : List ℕ
+prescriptionRead =
+    invalid ∷ unfit ∷ badPayload ∷ wrongLength ∷ badSymbol ∷ noPattern ∷ erased ∷ valueTooLarge ∷ disagrees ∷ erased ∷ badPayload ∷ badPrescription
+    ∷ jobCancelled ∷ jobHeld ∷ notOpen ∷ []
+
+-- transposing and the spherical equivalent into lent buffers: 3 for their lengths before
+abbrev pub prescriptionLent : List ℕ
+prescriptionLent = wrongLength ∷ prescriptionAlone
 
 -- "open 1 12 13 15; cancel 1 12 15; finish 1 12 14", with 17 before 12 in the first two and 23 before 14 in the third; reinstate 1 20; hold 1 12 23 14;
 -- release 1 12 24

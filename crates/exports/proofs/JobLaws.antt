@@ -3,8 +3,7 @@ use mathlib.Core.Path.{_≡_, refl, sym, ap₂, _∙_}
 use mathlib.Core.Logic.{_≢_}
 use mathlib.Core.Bool.{true, false}
 use mathlib.Core.List.{List}
-use Prim.Native.Nat.{ℕ, _*_}
-use lib.Dec.{eqb}
+use Prim.Native.Nat.{ℕ}
 use lib.ListN.{length}
 use Rattle.refusals.specs.Refusals.{served, invalid, wrongLength, badRecord}
 use Rattle.combinatorics.proofs.Cases.{eqb-same, eqb-other}
@@ -55,12 +54,12 @@ module _ (bytes : List ℕ) (letter number : ℕ) where
 module _ (f : Params) (table starts payload out : List ℕ) where
   pub write-other : length table ≢ tableLen → unwritten out (withoutTable f) ≡ jobWriteBytesOut f table starts payload out
   unfolding jobWriteBytesOut
-  write-other = other-table f table (unwritten out) (eqb (length starts) (2 * f .m)) _
+  write-other = other-table f table (unwritten out) _ _
 
   module _ (size : length table ≡ tableLen) where
     pub write-state : statesKnown table ≡ false → unwritten out invalid ≡ jobWriteBytesOut f table starts payload out
     unfolding jobWriteBytesOut
-    write-state = unknown-state f table (unwritten out) (eqb (length starts) (2 * f .m)) size _
+    write-state = unknown-state f table (unwritten out) _ size _
 
     pub write-whole : statesKnown table ≡ true → jobWriteOut f (tableIn table) (placementFrom (f .m) starts) payload out ≡ jobWriteBytesOut f table starts payload out
     unfolding jobWriteOut jobWriteBytesOut
@@ -77,12 +76,12 @@ all-seen o = ap₂ (λ (p : List ℕ) (n : ℕ). seen n p)
 module _ (f : Params) (table w out : List ℕ) where
   pub read-other : length table ≢ tableLen → withhold out (withoutTable f) ≡ jobReadBytesOut f table w out
   unfolding jobReadBytesOut
-  read-other = other-table f table (withhold out) true _
+  read-other = other-table f table (withhold out) _ _
 
   module _ (size : length table ≡ tableLen) where
     pub read-state : statesKnown table ≡ false → withhold out invalid ≡ jobReadBytesOut f table w out
     unfolding jobReadBytesOut
-    read-state = unknown-state f table (withhold out) true size _
+    read-state = unknown-state f table (withhold out) _ size _
 
     pub read-whole : statesKnown table ≡ true → jobReadOut f (tableIn table) w out ≡ jobReadBytesOut f table w out
     unfolding jobReadOut jobReading jobReadBytesOut

@@ -1,5 +1,5 @@
 -- Laws of word write and the check of a word on bytes. Assumes nothing.
-use mathlib.Core.Path.{_≡_, ap₂}
+use mathlib.Core.Path.{_≡_}
 use mathlib.Core.List.{List, []}
 use Prim.Native.Nat.{ℕ, _*_}
 use native.Mathlib.Omega.{arith}
@@ -7,7 +7,7 @@ use lib.ListN.{length}
 use Rattle.refusals.specs.Refusals.{invalid, unfit}
 use Rattle.combinatorics.proofs.Cases.{by-eq, by-bool, eqb-same, eqb-other, leb-holds}
 use Rattle.construction_a.specs.Figures.{Params, maxBursts, inRange, fits}
-use Rattle.construction_a.specs.Outcomes.{Held, held, Encoded, unwritten, encodeOut}
+use Rattle.construction_a.specs.Outcomes.{Held, held, encodeOut}
 use Rattle.construction_a.proofs.Figures.{ranged}
 use Rattle.construction_a.proofs.Outcomes.{figures-invalid, figures-unfit}
 use Rattle.encoder.proofs.Outcomes.{encode-unfit, encode-count}
@@ -15,10 +15,6 @@ use Rattle.verifier.specs.Verify.{verifyOut}
 use Rattle.verifier.proofs.Calls.{verify-unfit, verify-count}
 use Rattle.lent.specs.Starts.{placementFrom}
 use Rattle.exports.specs.Words.{encodeBytesOut, verifyBytesOut}
-
--- what a caller of word write is told: the answer, and what the lent word then holds
-pub all-told : {w : List ℕ} {n : ℕ} (o : Encoded) → w ≡ o .word → n ≡ o .answer → unwritten w n ≡ o
-all-told o = ap₂ (λ (w : List ℕ) (n : ℕ). unwritten w n)
 
 -- ---- "word write 1 2 3 5 4": a placement without starts is refused where the bytes of the starts are
 

@@ -1,5 +1,5 @@
 -- Laws of a job with a table in bytes: the refusals before its own. Assumes nothing.
-use mathlib.Core.Path.{_≡_, sym}
+use mathlib.Core.Path.{_≡_, sym, ap₂}
 use mathlib.Core.Logic.{_≢_}
 use mathlib.Core.Bool.{Bool, true, false, not, _&&_}
 use mathlib.Core.List.{List, []}
@@ -11,7 +11,7 @@ use Rattle.refusals.specs.Refusals.{must, invalid, unfit, wrongLength, badPaylo
 use Rattle.combinatorics.proofs.Cases.{by-bool, eqb-same, eqb-other, leb-holds, leb-fails}
 use Rattle.cells.specs.Bytes.{payloadLen}
 use Rattle.construction_a.specs.Figures.{Params, maxBursts, inRange, fits, messageLen}
-use Rattle.construction_a.specs.Outcomes.{Held, held, unserved, figuresOut}
+use Rattle.construction_a.specs.Outcomes.{Held, held, unserved, figuresOut, Encoded, unwritten}
 use Rattle.construction_a.proofs.Figures.{ranged}
 use Rattle.construction_a.proofs.Outcomes.{refused-alike}
 use Rattle.jobs.specs.Table.{twice}
@@ -83,3 +83,7 @@ whole-write f table starts refuse size s write own e count =
     (λ i. by-bool (eqb (length starts) (2 * f .m))
     (λ m. rw (leb-holds (f .m) maxBursts (ranged f i .m-most), m))
     (λ m. rw (leb-holds (f .m) maxBursts (ranged f i .m-most), m) (count (held []) (λ z. absurd (omega (arith, ranged f i .m-least, z)))))))
+
+-- what a caller of word write is told: the answer, and what the lent word then holds
+pub all-told : {w : List ℕ} {n : ℕ} (o : Encoded) → w ≡ o .word → n ≡ o .answer → unwritten w n ≡ o
+all-told o = ap₂ (λ (w : List ℕ) (n : ℕ). unwritten w n)

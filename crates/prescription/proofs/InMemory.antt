@@ -29,7 +29,7 @@ pub record EyeHolds (e : Eye) (l : Lens) : Type 0 where
   pub kept : keeps l ≡ true
   pub is : eyeFits e ≡ true → e ≡ eyeOf l
 
-eye-holds : (e : Eye) (l : Lens) → lensOf e ≡ some l → EyeHolds e l
+pub eye-holds : (e : Eye) (l : Lens) → lensOf e ≡ some l → EyeHolds e l
 unfolding lensOf eyeOf keeps
 eye-holds Plano l h =
     let is : plano ≡ l = Option·some-injective plano l h in

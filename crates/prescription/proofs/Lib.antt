@@ -4,6 +4,7 @@ pub mod Counting
 pub mod Storing
 pub mod Lenses
 pub mod LensOfEye
+pub mod Altering
 pub mod InMemory
 pub mod Reading
 pub mod Writing

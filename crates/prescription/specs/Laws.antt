@@ -6,7 +6,7 @@ use mathlib.Core.Option.{some}
 use Prim.Native.Nat.{ℕ}
 use lib.ListN.{length}
 use lib.IntN.{ℤ, _+ℤ_}
-use lib.Ieee.{binary64, toBits}
+use lib.Ieee.{Float, binary64, toBits}
 use Rattle.refusals.specs.Refusals.{served}
 use Rattle.combinatorics.specs.Lists.{allBelow}
 use Rattle.prescription.specs.declared.eyes.Eye.{Eye}
@@ -17,7 +17,7 @@ use Rattle.prescription.specs.declared.texts.Prescription.{Prescription}
 use Rattle.prescription.specs.Fractions.{fraction, countOf}
 use Rattle.prescription.specs.Lens.{Lens, toric, keeps, equivalent}
 use Rattle.prescription.specs.Eyes.{Prescribed, KeepsRules, prescribedOf, prescriptionOf, prescriptionFits}
-use Rattle.prescription.specs.Outcomes.{answered, transposeOut, readOut, written, writeOut}
+use Rattle.prescription.specs.Outcomes.{answered, transposeOut, equivalentOut, readOut, written, writeOut}
 
 -- ---- One lens
 
@@ -46,6 +46,19 @@ pub record Moves : Type 0 where
   pub by-cylinder : (s c t : ℤ) (a : ℕ) → keeps (toric s c a) ≡ true → keeps (toric s (c +ℤ t) a) ≡ true
       → equivalent (toric s (c +ℤ t) a) ≡ equivalent (toric s c a) +ℤ t
   pub exact : (l : Lens) → keeps l ≡ true → countOf 16 (fraction 16 (equivalent l)) ≡ some (equivalent l)
+
+-- so many d-ths more: both floats are whole numbers of d-ths, and y is t of them above x
+pub record MovedBy (d : ℕ) (t : ℤ) (x y : Float) : Type 0 where
+  pub count : ℤ
+  pub before : countOf d x ≡ some count
+  pub after : countOf d y ≡ some (count +ℤ t)
+
+-- the same of what the call answers for a toric in memory and for the altered one; "while the lens keeps to these rules" is that both are answered
+pub record AnswersMove : Type 0 where
+  pub by-sphere : (s u c x y : Float) (a : ℕ) (t : ℤ) → MovedBy 8 t s u
+      → equivalentOut (Toric s c a) ≡ answered x → equivalentOut (Toric u c a) ≡ answered y → MovedBy 16 (t +ℤ t) x y
+  pub by-cylinder : (s c d x y : Float) (a : ℕ) (t : ℤ) → MovedBy 8 t c d
+      → equivalentOut (Toric s c a) ≡ answered x → equivalentOut (Toric s d a) ≡ answered y → MovedBy 16 t x y
 
 -- ---- A prescription
 

@@ -6,7 +6,9 @@ use std::time::Instant;
 
 use agree::judge::Judge;
 use agree::rng::Rng;
-use agree::{calls, former, grid, jobs, lanes, lengths, strips, words};
+use agree::{
+    calls, eyes, former, grid, jobs, lanes, lengths, prescriptions, strips, torics, words,
+};
 use second::lanes::MAX_DEPTH;
 
 const GATE_SEED: u64 = 1996;
@@ -45,9 +47,14 @@ fn run(rounds: u64, seed: u64, long: bool) -> ExitCode {
     former::run(&mut judge);
     lengths::run(&mut judge);
     patterns(&mut judge, &mut rng, long);
+    eyes::run(&mut judge);
+    torics::payload_lengths(&mut judge, &mut rng);
+    torics::every_toric(&mut judge, &mut rng);
+    let powers = eyes::odd();
     for round in 0..rounds {
         words::round(&mut judge, &mut rng);
         jobs::round(&mut judge, &mut rng);
+        prescriptions::round(&mut judge, &mut rng, &powers);
         calls::single(&mut judge, &mut rng);
         if round % 16 == 0 {
             words::end_ranks(&mut judge, &mut rng);

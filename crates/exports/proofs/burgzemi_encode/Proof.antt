@@ -4,7 +4,8 @@ use borrow.Author.Needs.{needs}
 use Rattle.construction_a.specs.Figures.{params}
 use Rattle.construction_a.specs.Outcomes.{Held, encodeOut}
 use Rattle.placements.specs.Bridge.{heldAs}
-use Rattle.exports.proofs.Words.{all-told, encode-bytes}
+use Rattle.lent.proofs.WithTable.{all-told}
+use Rattle.exports.proofs.Words.{encode-bytes}
 use Rattle.exports.proofs.burgzemi_encode.Statement.{statement}
 use Rattle.exports.proofs.burgzemi_encode.Tie as tie
 

@@ -9,7 +9,7 @@ use Rattle.placements.specs.Bridge.{heldAs}
 use Rattle.jobs.specs.declared.Entry.{Entry}
 use Rattle.jobs.specs.Slots.{entries}
 use Rattle.jobcodec.specs.JobWrite.{jobWriteOut}
-use Rattle.exports.proofs.Words.{all-told}
+use Rattle.lent.proofs.WithTable.{all-told}
 use Rattle.exports.proofs.JobLaws.{write-other, write-state, write-whole}
 use Rattle.exports.proofs.burgzemi_job_write.Statement.{statement}
 use Rattle.exports.proofs.burgzemi_job_write.Tie as tie

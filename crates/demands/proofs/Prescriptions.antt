@@ -1,0 +1,177 @@
+-- Demand 1 holds of the outcomes of every prescription call. Assumes nothing.
+use mathlib.Core.Path.{_≡_, refl}
+use mathlib.Core.Bool.{true, not, _&&_}
+use mathlib.Core.List.{List}
+use mathlib.Core.Option.{Option, none, some}
+use Prim.Native.Nat.{ℕ, _*_}
+use native.Mathlib.Omega.{arith}
+use lib.Dec.{eqb, leb}
+use lib.Ieee.{Float}
+use lib.ListN.{length, drop}
+use Rattle.refusals.specs.Refusals.{served, wrongLength}
+use Rattle.combinatorics.specs.Bursts.{apart}
+use Rattle.combinatorics.specs.Lists.{all, any, allBelow}
+use Rattle.cells.specs.Bytes.{payloadLen}
+use Rattle.cells.specs.Erasures.{foundBound}
+use Rattle.construction_a.specs.Figures.{Params, inRange, fits, messageLen}
+use Rattle.construction_a.specs.Outcomes.{coding, Held, inUse, unwritten}
+use Rattle.jobs.specs.declared.Entry.{Entry}
+use Rattle.jobs.specs.Jobs.{isJob}
+use Rattle.jobs.specs.Table.{twice}
+use Rattle.payloads.specs.Payload.{carriesJob, jobNumber, payloadIn, spellsPayload}
+use Rattle.jobcodec.specs.DemandThree.{isRefusal}
+use Rattle.jobcodec.specs.JobWrite.{jobStatus}
+use Rattle.prescription.specs.declared.eyes.Eye.{Eye}
+use Rattle.prescription.specs.declared.texts.Prescription.{Prescription}
+use Rattle.prescription.specs.Fractions.{fraction}
+use Rattle.prescription.specs.Lens.{transposed, equivalent}
+use Rattle.prescription.specs.Eyes.{lensOf, eyeOf, Prescribed, prescribedOf, prescriptionOf}
+use Rattle.prescription.specs.Stored.{storedLen, prescribedIn}
+use Rattle.prescription.specs.Outcomes.{Answered, refused, orRefused, transposeOut, equivalentOut, readOut, Written, writtenOr, writeOut}
+use Rattle.prescriptioncodec.specs.PrescriptionWrite.{numberLen, prescriptionPayload, minPayload, writePrescribed, prescriptionWriteOut}
+use Rattle.prescriptioncodec.specs.PrescriptionRead.{HandedOut, handPrescription, prescriptionIn, prescriptionReading, prescriptionReadOut}
+use Rattle.lent_prescriptions.specs.Eyes.{marksOf, powersOf, powersLent, answerLent, transposeLent, PowerLent, equivalentLentAs, equivalentLent}
+use Rattle.lent_prescriptions.specs.Prescriptions.{handedMarks, handedPowers, haveRoom, prescriptionWriteBytesOut, prescriptionReadLent, prescriptionReadBytesOut}
+use Rattle.lent.specs.Table.{tableIn}
+use Rattle.demands.specs.Orders.{prescriptionAlone, prescriptionWrite, prescriptionRead, prescriptionLent}
+use Rattle.demands.specs.DemandOne.{AnswersBy, AnswersLent}
+use Rattle.demands.proofs.Answering.{keep, done, tested, where-open, by-read, with-table, one-more, Writes}
+
+-- ---- In memory and as a text: 16, or a value
+
+abbrev Answers : {A : Type 0} → List ℕ → Answered A → Type 0
+Answers order o = AnswersBy order (o .number) none (o .value)
+
+or-refused : {A B : Type 0} (f : A → B) (o : Option A) → Answers prescriptionAlone (orRefused f o)
+unfolding isRefusal all any
+or-refused f none = keep refl refl
+or-refused f (some x) = done refl
+
+pub transpose : (e : Eye) → Answers prescriptionAlone (transposeOut e)
+unfolding transposeOut
+transpose e = or-refused (λ l. eyeOf (transposed l)) (lensOf e)
+
+pub spherical-equivalent : (e : Eye) → Answers prescriptionAlone (equivalentOut e)
+unfolding equivalentOut
+spherical-equivalent e = or-refused (λ l. fraction 16 (equivalent l)) (lensOf e)
+
+pub read-text : (text : List ℕ) → Answers prescriptionAlone (readOut text)
+unfolding readOut
+read-text text = or-refused prescriptionOf (prescribedIn text)
+
+module _ (text : List ℕ) where
+  abbrev WritesText : Written → Type 0
+  WritesText o = AnswersBy prescriptionAlone (o .answer) text (o .text)
+
+  written-or : (o : Option Prescribed) → WritesText (writtenOr text o)
+  unfolding isRefusal all any
+  written-or none = keep refl refl
+  written-or (some x) = done refl
+
+  pub write-text : (p : Prescription) → WritesText (writeOut p text)
+  unfolding writeOut isRefusal all any
+  write-text p = tested WritesText (leb storedLen (length text)) (keep refl refl) (written-or (prescribedOf p))
+
+-- ---- On a strip
+
+module _ (f : Params) (es : List Entry) (at : Held) (n : ℕ) (out : List ℕ) where
+  write-prescribed : (o : Option Prescribed) → Writes prescriptionWrite out (writePrescribed (coding f) es at n o out)
+  unfolding isRefusal all any
+  write-prescribed none = keep refl refl
+  write-prescribed (some x) =
+      let y = prescriptionPayload (payloadLen (f .q) (messageLen f)) n x in
+      tested (Writes prescriptionWrite out) (isJob (jobNumber y)) (keep refl refl)
+      (where-open (Writes prescriptionWrite out) (unwritten out) (jobStatus es y) (keep refl refl) (keep refl refl) (keep refl refl) (done refl))
+
+  pub prescription-write : (p : Prescription) → Writes prescriptionWrite out (prescriptionWriteOut f es at n p out)
+  unfolding prescriptionWriteOut isRefusal all any
+  prescription-write p =
+      let P = Writes prescriptionWrite out in
+      let k = messageLen f in
+      tested P (inRange f && not (twice es)) (keep refl refl)
+      (tested P (fits f) (keep refl refl)
+      (tested P (carriesJob (f .q) k) (keep refl refl)
+      (tested P (eqb (at .count) (f .m) && eqb (length out) (f .n)) (keep refl refl)
+      (tested P (apart (f .b) (f .n) 0 (inUse at)) (keep refl refl)
+      (tested P (leb minPayload (payloadLen (f .q) k)) (keep refl refl)
+      (write-prescribed (prescribedOf p)))))))
+
+hand-prescription : (es : List Entry) (payload : List ℕ) (o : Option Prescribed) → Answers prescriptionRead (handPrescription es payload o)
+unfolding isRefusal all any
+hand-prescription es payload none = keep refl refl
+hand-prescription es payload (some x) =
+    where-open (λ (o : Answered HandedOut). Answers prescriptionRead o) refused (jobStatus es payload) (keep refl refl) (keep refl refl) (keep refl refl) (done refl)
+
+pub prescription-read : (f : Params) (es : List Entry) (w : List ℕ) → Answers prescriptionRead (prescriptionReadOut f es w)
+unfolding prescriptionReadOut prescriptionReading isRefusal all any
+prescription-read f es w =
+    let q = f .q in
+    let k = messageLen f in
+    tested P (inRange f && not (twice es)) (keep refl refl)
+    (tested P (fits f) (keep refl refl)
+    (tested P (carriesJob q k) (keep refl refl)
+    (tested P (eqb (length w) (f .n)) (keep refl refl)
+    (tested P (allBelow (foundBound q) w) (keep refl refl)
+    (by-read f w (λ d. P (prescriptionIn q k es d)) (keep refl refl) (keep refl refl) (keep refl refl) (keep refl refl)
+    (λ ss ms. tested P (spellsPayload q k ms) (keep refl refl)
+    (hand-prescription es (payloadIn q k ms) (prescribedIn (drop numberLen (payloadIn q k ms))))))))))
+  where
+    P : Answered HandedOut → Type 0
+    P o = Answers prescriptionRead o
+
+-- ---- For other languages
+
+some-none : {A : Type 0} (x : A) → some x ≡ none → ⊥
+some-none x e = let z : _≡_ {A = ℕ} 0 1 = cc in omega arith
+
+-- 3 in front
+one-before : {A : Type 0} {a : ℕ} {lent left : A} → AnswersBy prescriptionAlone a lent left → AnswersBy prescriptionLent a lent left
+unfolding isRefusal all any
+one-before {A} {a} h = record { numbers = refl; answer = one-more (eqb a served) (eqb a wrongLength) _ (h .answer); keeps = h .keeps }
+
+module _ (marks : List ℕ) (powers : List Float) where
+  -- an answer that is lent as marks and powers
+  as-lent : {A : Type 0} {order : List ℕ} (f : A → List ℕ) (g : A → List Float) (a : ℕ) (o : Option A) → AnswersBy order a none o
+      → AnswersLent order marks powers (answerLent f g marks powers (record { number = a; value = o }))
+  as-lent f g a none h = keep (h .numbers) (h .answer)
+  as-lent f g a (some x) h = record { numbers = h .numbers; answer = h .answer; keeps = λ d. absurd (some-none x (h .keeps d)) }
+
+  pub transpose-lent : (e : Eye) → AnswersLent prescriptionLent marks powers (transposeLent e marks powers)
+  unfolding transposeLent isRefusal all any
+  transpose-lent e =
+      tested (AnswersLent prescriptionLent marks powers) (eqb (length marks) 2 && eqb (length powers) 2) (keep refl refl)
+      (as-lent marksOf powersOf (transposeOut e .number) (transposeOut e .value) (one-before (transpose e)))
+
+  pub prescription-read-bytes : (f : Params) (table w : List ℕ) → AnswersLent prescriptionRead marks powers (prescriptionReadBytesOut f table w marks powers)
+  unfolding prescriptionReadBytesOut prescriptionReadLent isRefusal all any
+  prescription-read-bytes f table w =
+      let P = AnswersLent prescriptionRead marks powers in
+      let o = prescriptionReadOut f (tableIn table) w in
+      with-table P f table true (powersLent marks powers) (keep refl refl) (keep refl refl) (keep refl refl) (keep refl refl)
+      (tested P (inRange f && not (twice (tableIn table))) (keep refl refl)
+      (tested P (fits f) (keep refl refl)
+      (tested P (carriesJob (f .q) (messageLen f)) (keep refl refl)
+      (tested P (haveRoom marks powers) (keep refl refl)
+      (as-lent (λ (h : HandedOut). handedMarks (h .number) (h .prescription)) (λ (h : HandedOut). handedPowers (h .prescription)) (o .number) (o .value)
+      (prescription-read f (tableIn table) w))))))
+
+module _ (power : List Float) where
+  abbrev LendsPower : PowerLent → Type 0
+  LendsPower o = AnswersBy prescriptionLent (o .answer) power (o .power)
+
+  power-lent : (a : ℕ) (o : Option Float) → AnswersBy prescriptionLent a none o → LendsPower (equivalentLentAs power a o)
+  power-lent a none h = keep (h .numbers) (h .answer)
+  power-lent a (some x) h = record { numbers = h .numbers; answer = h .answer; keeps = λ d. absurd (some-none x (h .keeps d)) }
+
+  pub equivalent-lent : (e : Eye) → LendsPower (equivalentLent e power)
+  unfolding equivalentLent isRefusal all any
+  equivalent-lent e =
+      tested LendsPower (eqb (length power) 1) (keep refl refl)
+      (power-lent (equivalentOut e .number) (equivalentOut e .value) (one-before (spherical-equivalent e)))
+
+pub prescription-write-bytes : (f : Params) (table starts : List ℕ) (n : ℕ) (p : Prescription) (out : List ℕ)
+    → Writes prescriptionWrite out (prescriptionWriteBytesOut f table starts n p out)
+unfolding prescriptionWriteBytesOut isRefusal all any
+prescription-write-bytes f table starts n p out =
+    with-table (Writes prescriptionWrite out) f table (eqb (length starts) (2 * f .m)) (unwritten out) (keep refl refl) (keep refl refl) (keep refl refl)
+    (keep refl refl) (prescription-write f (tableIn table) _ n out p)

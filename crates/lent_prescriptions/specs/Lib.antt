@@ -1,0 +1,2 @@
+pub mod Eyes
+pub mod Prescriptions

@@ -1,0 +1,128 @@
+// Prescriptions written and read for other languages: the job table and starts as bytes, what is read as marks and powers. Inner functions.
+// Assumes nothing.
+ghost use mathlib.Core.Path.{_≡_};
+ghost use lib.ListN.{length};
+ghost use Rattle.construction_a.specs.Outcomes.{unwritten};
+ghost use Rattle.jobs.specs.Slots.{entries};
+ghost use Rattle.params.specs.Bridge.{given};
+ghost use Rattle.lent_prescriptions.specs.Eyes.{powersLent};
+ghost use Rattle.lent_prescriptions.specs.Prescriptions.{prescriptionWriteBytesOut, handedMarks, handedPowers, prescriptionReadLent, prescriptionReadBytesOut, withoutRoom};
+use crate::eyes;
+use jobs::JobTable;
+use lent::starts;
+use lent::table;
+use params::Params;
+use params::bytes::BYTE_VALUES;
+use prescription::texts::Prescription;
+use prescriptioncodec::ReadAnswer;
+use refusals::Refusal;
+
+// The job number's bytes, then kind and axis of both eyes.
+const NUMBER_LEN: usize = 4;
+
+const MARKS_LEN: usize = 8;
+
+// Sphere and cylinder of both eyes, and the pupil distance.
+const POWERS_LEN: usize = 5;
+
+// Writes a job's number and its prescription into a word, with the table and the starts as bytes. Refusals: 1 2 10 3 5 16 17 12 23 14.
+pub fn write(
+    figures: Params,
+    table: &[u8],
+    starts: &[u8],
+    number: u32,
+    prescription: Prescription,
+    word: &mut [u8],
+) -> u8
+    ensures { λ r. ⌜ unwritten (now (word .exit)) r ≡ prescriptionWriteBytesOut (given figures) (now (table .entry)) (now (starts .entry)) number prescription (now (word .entry)) ⌝ }
+{
+    if table.len() != table::TABLE_LEN {
+        return table::without_table(figures);
+    }
+    if !table::states_known(table) {
+        return Refusal::INVALID;
+    }
+    let at = starts::placement_from(starts, figures.m);
+    let held = table::table_in(table);
+    prescriptioncodec::prescription_write(figures, held, at, number, prescription, word)
+}
+
+// Reads a found word with the table as bytes, and puts its job number and its prescription into `marks` and `powers`. Refusals: 1 2, 10 for too few
+// bytes, 3 4 7 19 8 9 19, 10, 16, 12 23 14.
+pub fn read(figures: Params, table: &[u8], word: &[u8], marks: &mut [u8], powers: &mut [f64]) -> u8
+    ensures { λ r. ⌜ powersLent (now (marks .exit)) (now (powers .exit)) r ≡ prescriptionReadBytesOut (given figures) (now (table .entry)) (now (word .entry)) (now (marks .entry)) (now (powers .entry)) ⌝ }
+{
+    if table.len() != table::TABLE_LEN {
+        return table::without_table(figures);
+    }
+    if !table::states_known(table) {
+        return Refusal::INVALID;
+    }
+    let held = table::table_in(table);
+    read_held(figures, held, word, marks, powers)
+}
+
+// The same with the table that the bytes are.
+fn read_held(
+    figures: Params,
+    table: JobTable,
+    word: &[u8],
+    marks: &mut [u8],
+    powers: &mut [f64],
+) -> u8
+    ensures { λ r. ⌜ powersLent (now (marks .exit)) (now (powers .exit)) r ≡ prescriptionReadLent (given figures) (entries table) (now (word .entry)) (now (marks .entry)) (now (powers .entry)) ⌝ }
+{
+    if marks.len() != MARKS_LEN {
+        return without_room(figures, table);
+    }
+    if powers.len() != POWERS_LEN {
+        return without_room(figures, table);
+    }
+    let answer = prescriptioncodec::prescription_read(figures, table, word);
+    match answer {
+        ReadAnswer::Refused(number) => number,
+        ReadAnswer::Handed(number, prescription) => {
+            put_marks(number, prescription, marks);
+            put_powers(prescription, powers);
+            Refusal::NONE
+        }
+    }
+}
+
+// What is refused where a buffer has another length: 1 2 10, or else 3.
+fn without_room(figures: Params, table: JobTable) -> u8
+    ensures { λ r. ⌜ r ≡ withoutRoom (given figures) (entries table) ⌝ }
+{
+    if table.twice() {
+        return Refusal::INVALID;
+    }
+    table::without_table(figures)
+}
+
+// The job number, and kind and axis of both eyes.
+fn put_marks(number: u32, prescription: Prescription, marks: &mut [u8])
+    requires { ⌜ length (now marks) ≡ 8 ⌝ }
+    ensures { λ _. ⌜ now (marks .exit) ≡ handedMarks number prescription ⌝ }
+{
+    payloads::spell_value(BYTE_VALUES, number as u64, &mut marks[..NUMBER_LEN]);
+    let right = prescription.right;
+    let left = prescription.left;
+    marks[4] = eyes::kind_of(right);
+    marks[5] = eyes::axis_of(right);
+    marks[6] = eyes::kind_of(left);
+    marks[7] = eyes::axis_of(left);
+}
+
+// Sphere and cylinder of both eyes, and the pupil distance.
+fn put_powers(prescription: Prescription, powers: &mut [f64])
+    requires { ⌜ length (now powers) ≡ 5 ⌝ }
+    ensures { λ _. ⌜ now (powers .exit) ≡ handedPowers prescription ⌝ }
+{
+    let right = prescription.right;
+    let left = prescription.left;
+    powers[0] = eyes::sphere_of(right);
+    powers[1] = eyes::cylinder_of(right);
+    powers[2] = eyes::sphere_of(left);
+    powers[3] = eyes::cylinder_of(left);
+    powers[4] = prescription.pupil_distance;
+}
