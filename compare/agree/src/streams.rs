@@ -209,7 +209,11 @@ impl Stream<'_> {
             4 => self.bytes.truncate(len - 1 - self.rng.index(len.min(20))),
             5 => self.bytes.extend([0x4C, 0x55, b'O', 0, 0, 0, 1]),
             6 => {
-                let letter = self.rng.byte();
+                // The program doesn't know L.
+                let letter = match self.rng.byte() {
+                    b'L' => 0,
+                    letter => letter,
+                };
                 self.head(letter);
                 self.bytes.extend([0, 0, 0, 1]);
             }

@@ -1,8 +1,9 @@
 //! The word writer, the check of words from elsewhere, and the word reader.
 
 use crate::blocks::{burst_blocks, index_blocks, pattern, Layout, Reserved};
-use crate::choose::{rank, unrank};
+use crate::choose::rank;
 use crate::figures::{Figures, MAX_RUNS};
+use crate::index;
 
 /// Whether the starts make a placement: m are given, runs ascend, don't touch each other's positions and end inside the word.
 pub fn placed(f: &Figures, starts: &[u16]) -> bool {
@@ -37,16 +38,16 @@ pub(crate) fn write(f: &Figures, starts: &[u16], message: &[u8], word: &mut [u8]
     let bursts = burst_blocks(f, &layout, starts);
     let index = index_blocks(f, bursts);
     word.fill(0);
-    write_rank(f, &layout, index, rank(f, starts), word);
+    write_value(f, &layout, index, index::value(f, &layout, starts), word);
     Reserved::new(f, &layout, starts, bursts, index).between(f.n, |done, from, to| {
         word[from..to].copy_from_slice(&message[done..done + to - from]);
     });
 }
 
 /// Writes the digits from the last to the first, as division yields them.
-fn write_rank(f: &Figures, layout: &Layout, index: u64, rank: u64, word: &mut [u8]) {
+fn write_value(f: &Figures, layout: &Layout, index: u64, value: u64, word: &mut [u8]) {
     let q = f.q as u64;
-    let mut left = rank;
+    let mut left = value;
     for block in (0..f.blocks())
         .rev()
         .filter(|&block| index >> block & 1 == 1)
@@ -125,8 +126,8 @@ pub fn read(f: &Figures, word: &[u8]) -> Result<Found, u8> {
     if heads(f, &layout, index, word).any(|head| f.silent(head)) {
         return Err(19);
     }
-    let rank = read_rank(f, &layout, index, word).ok_or(8)?;
-    let starts = unrank(f, rank);
+    let value = read_value(f, &layout, index, word).ok_or(8)?;
+    let starts = index::starts(f, &layout, index, value).ok_or(9)?;
     let bursts = burst_blocks(f, &layout, &starts[..f.m]);
     // There may be 64 blocks, which fill the set.
     let all = u64::MAX >> (u64::BITS - f.blocks() as u32);
@@ -140,7 +141,7 @@ pub fn read(f: &Figures, word: &[u8]) -> Result<Found, u8> {
         return Err(19);
     }
     Ok(Found {
-        rank,
+        rank: rank(f, &starts[..f.m]),
         starts,
         reserved,
     })
@@ -163,21 +164,22 @@ fn heads<'a>(
         .map(move |block| &word[begin(block)..=begin(block) + f.r])
 }
 
-/// The value at the heads of the I-blocks, or none where it is T or more.
-fn read_rank(f: &Figures, layout: &Layout, index: u64, word: &[u8]) -> Option<u64> {
+/// The value at the heads of the I-blocks, or none where it is too large.
+fn read_value(f: &Figures, layout: &Layout, index: u64, word: &[u8]) -> Option<u64> {
     let q = f.q as u64;
+    let bound = index::values(f, layout, index);
     let mut value = 0;
     for head in heads(f, layout, index, word) {
-        value = next_value(f, value, q - 1, head[0] - 1)?;
+        value = next_value(bound, value, q - 1, head[0] - 1)?;
         for &symbol in &head[1..] {
-            value = next_value(f, value, q, symbol)?;
+            value = next_value(bound, value, q, symbol)?;
         }
     }
     Some(value)
 }
 
-/// A value with one digit more, or none where it is T or more: further digits never lessen it, and T fits in 64 bits.
-fn next_value(f: &Figures, value: u64, base: u64, digit: u8) -> Option<u64> {
+/// A value with one digit more, or none where it isn't below the bound: further digits never lessen it, and the bound fits in 64 bits.
+fn next_value(bound: u64, value: u64, base: u64, digit: u8) -> Option<u64> {
     let value = value.checked_mul(base)?.checked_add(digit as u64)?;
-    (value < f.t).then_some(value)
+    (value < bound).then_some(value)
 }

@@ -1,4 +1,4 @@
-//! The figures of a strip: what is given (n, q, m, b), what follows from it, and refusals 1 and 2.
+//! The figures of a strip: its code, what is given (n, q, m, b), what follows from it, and refusals 1 and 2.
 
 use crate::choose::choose;
 
@@ -7,9 +7,19 @@ pub const MAX_N: usize = 4096;
 pub const MAX_RUNS: usize = 8;
 pub const MAX_BLOCKS: usize = MAX_RUNS * MAX_RUNS;
 
+/// How a word tells where its runs are.
+#[derive(Clone, Copy, Debug, PartialEq, Eq)]
+pub enum Code {
+    /// Up to `MAX_RUNS` runs: the I-blocks spell the placement's rank.
+    ConstructionA,
+    /// One run, which may be as long as a part: the I-block spells how far into its part the run ends.
+    ConstructionB,
+}
+
 /// Figures that fit.
 #[derive(Clone, Copy, Debug, PartialEq, Eq)]
 pub struct Figures {
+    pub code: Code,
     pub n: usize,
     pub q: u32,
     pub m: usize,
@@ -25,14 +35,9 @@ pub struct Figures {
 }
 
 impl Figures {
+    /// Construction A's figures.
     pub fn new(n: u32, q: u32, m: u32, b: u32) -> Result<Figures, u8> {
-        let in_range = (MIN_N..=MAX_N as u32).contains(&n)
-            && (2..=256).contains(&q)
-            && (1..=MAX_RUNS as u32).contains(&m)
-            && b >= 1;
-        if !in_range {
-            return Err(1);
-        }
+        in_range(n, q, m, b)?;
         if m as u64 * b as u64 > n as u64 {
             return Err(2);
         }
@@ -46,6 +51,7 @@ impl Figures {
         }
         let k = n - m * (b + p + r - 1);
         Ok(Figures {
+            code: Code::ConstructionA,
             n,
             q,
             m,
@@ -54,6 +60,28 @@ impl Figures {
             r,
             k,
             t,
+        })
+    }
+
+    /// Construction B's figures: one run of b positions, and three parts.
+    pub fn construction_b(n: u32, q: u32, b: u32) -> Result<Figures, u8> {
+        in_range(n, q, 1, b)?;
+        let part = n / 3;
+        let r = symbols_after_first(q, 1, n.div_ceil(3) as u64);
+        if b > part || r >= part as usize {
+            return Err(2);
+        }
+        let (n, b) = (n as usize, b as usize);
+        Ok(Figures {
+            code: Code::ConstructionB,
+            n,
+            q,
+            m: 1,
+            b,
+            p: 3,
+            r,
+            k: n - b - r - 2,
+            t: (n - b + 1) as u64,
         })
     }
 
@@ -77,16 +105,29 @@ impl Figures {
     }
 }
 
+/// Refusal 1 for a figure out of range.
+fn in_range(n: u32, q: u32, m: u32, b: u32) -> Result<(), u8> {
+    let right = (MIN_N..=MAX_N as u32).contains(&n)
+        && (2..=256).contains(&q)
+        && (1..=MAX_RUNS as u32).contains(&m)
+        && b >= 1;
+    if right {
+        Ok(())
+    } else {
+        Err(1)
+    }
+}
+
 fn largest(bytes: &[u8]) -> u32 {
     bytes.iter().fold(0, |a, &b| a.max(b)) as u32
 }
 
-/// r: the least for which m I-blocks spell at least `t` values.
-fn symbols_after_first(q: u32, m: usize, t: u64) -> usize {
+/// r: the least for which m I-blocks spell at least `wanted` values.
+fn symbols_after_first(q: u32, m: usize, wanted: u64) -> usize {
     let mut r = 0;
     let mut values = (q as u64 - 1).saturating_pow(m as u32);
-    // t is below 2^63, so what 64 bits don't hold is large enough.
-    while values < t {
+    // `wanted` is below 2^63, so what 64 bits don't hold is large enough.
+    while values < wanted {
         values = values.saturating_mul((q as u64).saturating_pow(m as u32));
         r += 1;
     }

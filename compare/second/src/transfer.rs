@@ -58,6 +58,7 @@ impl Machine {
     fn body_len(&self, letter: u8) -> Option<usize> {
         match letter {
             b'S' => Some(6),
+            b'L' => Some(5),
             b'O' | b'C' | b'F' => Some(4),
             b'W' => self.figures.map(|f| 2 * f.m + job::payload_len(&f)),
             b'R' => self.figures.map(|f| f.n),
@@ -67,7 +68,7 @@ impl Machine {
 
     fn serve(&mut self, letter: u8, body: &[u8], out: &mut Vec<u8>) {
         match (letter, self.figures) {
-            (b'S', _) => self.take_figures(body, out),
+            (b'S' | b'L', _) => self.take_figures(letter, body, out),
             (b'W', Some(f)) => self.write(&f, body, out),
             (b'R', Some(f)) => self.read(&f, body, out),
             _ => self.call(letter, body, out),
@@ -75,15 +76,18 @@ impl Machine {
         out.push(b'\n');
     }
 
-    fn take_figures(&mut self, body: &[u8], out: &mut Vec<u8>) {
+    /// The figures of Construction A, or with letter L of Construction B.
+    fn take_figures(&mut self, letter: u8, body: &[u8], out: &mut Vec<u8>) {
         let two = |at: usize| u16::from_be_bytes([body[at], body[at + 1]]) as u32;
-        match Figures::new(two(0), body[2] as u32 + 1, body[3] as u32, two(4)) {
-            Ok(f) => {
-                answer(out, b'S', 0);
-                let _ = write!(out, " {} {} {}", f.t, f.r, f.k);
-                self.figures = Some(f);
-            }
-            Err(refusal) => answer(out, b'S', refusal),
+        let (n, q) = (two(0), body[2] as u32 + 1);
+        let judged = match letter {
+            b'L' => Figures::construction_b(n, q, two(3)),
+            _ => Figures::new(n, q, body[3] as u32, two(4)),
+        };
+        answer(out, letter, judged.err().unwrap_or(0));
+        if let Ok(f) = judged {
+            let _ = write!(out, " {} {} {}", f.t, f.r, f.k);
+            self.figures = Some(f);
         }
     }
 

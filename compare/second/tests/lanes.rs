@@ -2,6 +2,7 @@
 
 use second::codec::{decode, encode};
 use second::cover::cover;
+use second::figures::Code;
 use second::lanes::{deinterleave, interleave, MAX_DEPTH};
 use second::Figures;
 
@@ -65,6 +66,7 @@ fn small(each: &mut impl FnMut(usize, Figures)) {
                 each(
                     depth,
                     Figures {
+                        code: Code::ConstructionA,
                         n,
                         q,
                         m,

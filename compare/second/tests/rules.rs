@@ -4,6 +4,7 @@ use second::blocks::Layout;
 use second::choose::{rank, unrank};
 use second::codec::{decode, encode, placed};
 use second::cover::cover;
+use second::figures::Code;
 use second::Figures;
 
 /// Calls `each` with every placement of the figures.
@@ -80,6 +81,7 @@ fn coverings_of_every_map() {
             for b in (1..=4).filter(|b| m * b <= n) {
                 let t = second::choose::choose(n - m * b + m, m).expect("a small count");
                 let f = Figures {
+                    code: Code::ConstructionA,
                     n,
                     q: 2,
                     m,

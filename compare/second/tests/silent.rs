@@ -1,6 +1,8 @@
 //! Document 02's change request 6: cells without a reading.
 
-use std::collections::HashMap;
+mod exhaustive;
+
+use std::collections::BTreeSet;
 
 use second::codec::{decode, encode};
 use second::job::read_job;
@@ -108,13 +110,6 @@ fn the_largest_alphabets() {
     }
 }
 
-/// The list of digits of each number below base^len.
-fn lists(base: u32, len: usize) -> impl Iterator<Item = Vec<u8>> {
-    let digit = move |value: u32, i: usize| (value / base.pow(i as u32) % base) as u8;
-    (0..base.pow(len as u32)).map(move |value| (0..len).map(|i| digit(value, i)).collect())
-}
-
-/// A word is accepted exactly where one placement and message, with any values up to q inside the runs, lead to it, and it is read as those.
 #[test]
 fn every_word_of_small_figures() {
     let small = [
@@ -128,40 +123,9 @@ fn every_word_of_small_figures() {
         (6, 6, 1, 2),
         (7, 4, 1, 1),
     ];
-    for (n, q, m, b) in small {
-        let f = figures(n, q, m, b);
-        let written = all_found(&f);
-        for word in lists(q + 2, f.n) {
-            let (mut message, mut starts) = (vec![0; f.k], vec![0; f.m]);
-            let answer = decode(&f, &word, &mut message, &mut starts);
-            let read = (answer == 0).then_some((starts, message));
-            assert_eq!(read.as_ref(), written.get(&word), "{f:?} {word:?}");
-            assert_eq!(answer == 4, word.iter().any(|&value| value as u32 > q));
-            assert!([0, 4, 7, 8, 9, 19].contains(&answer));
-            assert!(answer != 19 || f.silent(&word));
-        }
-    }
-}
-
-/// Every word that can be found, with its placement and message.
-fn all_found(f: &Figures) -> HashMap<Vec<u8>, (Vec<u16>, Vec<u8>)> {
-    let mut found = HashMap::new();
-    for rank in 0..f.t {
-        let starts = second::choose::unrank(f, rank)[..f.m].to_vec();
-        for message in lists(f.q, f.k) {
-            let mut word = vec![0; f.n];
-            assert_eq!(encode(f, &starts, &message, &mut word), 0);
-            for damage in lists(f.q + 1, f.m * f.b) {
-                for (run, values) in starts.iter().zip(damage.chunks_exact(f.b)) {
-                    let run = *run as usize;
-                    word[run..run + f.b].copy_from_slice(values);
-                }
-                let former = found.insert(word.clone(), (starts.clone(), message.clone()));
-                assert!(former.is_none(), "two lead to {word:?}");
-            }
-        }
-    }
-    found
+    let answers = small.map(|(n, q, m, b)| exhaustive::every_word(&figures(n, q, m, b)));
+    let answers: BTreeSet<u8> = answers.into_iter().flatten().collect();
+    assert_eq!(answers, [0, 4, 7, 8, 9, 19].into());
 }
 
 #[test]
