@@ -1,6 +1,6 @@
 //! The blocks of a word: where they begin, and the FBI rule in both directions. Sets of blocks are bits of a u64.
 
-use crate::figures::{Figures, MAX_BLOCKS, MAX_RUNS};
+use crate::figures::{Figures, MAX_BLOCKS};
 
 /// Where each block begins; the entry after the last block is n.
 pub struct Layout {
@@ -8,7 +8,7 @@ pub struct Layout {
 }
 
 /// Where piece `i` begins when `total` is cut into pieces that differ by at most one, shorter ones first.
-fn cut(total: usize, pieces: usize, i: usize) -> usize {
+pub(crate) fn cut(total: usize, pieces: usize, i: usize) -> usize {
     let shorter = pieces - total % pieces;
     i * (total / pieces) + i.saturating_sub(shorter)
 }
@@ -96,55 +96,4 @@ pub fn pattern(f: &Figures, fixed: u64) -> Option<u64> {
         index |= 1 << (i * f.m + later(others, f.m)?);
     }
     Some(index)
-}
-
-/// Stretches of the word that hold no message, ascending and apart: runs, heads of I-blocks, and first symbols of F-blocks.
-#[derive(Debug)]
-pub struct Reserved {
-    stretches: [(u16, u16); MAX_BLOCKS + MAX_RUNS],
-    count: usize,
-}
-
-impl Reserved {
-    pub fn new(f: &Figures, layout: &Layout, starts: &[u16], bursts: u64, index: u64) -> Reserved {
-        let mut reserved = Reserved {
-            stretches: [(0, 0); MAX_BLOCKS + MAX_RUNS],
-            count: 0,
-        };
-        let mut runs = starts.iter().peekable();
-        for block in 0..f.blocks() {
-            let begin = layout.begin[block];
-            while let Some(&start) = runs.next_if(|&&start| start < begin) {
-                reserved.push(start, f.b);
-            }
-            if index >> block & 1 == 1 {
-                reserved.push(begin, 1 + f.r);
-            } else if bursts >> block & 1 == 0 {
-                reserved.push(begin, 1);
-            }
-        }
-        runs.for_each(|&start| reserved.push(start, f.b));
-        reserved
-    }
-
-    fn push(&mut self, start: u16, len: usize) {
-        self.stretches[self.count] = (start, start + len as u16);
-        self.count += 1;
-    }
-
-    /// Calls `piece` with each stretch of the word between these, as its start in the message, in the word, and its end there.
-    pub fn between(&self, n: usize, mut piece: impl FnMut(usize, usize, usize)) {
-        let (mut at, mut done) = (0, 0);
-        for &(start, end) in &self.stretches[..self.count] {
-            let (start, end) = (start as usize, end as usize);
-            if start > at {
-                piece(done, at, start);
-                done += start - at;
-            }
-            at = end;
-        }
-        if n > at {
-            piece(done, at, n);
-        }
-    }
 }

@@ -14,6 +14,8 @@ pub enum Code {
     ConstructionA,
     /// One run, which may be as long as a part: the I-block spells how far into its part the run ends.
     ConstructionB,
+    /// Up to `MAX_RUNS` runs: sub-blocks repeat the placement's rank.
+    Larsson,
 }
 
 /// Figures that fit.
@@ -24,9 +26,9 @@ pub struct Figures {
     pub q: u32,
     pub m: usize,
     pub b: usize,
-    /// How many parts the word is cut into.
+    /// How many parts the word is cut into; of the Larsson code, how many sub-blocks it has.
     pub p: usize,
-    /// How many symbols of an I-block follow its first one.
+    /// How many symbols of an I-block follow its first one; of the Larsson code R, how many a sub-block has.
     pub r: usize,
     /// How many symbols the message has.
     pub k: usize,
@@ -37,13 +39,9 @@ pub struct Figures {
 impl Figures {
     /// Construction A's figures.
     pub fn new(n: u32, q: u32, m: u32, b: u32) -> Result<Figures, u8> {
-        in_range(n, q, m, b)?;
-        if m as u64 * b as u64 > n as u64 {
-            return Err(2);
-        }
+        let t = placements(n, q, m, b)?;
         let (n, m, b) = (n as usize, m as usize, b as usize);
         let p = if m <= 2 { 3 } else { m };
-        let t = choose(n - m * b + m, m).ok_or(2)?;
         let r = symbols_after_first(q, m, t);
         let block = n / (p * m);
         if r >= block || b > block - r {
@@ -85,6 +83,27 @@ impl Figures {
         })
     }
 
+    /// The Larsson code's figures.
+    pub fn larsson(n: u32, q: u32, m: u32, b: u32) -> Result<Figures, u8> {
+        let t = placements(n, q, m, b)?;
+        let (n, m, b) = (n as usize, m as usize, b as usize);
+        let (p, r) = (2 * m + 1, symbols(q, t));
+        if p * r > n || b > (n - p * r) / (p - 1) + 1 {
+            return Err(2);
+        }
+        Ok(Figures {
+            code: Code::Larsson,
+            n,
+            q,
+            m,
+            b,
+            p,
+            r,
+            k: n - m * b - (m + 1) * r,
+            t,
+        })
+    }
+
     pub fn blocks(&self) -> usize {
         self.p * self.m
     }
@@ -118,6 +137,15 @@ fn in_range(n: u32, q: u32, m: u32, b: u32) -> Result<(), u8> {
     }
 }
 
+/// T, how many placements there are. Refusal 1, and 2 where the runs are longer than the word or T exceeds `MAX_COUNT`.
+fn placements(n: u32, q: u32, m: u32, b: u32) -> Result<u64, u8> {
+    in_range(n, q, m, b)?;
+    if m as u64 * b as u64 > n as u64 {
+        return Err(2);
+    }
+    choose((n - m * b + m) as usize, m as usize).ok_or(2)
+}
+
 fn largest(bytes: &[u8]) -> u32 {
     bytes.iter().fold(0, |a, &b| a.max(b)) as u32
 }
@@ -132,4 +160,15 @@ fn symbols_after_first(q: u32, m: usize, wanted: u64) -> usize {
         r += 1;
     }
     r
+}
+
+/// R: the least number of symbols that spell at least `wanted` values, of which one needs none.
+fn symbols(q: u32, wanted: u64) -> usize {
+    let mut count = 0;
+    let mut values = 1u64;
+    while values < wanted {
+        values = values.saturating_mul(q as u64);
+        count += 1;
+    }
+    count
 }

@@ -2,6 +2,7 @@
 
 use crate::book::Book;
 use crate::codec::{placed, read, write};
+use crate::digits;
 use crate::figures::Figures;
 
 /// The least K that has room for a number and some text.
@@ -31,11 +32,7 @@ pub(crate) fn number(payload: &[u8]) -> u32 {
 /// Spells the payload over a message of zeros; leftover symbols stay 0.
 fn spell(q: u32, payload: &[u8], message: &mut [u8]) {
     for (symbols, &byte) in message.chunks_exact_mut(width(q)).zip(payload) {
-        let mut left = byte as u32;
-        for symbol in symbols.iter_mut().rev() {
-            *symbol = (left % q) as u8;
-            left /= q;
-        }
+        digits::put(q as u64, byte as u64, symbols);
     }
 }
 

@@ -1,4 +1,4 @@
-//! A second implementation of document 01 and of document 02's change requests 1, 2, 3, 5, 6, 7, 10, 11, 13 and 14, written from the papers alone and in
+//! A second implementation of document 01 and of document 02's change requests 1, 2, 3, 5, 6, 7, 8, 10, 11, 13 and 14, written from the papers alone and in
 //! plain Rust.
 //! A refusal is its number, 0 is served; a refused call leaves every buffer and the book as they were.
 
@@ -7,12 +7,16 @@ pub mod book;
 pub mod choose;
 pub mod codec;
 pub mod cover;
+mod digits;
+mod fbi;
 pub mod figures;
-pub mod index;
+mod index;
 pub mod job;
 pub mod lanes;
+mod larsson;
 pub mod prescription;
 pub mod raw;
+mod reserved;
 pub mod transfer;
 
 pub use book::Book;
