@@ -3,7 +3,7 @@
 use crate::book::Book;
 use crate::codec::{placed, read, write};
 use crate::digits;
-use crate::figures::Figures;
+use crate::figures::{Figures, MAX_RUNS};
 
 /// The least K that has room for a number and some text.
 pub const LEAST_PAYLOAD: usize = 5;
@@ -81,7 +81,7 @@ pub(crate) fn write_payload(f: &Figures, starts: &[u16], payload: &[u8], word: &
     write(f, starts, &message, word);
 }
 
-/// Reads an open job's word. Refusals 10 for K, 3 4 7 19 8 9 19, 10, 12 23 14.
+/// Reads an open job's word. Refusals 10 for K, 3, then those of the word reader, 10, 12 23 14.
 pub fn read_job(f: &Figures, book: &Book, word: &[u8], payload: &mut [u8]) -> u8 {
     let len = payload_len(f);
     if len < LEAST_PAYLOAD {
@@ -91,7 +91,7 @@ pub fn read_job(f: &Figures, book: &Book, word: &[u8], payload: &mut [u8]) -> u8
         return 3;
     }
     let bytes = match found_payload(f, word) {
-        Ok(bytes) => bytes,
+        Ok((_, bytes)) => bytes,
         Err(refusal) => return refusal,
     };
     if let Err(refusal) = book.require_open(number(&bytes)) {
@@ -101,8 +101,8 @@ pub fn read_job(f: &Figures, book: &Book, word: &[u8], payload: &mut [u8]) -> u8
     0
 }
 
-/// The K bytes that a found word of n bytes carries. Refusals 4 7 19 8 9 19, 10.
-pub(crate) fn found_payload(f: &Figures, word: &[u8]) -> Result<Vec<u8>, u8> {
+/// The starts of a found word of n bytes, those past m 0, and the K bytes that it carries. Refusals of `read`, then 10.
+pub(crate) fn found_payload(f: &Figures, word: &[u8]) -> Result<([u16; MAX_RUNS], Vec<u8>), u8> {
     let found = read(f, word)?;
     let mut message = vec![0; f.k];
     found.message(f, word, &mut message);
@@ -110,5 +110,5 @@ pub(crate) fn found_payload(f: &Figures, word: &[u8]) -> Result<Vec<u8>, u8> {
     if !unspell(f.q, &message, &mut bytes) {
         return Err(10);
     }
-    Ok(bytes)
+    Ok((found.starts, bytes))
 }

@@ -1,4 +1,4 @@
-//! A second implementation of document 01 and of document 02's change requests 1, 2, 3, 5, 6, 7, 8, 10, 11, 13 and 14, written from the papers alone and in
+//! A second implementation of document 01 and of document 02's change requests 1, 2, 3, 5, 6, 7, 8, 9, 10, 11, 13 and 14, written from the papers alone and in
 //! plain Rust.
 //! A refusal is its number, 0 is served; a refused call leaves every buffer and the book as they were.
 
@@ -14,6 +14,7 @@ mod index;
 pub mod job;
 pub mod lanes;
 mod larsson;
+pub mod moving;
 pub mod prescription;
 pub mod raw;
 mod reserved;

@@ -230,7 +230,7 @@ pub fn read_prescription(f: &Figures, book: &Book, word: &[u8]) -> Result<(u32, 
     if word.len() != f.n {
         return Err(3);
     }
-    let payload = found_payload(f, word)?;
+    let (_, payload) = found_payload(f, word)?;
     let prescription = from_text(&payload[4..])?;
     book.require_open(number(&payload))?;
     Ok((number(&payload), prescription))
