@@ -3,7 +3,15 @@ use mathlib.Core.Path.{_≡_, sym, _∙_}
 use mathlib.Core.Logic.{_↔_}
 use mathlib.Core.List.{List}
 use Prim.Native.Nat.{ℕ}
+use native.Mathlib.Omega.{arith}
 use Rattle.cells.specs.Codec.{Reading, accepted, refused, Codec, Word, LeadsTo, WritesWords, Exact, ReadsExactly}
+
+-- an acceptance is no refusal, and a refusal has one number
+pub not-accepted : {P : Type 0} {a : ℕ} {ss ms : List ℕ} → refused a ≡ accepted ss ms → P
+not-accepted e = absurd (let z : _≡_ {A = ℕ} 0 1 = cc in omega arith)
+
+pub same-number : (a c : ℕ) → refused a ≡ refused c → a ≡ c
+same-number a c e = cc
 
 -- no two pairs lead to one word
 pub one-pair : (c : Codec) → Exact c → (w ss ms ss′ ms′ : List ℕ) → Word c w → LeadsTo c w ss ms → LeadsTo c w ss′ ms′ → (ss ≡ ss′) × (ms ≡ ms′)

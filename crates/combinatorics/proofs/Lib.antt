@@ -1,6 +1,7 @@
 pub mod Cases
 pub mod Lists
 pub mod Stretch
+pub mod Majority
 pub mod Choose
 pub mod Rank
 pub mod Bursts

@@ -1,16 +1,16 @@
 -- Laws of sums, counts and searches over a stretch of numbers. Assumes nothing.
 use mathlib.Core.Path.{_≡_, refl, sym, ap, _∙_, subst}
 use mathlib.Core.Logic.{_≢_}
-use mathlib.Core.Bool.{Bool, true, false, not, cond, _&&_, or-true, true≢false, false≢true}
+use mathlib.Core.Bool.{Bool, true, false, not, cond, _&&_, _||_, or-true, true≢false, false≢true}
 use mathlib.Core.List.{List, [], _∷_, _++_, map, map-append, flatMap, append-nil}
-use Prim.Native.Nat.{ℕ, zero, suc, _+_, _-_, _*_, _≤_, _<_}
+use Prim.Native.Nat.{ℕ, zero, suc, _+_, _-_, _*_, _≤_, _<_, min}
 use native.Mathlib.Nat.{add-zero, add-suc}
 use native.Mathlib.Numerals.{add-one}
 use native.Mathlib.Omega.{arith}
-use lib.Dec.{eqb}
-use lib.ListN.{length, getD, take, set, length-append}
-use lib.Seq.{getD-set-same, getD-set-other}
-use Rattle.combinatorics.specs.Stretch.{sum, bit, count, has, first, keepIf, members, tabulate, top}
+use lib.Dec.{ltb, eqb}
+use lib.ListN.{length, getD, take, drop, set, length-append}
+use lib.Seq.{take-nil, take-all, take-append-le, take-append-seam, drop-at, getD-set-same, getD-set-other}
+use Rattle.combinatorics.specs.Stretch.{sum, bit, count, firsts, has, first, keepIf, members, tabulate, top}
 use Rattle.combinatorics.proofs.Cases.{by-le, by-eq, by-bool, eqb-same, eqb-other}
 
 abbrev pub same : ℕ → ℕ
@@ -330,6 +330,29 @@ each-member P (suc n) k w h x a b t =
     at-or-past k x a (λ e. subst P e (each-head P (w k) k (members n (suc k) w) (rw e t) h))
     (λ l. each-member P n (suc k) w (each-rest P (w k) k (members n (suc k) w) h) x l (omega arith) t)
 
+-- and the other way round
+pub member-each : (P : ℕ → Type 0) (n k : ℕ) (w : ℕ → Bool) → ((x : ℕ) → k ≤ x → x < k + n → w x ≡ true → P x) → Each P (members n k w)
+unfolding members
+member-each P zero k w h = tt
+member-each P (suc n) k w h =
+    let r = member-each P n (suc k) w (λ x a b. h x (omega arith) (omega arith)) in
+    by-bool (w k) (λ t. rw t (h k (omega arith) (omega arith) t, r)) (λ t. rw t r)
+
+-- lists put together of pieces: the same where each piece is, and, of pieces as long, no others
+pub flat-same : (f g : ℕ → List ℕ) (ks : List ℕ) → Each (λ k. f k ≡ g k) ks → flatMap f ks ≡ flatMap g ks
+unfolding flatMap
+flat-same f g [] h = refl
+flat-same f g (k ∷ ks) (e, h) = rw (e, flat-same f g ks h)
+
+pub same-flat : (f g : ℕ → List ℕ) (ks : List ℕ) → ((k : ℕ) → length (f k) ≡ length (g k)) → flatMap f ks ≡ flatMap g ks → Each (λ k. f k ≡ g k) ks
+unfolding flatMap
+same-flat f g [] l e = tt
+same-flat f g (k ∷ ks) l e =
+    let n = length (f k) in (
+      sym (take-append-seam (f k) (flatMap f ks)) ∙ ap (take n) e ∙ (rw (l k) (take-append-seam (g k) (flatMap g ks))),
+      same-flat f g ks l (sym (drop-at (f k) (flatMap f ks) n refl) ∙ ap (drop n) e ∙ drop-at (g k) (flatMap g ks) n (sym (l k))),
+    )
+
 -- ---- Functions over stretches, as maps
 
 tabulate-map : (f : ℕ → ℕ) (n k : ℕ) → tabulate n k f ≡ map f (tabulate n k same)
@@ -445,3 +468,99 @@ pub filled-on : (P : ℕ → ℕ → Type 0) (xs : List ℕ) (i v : ℕ) → i <
 filled-on P xs i v l h p x g =
     by-eq x i (λ _. P x (getD (set xs i v) x 0)) (λ e. rw (e, getD-set-same xs i v 0 l) p)
     (λ f. rw (getD-set-other xs i x v 0 f) (h x (omega arith)))
+
+-- ---- Sums and counts compared
+
+pub sum-le : (n k : ℕ) (f g : ℕ → ℕ) → ((x : ℕ) → k ≤ x → x < k + n → f x ≤ g x) → sum n k f ≤ sum n k g
+unfolding sum
+sum-le zero k f g h = omega arith
+sum-le (suc n) k f g h = omega (arith, h k (omega arith) (omega arith), sum-le n (suc k) f g (λ x a b. h x (omega arith) (omega arith)))
+
+-- a set that has another has as many and more
+pub count-mono : (n k : ℕ) (w w′ : ℕ → Bool) → ((x : ℕ) → k ≤ x → x < k + n → w x ≡ true → w′ x ≡ true) → count n k w ≤ count n k w′
+count-mono n k w w′ h =
+    sum-le n k (λ x. bit (w x)) (λ x. bit (w′ x)) (λ x a b. by-bool (w x) (λ t. rw (t, h x a b t) (omega arith)) (λ t. rw t (omega arith)))
+
+-- two sets together
+pub count-or : (n k : ℕ) (u v : ℕ → Bool) → count n k (λ x. u x || v x) ≤ count n k u + count n k v
+unfolding sum
+count-or zero k u v = omega arith
+count-or (suc n) k u v = omega (arith, one (u k) (v k), count-or n (suc k) u v)
+  where
+    one : (a b : Bool) → bit (a || b) ≤ bit a + bit b
+    one true b = omega arith
+    one false b = omega arith
+
+-- a set that has no two numbers of the stretch
+pub count-one : (n k : ℕ) (w : ℕ → Bool) → ((x y : ℕ) → k ≤ x → x < y → y < k + n → w x ≡ true → w y ≡ false) → count n k w ≤ 1
+unfolding sum
+count-one zero k w h = omega arith
+count-one (suc n) k w h =
+    by-bool (w k)
+    (λ t. rw t (omega (arith, count-none n (suc k) w (λ x a b. h k x (omega arith) a (omega arith) t))))
+    (λ t. rw t (omega (arith, count-one n (suc k) w (λ x y a b c. h x y (omega arith) b (omega arith)))))
+
+pub count-not : (n k : ℕ) (w : ℕ → Bool) → count n k (λ x. not (w x)) + count n k w ≡ n
+unfolding sum
+count-not zero k w = refl
+count-not (suc n) k w = by-bool (w k) (λ t. rw t (omega (arith, count-not n (suc k) w))) (λ t. rw t (omega (arith, count-not n (suc k) w)))
+
+pub has-or : (n k : ℕ) (u v : ℕ → Bool) → has n k (λ x. u x || v x) ≡ (has n k u || has n k v)
+unfolding has
+has-or zero k u v = refl
+has-or (suc n) k u v = rw (has-or n (suc k) u v) (four (u k) (v k) (has n (suc k) u) (has n (suc k) v))
+  where
+    four : (a b c d : Bool) → ((a || b) || (c || d)) ≡ ((a || c) || (b || d))
+    four true b c d = refl
+    four false true true d = refl
+    four false true false d = refl
+    four false false c d = refl
+
+-- where one is, it is somewhere
+pub has-at : (n k : ℕ) (w : ℕ → Bool) → has n k w ≡ true → (x : ℕ) × (k ≤ x) × (x < k + n) × (w x ≡ true)
+unfolding has
+has-at zero k w h = absurd (false≢true h)
+has-at (suc n) k w h =
+    by-bool (w k) (λ t. (k, omega arith, omega arith, t))
+    (λ t. let r = has-at n (suc k) w (rw t at h) in (r .0, omega (arith, r .1), omega (arith, r .2), r .3))
+
+-- the members are none, or a first one
+pub by-members : (P : List ℕ → Type 0) (n k : ℕ) (w : ℕ → Bool) → (((x : ℕ) → k ≤ x → x < k + n → w x ≡ false) → P [])
+    → ((i : ℕ) (r : List ℕ) → k ≤ i → i < k + n → w i ≡ true → P (i ∷ r)) → P (members n k w)
+unfolding members
+by-members P zero k w e f = e (λ x a b. absurd (omega arith))
+by-members P (suc n) k w e f =
+    by-bool (w k) (λ t. rw t (f k (members n (suc k) w) (omega arith) (omega arith) t))
+    (λ t. rw t (by-members P n (suc k) w (λ h. e (λ x a b. at-or-past k x a (λ d. rw (← d) t) (λ l. h x l (omega arith))))
+    (λ i r a b. f i r (omega arith) (omega arith))))
+
+-- ---- The first c of a set
+
+first-bit : (c k : ℕ) (b : Bool) → min c k + bit (b && ltb k c) ≡ min c (k + bit b)
+first-bit c k true = by-le (suc k) c (λ t. min c k + bit t ≡ min c (k + 1)) (λ l. omega arith) (λ l. omega arith)
+first-bit c k false = omega arith
+
+pub count-firsts : (n c : ℕ) (w : ℕ → Bool) → count n 0 (firsts c w) ≡ min c (count n 0 w)
+unfolding sum firsts
+count-firsts zero c w = omega arith
+count-firsts (suc n) c w =
+    rw (sum-next n (λ x. bit (w x && ltb (count x 0 w) c)), sum-next n (λ x. bit (w x)), count-firsts n c w) (first-bit c (count n 0 w) (w n))
+
+members-next : (n : ℕ) (w : ℕ → Bool) → members (suc n) 0 w ≡ members n 0 w ++ keepIf (w n) n []
+members-next n w = rw (add-one n) at (members-on n w)
+
+first-kept : (c n k : ℕ) (xs : List ℕ) (b : Bool) → length xs ≡ k → take c xs ++ keepIf (b && ltb k c) n [] ≡ take c (xs ++ keepIf b n [])
+first-kept c n k xs true e =
+    by-le (suc k) c (λ t. take c xs ++ keepIf t n [] ≡ take c (xs ++ (n ∷ [])))
+    (λ l. rw (take-all c xs (omega arith), take-all c (xs ++ (n ∷ [])) (omega (arith, length-append xs (n ∷ [])))))
+    (λ l. rw (append-nil (take c xs), take-append-le c xs (n ∷ []) (omega arith)))
+first-kept c n k xs false e = rw (append-nil (take c xs), append-nil xs)
+
+-- as a list, they are what they say
+pub members-firsts : (n c : ℕ) (w : ℕ → Bool) → members n 0 (firsts c w) ≡ take c (members n 0 w)
+members-firsts zero c w = unfold members in sym (take-nil c)
+members-firsts (suc n) c w =
+    members-next n (firsts c w) ∙ ap (λ (r : List ℕ). r ++ keepIf (firsts c w n) n []) (members-firsts n c w) ∙ last ∙ ap (take c) (sym (members-next n w))
+  where
+    last : take c (members n 0 w) ++ keepIf (firsts c w n) n [] ≡ take c (members n 0 w ++ keepIf (w n) n [])
+    last = unfold firsts in first-kept c n (count n 0 w) (members n 0 w) (w n) (length-members n 0 w)

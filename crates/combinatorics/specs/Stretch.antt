@@ -1,8 +1,8 @@
 -- Sums, counts and searches over a stretch of numbers: n of them, from k on. A set of numbers is its test, ℕ → Bool. Assumes nothing.
-use mathlib.Core.Bool.{Bool, true, false, cond, _||_}
+use mathlib.Core.Bool.{Bool, true, false, cond, _||_, _&&_}
 use mathlib.Core.List.{List, [], _∷_}
 use Prim.Native.Nat.{ℕ, zero, suc, _+_}
-use lib.Dec.{leb}
+use lib.Dec.{leb, ltb}
 
 -- f k + f (k + 1) + .. , n terms
 unfoldable pub sum : ℕ → ℕ → (ℕ → ℕ) → ℕ
@@ -16,6 +16,10 @@ bit false = 0
 -- how many of the stretch are in the set
 abbrev pub count : ℕ → ℕ → (ℕ → Bool) → ℕ
 count n k w = sum n k (λ x. bit (w x))
+
+-- the first c of the set, from 0 on: those with fewer than c before them
+unfoldable pub firsts : ℕ → (ℕ → Bool) → ℕ → Bool
+firsts c w x = w x && ltb (count x 0 w) c
 
 -- whether any is
 unfoldable pub has : ℕ → ℕ → (ℕ → Bool) → Bool

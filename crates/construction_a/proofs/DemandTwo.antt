@@ -1,5 +1,5 @@
 -- Demand 2 holds. Assumes nothing.
-use mathlib.Core.Path.{_≡_, refl, _∙_, subst}
+use mathlib.Core.Path.{_≡_, refl, sym, _∙_, subst}
 use mathlib.Core.Bool.{Bool, true, false, not}
 use mathlib.Core.List.{List}
 use mathlib.Core.Option.{Option, none, some}
@@ -15,7 +15,7 @@ use Rattle.cells.specs.Codec.{accepted, refused, WritesWords, Exact}
 use Rattle.cells.specs.Digits.{spell, places}
 use Rattle.cells.specs.Erasures.{foundBound, hasErasure}
 use Rattle.cells.proofs.Cells.{length-woven, woven-below}
-use Rattle.cells.proofs.Codec.{reads-exactly}
+use Rattle.cells.proofs.Codec.{not-accepted, same-number, reads-exactly}
 use Rattle.cells.proofs.Digits.{Spelled, spell-spelled, spelled-below}
 use Rattle.cells.proofs.Erasures.{found-least}
 use Rattle.construction_a.specs.Figures.{Params, parts, placementCount, indexTail, messageLen}
@@ -56,12 +56,6 @@ writes f ok ss ms e l m =
 
 -- ---- The numbers
 
-same-number : (a c : ℕ) → refused a ≡ refused c → a ≡ c
-same-number a c e = cc
-
-not-accepted : {P : Type 0} (a : ℕ) (ss ms : List ℕ) → accepted ss ms ≡ refused a → P
-not-accepted a ss ms e = absurd (let z : _≡_ {A = ℕ} 0 1 = cc in omega arith)
-
 module _ (f : Params) (w : List ℕ) where
   -- what is left to refuse with once I-blocks were found
   module _ (a : ℕ) (ks : List ℕ) (pattern : found f w ≡ some ks) where
@@ -77,7 +71,7 @@ module _ (f : Params) (w : List ℕ) where
     at-message : (b : Bool) → hasErasure (f .q) (heads f w ks) ≡ false → v < placementCount f → agrees f w ks ss ≡ true → hasErasure (f .q) ms ≡ b
         → must (not b) (refused erased) (accepted ss ms) ≡ refused a → Listed f w a
     unfolding v ss ms
-    at-message false h l c d e = not-accepted a ss ms e
+    at-message false h l c d e = not-accepted (sym e)
     at-message true h l c d e =
         subst (Listed f w) (same-number erased a e)
         (erased-message ks ss (record { index = record { pattern = pattern; whole = h }; below = l; starts = refl; agreed = c }) d)

@@ -11,7 +11,7 @@ use lib.Dec.{ltb, eqb}
 use lib.ListN.{length}
 use Rattle.combinatorics.specs.Stretch.{sum, bit, count, first, members, tabulate}
 use Rattle.combinatorics.proofs.Cases.{by-le, by-eq, by-bool, eqb-same, eqb-other, eqb-true, eqb-false}
-use Rattle.combinatorics.proofs.Stretch.{same, Each, at-or-past, sum-one, sum-both, sum-ones, sum-each, sum-rows, bit-false, count-le, first-true, first-false, first-in, members-run, members-append, length-tabulate}
+use Rattle.combinatorics.proofs.Stretch.{same, Each, at-or-past, sum-one, sum-both, sum-ones, sum-each, sum-rows, bit-false, count-le, first-true, first-false, first-in, members-run, members-append, length-tabulate, count-not}
 use Rattle.construction_a.specs.Writing.{becomes, withBurst, withBursts, next, row, partCount, partWith, Chosen, whole, oneEach, chosen, beside, isChosen, isIndexIn}
 
 -- ---- I-blocks
@@ -116,11 +116,6 @@ count-add zero k a w l h e = absurd (omega arith)
 count-add (suc n) k a w l h e =
     at-or-past k a l (λ d. rw (d, eqb-same a a refl, e) (omega (arith, count-same n (suc a) a w (omega arith))))
     (λ g. rw (eqb-other k a (omega arith)) (omega (arith, count-add n (suc k) a w g (omega arith) e)))
-
-count-not : (n k : ℕ) (w : ℕ → Bool) → count n k (λ x. not (w x)) + count n k w ≡ n
-unfolding sum
-count-not zero k w = refl
-count-not (suc n) k w = by-bool (w k) (λ t. rw t (omega (arith, count-not n (suc k) w))) (λ t. rw t (omega (arith, count-not n (suc k) w)))
 
 pub not-true : (b : Bool) → not b ≡ true → b ≡ false
 not-true true h = sym h

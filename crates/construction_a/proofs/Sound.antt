@@ -20,6 +20,7 @@ use Rattle.cells.specs.Codec.{accepted, refused}
 use Rattle.cells.specs.Digits.{spell, places}
 use Rattle.cells.specs.Erasures.{foundBound, hasErasure}
 use Rattle.cells.proofs.Cells.{length-pick}
+use Rattle.cells.proofs.Codec.{not-accepted}
 use Rattle.cells.proofs.Digits.{Spelled, spell-value, heads-spelled}
 use Rattle.cells.proofs.Erasures.{whole-below}
 use Rattle.cells.proofs.Plan.{read-agrees}
@@ -44,9 +45,6 @@ pub record Accepted (f : Params) (w ss ms : List ℕ) : Type 0 where
   pub message : length ms ≡ messageLen f
   pub symbols : allBelow (f .q) ms ≡ true
   pub outside : (x : ℕ) → x < f .n → inBurst (f .b) ss x ≡ false → getD w x 0 ≡ getD (word f ss ms) x 0
-
-pub wrong : {P : Type 0} {a : ℕ} {ss ms : List ℕ} → refused a ≡ accepted ss ms → P
-wrong e = absurd (let z : _≡_ {A = ℕ} 0 1 = cc in omega arith)
 
 module _ (f : Params) (ok : Served f) (w : List ℕ) (small : (x : ℕ) → getD w x 0 < foundBound (f .q)) where
   -- the placement of the value read, where that is below T, the blocks agree and no erasure was read
@@ -93,7 +91,7 @@ module _ (f : Params) (ok : Served f) (w : List ℕ) (small : (x : ℕ) → getD
     past-message : (b : Bool) → hasErasure (f .q) (heads f w ks) ≡ false → v < placementCount f → agrees f w ks at ≡ true → hasErasure (f .q) taken ≡ b
         → must (not b) (refused erased) (accepted at taken) ≡ accepted ss ms → Accepted f w ss ms
     unfolding v at taken
-    past-message true h l a c e = wrong e
+    past-message true h l a c e = not-accepted e
     past-message false h l a c e =
         let e₁ : placementOf f (written f w ks) ≡ ss = cc in
         let e₂ : pick message (plan f (placementOf f (written f w ks))) w ≡ ms = cc in
@@ -102,21 +100,21 @@ module _ (f : Params) (ok : Served f) (w : List ℕ) (small : (x : ℕ) → getD
     past-blocks : (b : Bool) → hasErasure (f .q) (heads f w ks) ≡ false → v < placementCount f → agrees f w ks at ≡ b
         → must b (refused disagrees) (must (not (hasErasure (f .q) taken)) (refused erased) (accepted at taken)) ≡ accepted ss ms → Accepted f w ss ms
     past-blocks true h l a e = past-message (hasErasure (f .q) taken) h l a refl e
-    past-blocks false h l a e = wrong e
+    past-blocks false h l a e = not-accepted e
 
     past-index : (b : Bool) → hasErasure (f .q) (heads f w ks) ≡ b → must (not b) (refused erased) (readRank f w ks v) ≡ accepted ss ms → Accepted f w ss ms
     unfolding readRank v at taken
-    past-index true h = λ e. wrong e
+    past-index true h = λ e. not-accepted e
     past-index false h =
         by-le (suc (written f w ks)) (placementCount f)
         (λ t. must t (refused valueTooLarge)
         (must (agrees f w ks at) (refused disagrees) (must (not (hasErasure (f .q) taken)) (refused erased) (accepted at taken))) ≡ accepted ss ms → Accepted f w ss ms)
-        (λ l. past-blocks (agrees f w ks at) h l refl) (λ _ e. wrong e)
+        (λ l. past-blocks (agrees f w ks at) h l refl) (λ _ e. not-accepted e)
 
   pub sound : (ss ms : List ℕ) → read f w ≡ accepted ss ms → Accepted f w ss ms
   unfolding read v
   sound ss ms = go (indexFound (parts f) (f .m) (looksFixed f w)) refl
     where
       go : (o : Option (List ℕ)) → indexFound (parts f) (f .m) (looksFixed f w) ≡ o → readFrom f w o ≡ accepted ss ms → Accepted f w ss ms
-      go none found = λ e. wrong e
+      go none found = λ e. not-accepted e
       go (some ks) found = past-index ss ms ks found (hasErasure (f .q) (heads f w ks)) refl

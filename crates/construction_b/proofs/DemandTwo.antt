@@ -1,5 +1,5 @@
 -- Demand 2 holds for Construction B. Assumes nothing.
-use mathlib.Core.Path.{_≡_, refl, _∙_, subst}
+use mathlib.Core.Path.{_≡_, refl, sym, _∙_, subst}
 use mathlib.Core.Bool.{Bool, true, false, not}
 use mathlib.Core.List.{List, [], _∷_}
 use mathlib.Core.Option.{Option, none, some}
@@ -16,7 +16,7 @@ use Rattle.cells.specs.Digits.{spell, places}
 use Rattle.cells.specs.Erasures.{foundBound, hasErasure}
 use Rattle.cells.specs.Plan.{kindIn}
 use Rattle.cells.proofs.Cells.{length-woven, woven-below}
-use Rattle.cells.proofs.Codec.{reads-exactly}
+use Rattle.cells.proofs.Codec.{not-accepted, same-number, reads-exactly}
 use Rattle.cells.proofs.Digits.{spelled-below}
 use Rattle.cells.proofs.Erasures.{found-least}
 use Rattle.construction_b.specs.Figures.{LongParams, partLen, indexTail}
@@ -52,12 +52,6 @@ writes f ok ss ms e l m =
 
 -- ---- The numbers
 
-same-number : (a c : ℕ) → refused a ≡ refused c → a ≡ c
-same-number a c e = cc
-
-not-accepted : {P : Type 0} (a : ℕ) (ss ms : List ℕ) → accepted ss ms ≡ refused a → P
-not-accepted a ss ms e = absurd (let z : _≡_ {A = ℕ} 0 1 = cc in omega arith)
-
 module _ (f : LongParams) (w : List ℕ) where
   module _ (a i : ℕ) (pattern : found f w ≡ some i) where
     at-message : (b : Bool) → IndexRead f w i → written f w i < partLen f (before i) → f .b ≤ endAt f (before i) (written f w i)
@@ -68,7 +62,7 @@ module _ (f : LongParams) (w : List ℕ) where
         subst (Listed f w) (same-number erased a e)
         (erased-message i (endAt f (before i) (written f w i) - f .b) (record { index = r; below = l; from = g; start = refl }) c)
     at-message false r l g c e =
-        not-accepted a ((endAt f (before i) (written f w i) - f .b) ∷ []) (pick message (plan f (endAt f (before i) (written f w i) - f .b)) w) e
+        not-accepted (sym e)
 
     at-index : (b : Bool) → hasErasure (f .q) (firstSymbols f w i) ≡ b → must (not b) (refused erased) (readPart f w (before i) (written f w i)) ≡ refused a → Listed f w a
     unfolding readPart

@@ -21,6 +21,7 @@ use Rattle.cells.specs.Erasures.{foundBound, hasErasure}
 use Rattle.cells.specs.Plan.{kindIn}
 use Rattle.cells.proofs.Cells.{length-pick, pick-below}
 use Rattle.cells.proofs.Cut.{piece-next}
+use Rattle.cells.proofs.Codec.{not-accepted}
 use Rattle.cells.proofs.Digits.{Spelled, spell-value, heads-spelled}
 use Rattle.cells.proofs.Erasures.{whole-below}
 use Rattle.cells.proofs.Plan.{neither, read-agrees}
@@ -32,9 +33,6 @@ use Rattle.construction_b.specs.DemandTwo.{constructionB}
 use Rattle.construction_b.proofs.Figures.{Served, part-rises, part-end, start-placed}
 use Rattle.construction_b.proofs.Plan.{only-one, in-part, framed, message-cells}
 use Rattle.construction_b.proofs.Pattern.{Found, found-is, before-lt, next-before, third}
-
-wrong : {P : Type 0} {a : ℕ} {ss ms : List ℕ} → refused a ≡ accepted ss ms → P
-wrong e = absurd (let z : _≡_ {A = ℕ} 0 1 = cc in omega arith)
 
 module _ (f : LongParams) (ok : Served f) (w : List ℕ) (small : (x : ℕ) → getD w x 0 < foundBound (f .q)) where
   -- the run that ends as far into the part before the one found as that spells
@@ -110,7 +108,7 @@ module _ (f : LongParams) (ok : Served f) (w : List ℕ) (small : (x : ℕ) → 
         → must (not b) (refused erased) (accepted ((endAt f (before i) (written f w i) - f .b) ∷ []) (pick message (plan f (endAt f (before i) (written f w i) - f .b)) w)) ≡ accepted ss ms
         → LeadsTo (constructionB f) w ss ms
     unfolding start
-    past-message true whole below from c e = wrong e
+    past-message true whole below from c e = not-accepted e
     past-message false whole below from c e =
         let s = endAt f (before i) (written f w i) - f .b in
         let e₁ : (s ∷ []) ≡ ss = cc in
@@ -120,7 +118,7 @@ module _ (f : LongParams) (ok : Served f) (w : List ℕ) (small : (x : ℕ) → 
     past-index : (b : Bool) → hasErasure (f .q) (firstSymbols f w i) ≡ b → must (not b) (refused erased) (readPart f w (before i) (written f w i)) ≡ accepted ss ms
         → LeadsTo (constructionB f) w ss ms
     unfolding readPart
-    past-index true h = λ e. wrong e
+    past-index true h = λ e. not-accepted e
     past-index false h =
         let v = written f w i in
         let e = before i in
@@ -130,13 +128,13 @@ module _ (f : LongParams) (ok : Served f) (w : List ℕ) (small : (x : ℕ) → 
         by-le (suc v) (partLen f e)
         (λ t. must t (refused valueTooLarge) (must (leb (f .b) (endAt f e v)) (refused disagrees) last) ≡ accepted ss ms → LeadsTo (constructionB f) w ss ms)
         (λ l. by-le (f .b) (endAt f e v) (λ t. must t (refused disagrees) last ≡ accepted ss ms → LeadsTo (constructionB f) w ss ms)
-        (λ g. past-message (hasErasure (f .q) ms′) h l g refl) (λ _ a. wrong a))
-        (λ _ a. wrong a)
+        (λ g. past-message (hasErasure (f .q) ms′) h l g refl) (λ _ a. not-accepted a))
+        (λ _ a. not-accepted a)
 
   pub sound : (ss ms : List ℕ) → read f w ≡ accepted ss ms → LeadsTo (constructionB f) w ss ms
   unfolding read
   sound ss ms = go (indexFound (looksFixed f w)) (λ i e. found-is (looksFixed f w) i e)
     where
       go : (o : Option ℕ) → ((i : ℕ) → o ≡ some i → Found (looksFixed f w) i) → readFrom f w o ≡ accepted ss ms → LeadsTo (constructionB f) w ss ms
-      go none found = λ e. wrong e
+      go none found = λ e. not-accepted e
       go (some i) found = past-index ss ms i (found i (λ _. some i)) (hasErasure (f .q) (firstSymbols f w i)) refl

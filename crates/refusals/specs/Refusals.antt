@@ -66,6 +66,10 @@ badDepth = 18
 abbrev pub erased : ℕ
 erased = 19
 
+-- "It refuses with 21, in the place of 7, a word with no such majority." (02, 8)
+abbrev pub noMajority : ℕ
+noMajority = 21
+
 -- ---- From the state
 
 -- "12: number cancelled."
@@ -104,7 +108,7 @@ notHeld = 24
 abbrev pub refusals : List ℕ
 refusals =
     invalid ∷ unfit ∷ wrongLength ∷ badSymbol ∷ badStarts ∷ uncovered ∷ noPattern ∷ valueTooLarge ∷ disagrees ∷ badPayload ∷ badRecord
-    ∷ badPrescription ∷ badDepth ∷ erased
+    ∷ badPrescription ∷ badDepth ∷ erased ∷ noMajority
     ∷ jobCancelled ∷ alreadyOpen ∷ notOpen ∷ tableFull ∷ numberZero ∷ notCancelled ∷ jobHeld ∷ notHeld ∷ []
 
 -- An order of refusals, "1 2 3 ..", reads downward: where a test fails the outcome is `else`, and otherwise the next test decides.

@@ -31,8 +31,14 @@ use Rattle.construction_b.specs.Writing.{startIn, indexPart, endOffset, frame a
 use Rattle.construction_b.proofs.DemandTwo.{demand-two as demand-two-b}
 use Rattle.construction_b.proofs.Figures.{serve as serve-b, placed-start}
 use Rattle.construction_b.proofs.Plan.{count-one, index-lt, framed as framed-b, message-cells as message-cells-b}
-use Rattle.slips.specs.Slips.{differences, messagePositions, Planned, Slips, Stays, SlipsStay, SlipsStayA, kindB, SlipsStayB}
+use Rattle.slips.specs.Slips.{differences, messagePositions, Planned, Slips, Stays, SlipsStay, SlipsStayA, kindB, SlipsStayB, SlipsStayLarsson}
 use Rattle.slips.proofs.Kept.{kept, kept-members, kept-places, at-map}
+use Rattle.larsson.specs.Codec.{larsson}
+use Rattle.larsson.specs.Writing.{kindAt as kindLarsson, plan as planLarsson, digits as digitsLarsson, word as wordLarsson}
+use Rattle.larsson.proofs.Exact.{larsson-exact}
+use Rattle.larsson.proofs.Figures.{serve as serve-larsson}
+use Rattle.larsson.proofs.Plan.{kind-burst as burst-larsson, digit-count as digits-larsson, message-cells as message-larsson}
+use Rattle.larsson.proofs.Complete.{length-digits}
 
 -- a cell of one kind is of no other
 other-kind : (kind c : Cell) → is kind message ≡ false → is kind c ≡ true → is message c ≡ false
@@ -218,3 +224,20 @@ planned-b f i h =
 
 pub slips-stay-b : SlipsStayB
 slips-stay-b f i h = slips-stay (constructionB f) (kindB f) (spelledB f) (planned-b f i h) (demand-two-b f i h .exactly)
+
+-- ---- The Larsson code
+
+pub slips-stay-larsson : SlipsStayLarsson
+unfolding wordLarsson planLarsson
+slips-stay-larsson f i h =
+    let ok = serve-larsson f i h in
+    let two = larsson-exact f i h in
+    let planned : Planned (larsson f) (kindLarsson f) (digitsLarsson f) =
+    record {
+      woven = λ starts ms. refl;
+      bursts = λ starts e x. burst-larsson f starts x;
+      digit-cells = λ starts e. let p = placed-starts f starts e in digits-larsson f ok starts (p .0) (p .1) ∙ sym (length-digits f ok starts (p .0) (p .1));
+      message-cells = λ starts e. let p = placed-starts f starts e in message-larsson f ok starts (p .0) (p .1);
+      found = found-least (f .q);
+    } in
+    slips-stay (larsson f) (kindLarsson f) (digitsLarsson f) planned (two .exactly)

@@ -1,0 +1,41 @@
+-- The Larsson code as a codec, and what is asked of it: what is written is a word, "A word is accepted exactly if one message and placement, spoilt
+-- inside the runs, lead to it", and each refusal comes under its condition. The proof is `larsson-exact` of proofs/Exact.antt. Assumes nothing.
+use mathlib.Core.Path.{_≡_}
+use mathlib.Core.Bool.{true, false}
+use mathlib.Core.List.{List}
+use Prim.Native.Nat.{ℕ, _≤_, _<_}
+use Rattle.refusals.specs.Refusals.{valueTooLarge, disagrees, erased, noMajority}
+use Rattle.combinatorics.specs.Bursts.{inBurst}
+use Rattle.cells.specs.Cells.{message, pick}
+use Rattle.cells.specs.Codec.{Codec, ReadsExactly}
+use Rattle.cells.specs.Erasures.{foundBound, hasErasure}
+use Rattle.construction_a.specs.Figures.{Params, inRange, isPlacement, placementCount}
+use Rattle.construction_a.specs.Writing.{placementOf}
+use Rattle.larsson.specs.Figures.{fits, messageLen}
+use Rattle.larsson.specs.Writing.{plan, word}
+use Rattle.larsson.specs.Reading.{isFound, agrees, read}
+
+abbrev pub larsson : Params → Codec
+larsson f =
+    record {
+      wordLen = f .n;
+      alphabet = f .q;
+      foundBound = foundBound (f .q);
+      messageLen = messageLen f;
+      placed = isPlacement f;
+      spoilt = inBurst (f .b);
+      encode = word f;
+      decode = read f;
+    }
+
+-- the listed condition of each refusal of a word
+pub data Listed (f : Params) (w : List ℕ) : ℕ → Type 0 where
+  no-majority : ((v : ℕ) → isFound f w v ≡ false) → Listed f w noMajority
+  too-large : (v : ℕ) → isFound f w v ≡ true → placementCount f ≤ v → Listed f w valueTooLarge
+  disagreeing : (v : ℕ) → isFound f w v ≡ true → v < placementCount f → agrees f w v (placementOf f v) ≡ false → Listed f w disagrees
+  erased-message : (v : ℕ) → isFound f w v ≡ true → v < placementCount f → agrees f w v (placementOf f v) ≡ true
+      → hasErasure (f .q) (pick message (plan f (placementOf f v)) w) ≡ true → Listed f w erased
+
+-- for all figures that fit
+abbrev pub LarssonExact : Type 0
+LarssonExact = (f : Params) → inRange f ≡ true → fits f ≡ true → ReadsExactly (larsson f) (Listed f)
