@@ -70,6 +70,10 @@ erased = 19
 abbrev pub noMajority : ℕ
 noMajority = 21
 
+-- "It refuses with 22, .., a payload whose surplus bytes aren't all zero." (02, 9)
+abbrev pub surplusBytes : ℕ
+surplusBytes = 22
+
 -- ---- From the state
 
 -- "12: number cancelled."
@@ -108,7 +112,7 @@ notHeld = 24
 abbrev pub refusals : List ℕ
 refusals =
     invalid ∷ unfit ∷ wrongLength ∷ badSymbol ∷ badStarts ∷ uncovered ∷ noPattern ∷ valueTooLarge ∷ disagrees ∷ badPayload ∷ badRecord
-    ∷ badPrescription ∷ badDepth ∷ erased ∷ noMajority
+    ∷ badPrescription ∷ badDepth ∷ erased ∷ noMajority ∷ surplusBytes
     ∷ jobCancelled ∷ alreadyOpen ∷ notOpen ∷ tableFull ∷ numberZero ∷ notCancelled ∷ jobHeld ∷ notHeld ∷ []
 
 -- An order of refusals, "1 2 3 ..", reads downward: where a test fails the outcome is `else`, and otherwise the next test decides.

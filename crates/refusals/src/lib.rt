@@ -1,6 +1,6 @@
 // The refusal numbers of documents 01 and 02, one name each. Assumes nothing.
 ghost use mathlib.Core.Path.{_≡_};
-ghost use Rattle.refusals.specs.Refusals.{served, invalid, unfit, wrongLength, badSymbol, badStarts, uncovered, noPattern, valueTooLarge, disagrees, badPayload, badRecord, badPrescription, badDepth, erased, noMajority, jobCancelled, alreadyOpen, notOpen, tableFull, numberZero, notCancelled, jobHeld, notHeld, refusals};
+ghost use Rattle.refusals.specs.Refusals.{served, invalid, unfit, wrongLength, badSymbol, badStarts, uncovered, noPattern, valueTooLarge, disagrees, badPayload, badRecord, badPrescription, badDepth, erased, noMajority, surplusBytes, jobCancelled, alreadyOpen, notOpen, tableFull, numberZero, notCancelled, jobHeld, notHeld, refusals};
 
 // The numbers stand under this name; 0 stands for an accepted call.
 pub struct Refusal {}
@@ -39,6 +39,8 @@ impl Refusal {
 
     pub const MAJORITY: u8 = 21;
 
+    pub const SURPLUS: u8 = 22;
+
     // From the state.
     pub const CANCELLED: u8 = 12;
 
@@ -57,7 +59,7 @@ impl Refusal {
     pub const NOT_HELD: u8 = 24;
 
     // Both lists, in each document 01's numbers and behind them document 02's. Its contract ties each name here to that of specs/.
-    pub fn all() -> [u8; 23]
+    pub fn all() -> [u8; 24]
         ensures list { λ r. ⌜ r ≡ refusals ⌝ }
         ensures { λ _. do ⌜ (← ⟦Refusal::NONE⟧ .entry) ≡ served ⌝ }
         ensures { λ _. do ⌜ (← ⟦Refusal::INVALID⟧ .entry) ≡ invalid ⌝ }
@@ -75,6 +77,7 @@ impl Refusal {
         ensures { λ _. do ⌜ (← ⟦Refusal::DEPTH⟧ .entry) ≡ badDepth ⌝ }
         ensures { λ _. do ⌜ (← ⟦Refusal::ERASED⟧ .entry) ≡ erased ⌝ }
         ensures { λ _. do ⌜ (← ⟦Refusal::MAJORITY⟧ .entry) ≡ noMajority ⌝ }
+        ensures { λ _. do ⌜ (← ⟦Refusal::SURPLUS⟧ .entry) ≡ surplusBytes ⌝ }
         ensures { λ _. do ⌜ (← ⟦Refusal::CANCELLED⟧ .entry) ≡ jobCancelled ⌝ }
         ensures { λ _. do ⌜ (← ⟦Refusal::ALREADY_OPEN⟧ .entry) ≡ alreadyOpen ⌝ }
         ensures { λ _. do ⌜ (← ⟦Refusal::NOT_OPEN⟧ .entry) ≡ notOpen ⌝ }
@@ -100,6 +103,7 @@ impl Refusal {
             Refusal::DEPTH,
             Refusal::ERASED,
             Refusal::MAJORITY,
+            Refusal::SURPLUS,
             Refusal::CANCELLED,
             Refusal::ALREADY_OPEN,
             Refusal::NOT_OPEN,

@@ -1,0 +1,32 @@
+-- The worked examples hold: one computation over the whole table. Assumes nothing.
+use mathlib.Core.Path.{refl}
+use mathlib.Core.List.{flatMap}
+use Rattle.combinatorics.specs.Examples.{comesTrue}
+use Rattle.combinatorics.specs.Lists.{all, any, sameList}
+use Rattle.combinatorics.specs.Stretch.{sum, firsts, has, first, members, tabulate, top}
+use Rattle.combinatorics.specs.Majority.{common, majority}
+use Rattle.combinatorics.specs.Choose.{choose}
+use Rattle.combinatorics.specs.Rank.{rankFrom, unrankDown, unrank}
+use Rattle.combinatorics.specs.Bursts.{apart, inBurst, placements, reduceFrom, expandFrom, rankOf, startsOf}
+use Rattle.cells.specs.Cut.{pieceLen, pieceStart, blockAt, blockHead, blockWith}
+use Rattle.cells.specs.Bytes.{byteWidth, payloadLen}
+use Rattle.cells.specs.Cells.{weave, pick}
+use Rattle.cells.specs.Digits.{span, spell, value, places}
+use Rattle.cells.specs.Erasures.{foundBound, hasErasure}
+use Rattle.cells.specs.Plan.{cellOf}
+use Rattle.construction_a.specs.Figures.{inRange}
+use Rattle.construction_a.specs.Figures.{parts, blockMin, leastTail, indexTail, fits as fitsA, messageLen as messageLenA}
+use Rattle.construction_a.specs.Writing.{becomes, withBurst, withBursts, isBurst, next, partCount, partWith, chosen, beside, isChosen, isIndexIn, isIndex, indexBlocks, isFixed, kindAt as kindAtA, plan as planA, word as wordA}
+use Rattle.construction_a.specs.Reading.{looksFixed, later, bareParts, openBlocks, indexInPart, collect, indexFound, heads, written, agrees as agreesA, readRank, read as readA}
+use Rattle.larsson.specs.Figures.{subLen, gapTotal, gapLen, subStart, fits, messageLen}
+use Rattle.larsson.specs.Writing.{untouched, bears, bearers, inSub, isBorne, kindAt, plan, rankDigits, digits, word}
+use Rattle.larsson.specs.Reading.{subSymbols, subValue, found, agrees, readValue, read}
+use Rattle.jobs.specs.Table.{firstEntry, twice}
+use Rattle.payloads.specs.Payload.{carriesJob, jobNumber, messageOf, payloadIn, spellsPayload}
+use Rattle.moving.specs.Resize.{resized, hasRoom}
+use Rattle.moving.specs.Move.{jobWord, moveJob, moveMessage, move, moveOut}
+use Rattle.moving.specs.Examples.{examples, ExamplesHold}
+
+pub examples-hold : ExamplesHold
+unfolding all any sameList sum firsts has first members tabulate top common majority choose rankFrom unrankDown unrank apart inBurst placements reduceFrom expandFrom rankOf startsOf pieceLen pieceStart blockAt blockHead blockWith byteWidth payloadLen weave pick span spell value places inRange parts blockMin leastTail indexTail fitsA messageLenA becomes withBurst withBursts isBurst next partCount partWith chosen beside isChosen isIndexIn isIndex indexBlocks isFixed cellOf kindAtA planA wordA looksFixed later bareParts openBlocks indexInPart collect indexFound heads written agreesA readRank readA subLen gapTotal gapLen subStart fits messageLen untouched bears bearers inSub isBorne kindAt plan rankDigits digits word foundBound hasErasure subSymbols subValue found agrees readValue read firstEntry twice carriesJob jobNumber messageOf payloadIn spellsPayload resized hasRoom jobWord moveJob moveMessage move moveOut comesTrue examples flatMap
+examples-hold = refl
