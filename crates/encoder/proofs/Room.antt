@@ -1,9 +1,10 @@
--- The digits of every rank have room: figures that fit need fewer than the array holds, and they spell every rank. Assumes nothing.
+-- The digits of what the index blocks spell have room: figures that fit need fewer than the array holds, and they spell every value that a placement has.
+-- Assumes nothing.
 use mathlib.Core.Path.{_≡_, refl, ap, ap₂, _∙_}
 use mathlib.Core.Bool.{true}
 use mathlib.Core.List.{List}
-use Prim.Native.Nat.{ℕ, zero, suc, _+_, _-_, _*_, _^_, _≤_, _<_}
-use native.Mathlib.Nat.{mul-zero, mul-suc, mul-le-mul, pow-zero, pow-le-pow-left, one-le-pow, le-mul-of-pos-right, mul-comm}
+use Prim.Native.Nat.{ℕ, zero, suc, _+_, _-_, _*_, _/_, _^_, _≤_, _<_}
+use native.Mathlib.Nat.{mul-zero, mul-suc, mul-le-mul, pow-zero, pow-le-pow-left, one-le-pow, le-mul-of-pos-right, mul-comm, div-le-self}
 use native.Mathlib.Numerals.{add-one}
 use native.Mathlib.Omega.{arith}
 use lib.ListN.{length, take}
@@ -13,16 +14,24 @@ use Rattle.cells.specs.Cells.{Cell, weave}
 use Rattle.cells.specs.Plan.{planIn}
 use Rattle.cells.specs.Digits.{span, spell, places}
 use Rattle.cells.proofs.Digits.{span-places, span-first, span-longer, length-places, length-spell}
-use Rattle.construction_a.specs.Figures.{Params, isPlacement, placementCount, indexTail}
-use Rattle.construction_a.specs.Writing.{rank, word}
-use Rattle.construction_a.proofs.Figures.{Served, index-least, span-enough}
+use Rattle.construction_a.specs.Figures.{isPlacement, maxBursts, maxCount, indexValues, placementCount, indexTail}
+use Rattle.construction_a.specs.Writing.{word}
+use Rattle.construction_a.proofs.Figures.{index-least, span-enough}
 use Rattle.construction_a.proofs.Ranking.{rank-bijection}
-use Rattle.params.specs.Given.{figuresOf, frameOf, Fitting}
+use Rattle.construction_b.specs.Figures as B
+use Rattle.construction_b.specs.Writing as B′
+use Rattle.construction_b.specs.Writing.{startIn, burstPart}
+use Rattle.construction_b.proofs.Figures as BFigures
+use Rattle.construction_b.proofs.Plan.{burst-lt, offset-lt}
+use Rattle.params.specs.Given.{figuresOf, longOf, frameOf, LongFitting, FittingWith, codingWith, codingIn, Serves, spelledWith, spelledIn}
 use Rattle.params.specs.declared.Layout.{Layout}
+use Rattle.params.specs.declared.Spells.{Spells}
+use Rattle.params.specs.declared.Spells.the-variants.{Rank, EndOffset}
 use Rattle.params.proofs.Fitting.{served, plan-is}
+use Rattle.params.proofs.LongFitting.{served-long, start-is, long-plan-is}
 use Rattle.encoder.specs.Digits.{maxDigits, Spellable}
 
--- the largest count of placements that is served is below this power of 2
+-- the largest count that is served is below this power of 2
 abbrev countBits : ℕ
 countBits = 63
 
@@ -33,28 +42,25 @@ span-least q m (suc r) h =
     rw (mul-suc m r, pow-add 2 (m * r) m, span-longer q m r)
     (mul-le-mul (span-least q m r h) (pow-le-pow-left h m))
 
-module _ (f : Params) (ok : Served f) where
-  -- one symbol fewer would not do, so it spells fewer values than there are placements
-  fewer : (r : ℕ) → indexTail f ≡ suc r → f .m * r < countBits
+-- r is the least that serves so many values
+module _ (q m values : ℕ) (two : 2 ≤ q) (few : m ≤ maxBursts) (counted : values ≤ maxCount) (tail : ℕ) (least : (r : ℕ) → values ≤ indexValues q m r → tail ≤ r) where
+  -- one symbol fewer would not do, so it spells fewer values
+  fewer : (r : ℕ) → tail ≡ suc r → m * r < countBits
   fewer r e =
-      by-le countBits (f .m * r) (λ _. f .m * r < countBits)
+      by-le countBits (m * r) (λ _. m * r < countBits)
       (λ l. absurd (omega (
         arith,
-        index-least f r
-            (omega (arith, ok .counted, span-least (f .q) (f .m) r (ok .range .q-least), span-places (f .q) (f .m) r, pow-mono {i = countBits} {j = f .m * r} l)),
+        least r (omega (arith, counted, span-least q m r two, span-places q m r, pow-mono {i = countBits} {j = m * r} l)),
         e,
       )))
       (λ l. l)
 
-  pub digits-few : f .m * suc (indexTail f) ≤ maxDigits
-  digits-few = go (indexTail f) refl
+  digits-few : m * suc tail ≤ maxDigits
+  digits-few = go tail refl
     where
-      go : (r : ℕ) → indexTail f ≡ r → f .m * suc r ≤ maxDigits
-      go zero e = omega (arith, mul-suc (f .m) 0, mul-zero (f .m), ok .range .m-most)
-      go (suc r) e = omega (arith, mul-suc (f .m) (suc r), mul-suc (f .m) r, fewer r e, ok .range .m-most)
-
-  pub tail-few : indexTail f < maxDigits
-  tail-few = omega (arith, digits-few, le-mul-of-pos-right {m = f .m} (suc (indexTail f)) (ok .some), mul-comm (f .m) (suc (indexTail f)))
+      go : (r : ℕ) → tail ≡ r → m * suc r ≤ maxDigits
+      go zero e = omega (arith, mul-suc m 0, mul-zero m, few)
+      go (suc r) e = omega (arith, mul-suc m (suc r), mul-suc m r, fewer r e, few)
 
 -- as many digits as places, where a count is worked out as m × (r + 1)
 pub spelled-count : (q m r v : ℕ) (ds : List ℕ) → take (m * suc r) ds ≡ spell q (places m r) v → length (take (m * (r + 1)) ds) ≡ m * suc r
@@ -62,27 +68,73 @@ spelled-count q m r v ds e = rw (add-one r) (ap length e ∙ length-spell q (pla
 
 -- ---- The same of a layout, and of a placement of its bursts
 
-module _ (l : Layout) (g : Fitting l) where
-  pub count-most : l .m * suc (l .«index_tail») ≤ maxDigits
-  count-most = rw (g .laid .tail-is) (digits-few (figuresOf l) (served l g))
+-- the values that an I part has to spell are few
+values-few : (n : ℕ) → n ≤ 4096 → (n + 2) / 3 ≤ maxCount
+values-few n h = omega (arith, div-le-self (n + 2) 3)
 
-  pub spellable : (ss : List ℕ) (v : ℕ) → isPlacement (figuresOf l) ss ≡ true → v ≡ rank (figuresOf l) ss → Spellable (l .q) (l .m) (l .«index_tail») v
-  spellable ss v placed e =
+module _ (l : Layout) where
+  room-with : (s : Spells) → FittingWith s l → (l .m * suc (l .«index_tail») ≤ maxDigits) × (1 ≤ l .m)
+  unfolding B.partMost
+  room-with Rank g =
+      let f = figuresOf l in
+      let ok = served l g in (
+        rw (g .laid .tail-is) (digits-few (f .q) (f .m) (placementCount f) (ok .range .q-least) (ok .range .m-most) (ok .counted) (indexTail f) (index-least f)),
+        ok .some,
+      )
+  room-with EndOffset g =
+      let f = longOf (figuresOf l) in
+      let ok = served-long l g in (
+        rw (g .laid .m-is, g .laid .tail-is)
+            (digits-few (f .q) 1 (B.partMost f) (ok .range .q-least) (omega arith) (values-few (f .n) (ok .range .n-most)) (B.indexTail f) (BFigures.index-least f)),
+        omega (arith, g .laid .m-is),
+      )
+
+  pub count-most : Serves l → l .m * suc (l .«index_tail») ≤ maxDigits
+  count-most g = room-with (l .spells) g .0
+
+  tail-few : Serves l → l .«index_tail» < maxDigits
+  tail-few g =
+      omega (arith, count-most g, le-mul-of-pos-right {m = l .m} (suc (l .«index_tail»)) (room-with (l .spells) g .1), mul-comm (l .m) (suc (l .«index_tail»)))
+
+  -- what is spelled is below what the places can spell
+  below-with : (s : Spells) → FittingWith s l → (ss : List ℕ) → isPlacement (figuresOf l) ss ≡ true
+      → (2 ≤ l .q) × (l .q ≤ 256) × (spelledWith s (figuresOf l) ss < span (l .q) (places (l .m) (l .«index_tail»)))
+  below-with Rank g ss placed =
       let f = figuresOf l in
       let ok = served l g in
-      record {
-        alphabet = ok .range .q-least;
-        bytes = ok .range .q-most;
-        room = count-most;
-        tail = rw (g .laid .tail-is) (tail-few f ok);
-        below = rw (g .laid .tail-is, e) (omega (arith, rank-bijection f ok .below ss placed, span-enough f ok));
-      }
+      (ok .range .q-least, ok .range .q-most, rw (g .laid .tail-is) (omega (arith, rank-bijection f ok .below ss placed, span-enough f ok)))
+  below-with EndOffset g ss placed =
+      let f = longOf (figuresOf l) in
+      let ok = served-long l g in
+      let inside = start-is l g ss placed .1 in (
+        ok .range .q-least,
+        ok .range .q-most,
+        rw (g .laid .m-is, g .laid .tail-is)
+            (omega (arith, offset-lt f ok (startIn ss) inside, BFigures.part-most f (burstPart f (startIn ss)) (burst-lt f ok (startIn ss) inside), BFigures.span-enough f ok)),
+      )
+
+  pub spellable : Serves l → (ss : List ℕ) (v : ℕ) → isPlacement (figuresOf l) ss ≡ true → v ≡ spelledIn l ss → Spellable (l .q) (l .m) (l .«index_tail») v
+  spellable g ss v placed e =
+      let b = below-with (l .spells) g ss placed in
+      record { alphabet = b .0; bytes = b .1; room = count-most g; tail = tail-few g; below = omega (arith, b .2, e) }
+
+  -- the digits of what is spelled, woven into the plan, give the word of either construction
+  woven-with : (s : Spells) → FittingWith s l → (ss ms : List ℕ) → isPlacement (figuresOf l) ss ≡ true
+      → weave (planIn (frameOf l ss)) (spell (l .q) (places (l .m) (l .«index_tail»)) (spelledWith s (figuresOf l) ss)) ms
+      ≡ codingWith s (figuresOf l) .codec .encode ss ms
+  unfolding word B′.wordFrom
+  woven-with Rank g ss ms placed =
+      ap₂ (λ (cs : List Cell) (r : ℕ). weave cs (spell (l .q) (places (l .m) r) (spelledWith Rank (figuresOf l) ss)) ms) (plan-is l g ss) (g .laid .tail-is)
+  woven-with EndOffset g ss ms placed =
+      ap (λ (cs : List Cell). weave cs (spell (l .q) (places (l .m) (l .«index_tail»)) (spelledWith EndOffset (figuresOf l) ss)) ms) (long-plan-is l g ss placed)
+      ∙ ap₂ (λ (m r : ℕ). weave (B′.plan (longOf (figuresOf l)) (startIn ss)) (spell (l .q) (places m r) (spelledWith EndOffset (figuresOf l) ss)) ms)
+      (g .laid .m-is) (g .laid .tail-is)
 
   -- the word that these digits give
-  pub word-of : (ss ds ms out : List ℕ) (v : ℕ) → v ≡ rank (figuresOf l) ss → take (l .m * suc (l .«index_tail»)) ds ≡ spell (l .q) (places (l .m) (l .«index_tail»)) v
-      → out ≡ weave (planIn (frameOf l ss)) (take (l .m * (l .«index_tail» + 1)) ds) ms → out ≡ word (figuresOf l) ss ms
-  unfolding word
-  word-of ss ds ms out v e d o =
-      o ∙ ap₂ (λ (cs : List Cell) (y : List ℕ). weave cs y ms) (plan-is l g ss)
-      (ap (λ (r : ℕ). take (l .m * r) ds) (add-one (l .«index_tail»)) ∙ d ∙ ap (spell (l .q) (places (l .m) (l .«index_tail»))) e
-      ∙ ap (λ (r : ℕ). spell (l .q) (places (l .m) r) (rank (figuresOf l) ss)) (g .laid .tail-is))
+  pub word-of : Serves l → (ss ds ms out : List ℕ) (v : ℕ) → isPlacement (figuresOf l) ss ≡ true → v ≡ spelledIn l ss
+      → take (l .m * suc (l .«index_tail»)) ds ≡ spell (l .q) (places (l .m) (l .«index_tail»)) v
+      → out ≡ weave (planIn (frameOf l ss)) (take (l .m * (l .«index_tail» + 1)) ds) ms → out ≡ codingIn l .codec .encode ss ms
+  word-of g ss ds ms out v placed e d o =
+      o ∙ ap (λ (y : List ℕ). weave (planIn (frameOf l ss)) y ms)
+      (ap (λ (r : ℕ). take (l .m * r) ds) (add-one (l .«index_tail»)) ∙ d ∙ ap (spell (l .q) (places (l .m) (l .«index_tail»))) e)
+      ∙ woven-with (l .spells) g ss ms placed

@@ -4,24 +4,24 @@ ghost use mathlib.Core.Path.{_≡_};
 ghost use Prim.Native.Nat.{suc};
 ghost use Rattle.cells.specs.Cells.{weave};
 ghost use Rattle.cells.specs.Plan.{planIn};
-ghost use Rattle.construction_a.specs.Writing.{word as wordOf};
 ghost use Rattle.placements.specs.Bridge.{startsIn};
-ghost use Rattle.params.specs.Given.{figuresOf, frameOf, Fitting};
+ghost use Rattle.params.specs.Given.{frameOf, codingIn, Serves};
 ghost use Rattle.stretches.specs.ByBlock.{Tables, KindIs};
 ghost use Rattle.encoder.specs.Fill.{Fillable, DigitsFor, FilledTo, ComesTo, Enters, HeadPassed, MessageUpTo, BurstHere, BurstPassed};
 use crate::digits;
+use crate::value;
 use params::Layout;
 use params::heads::heads_of;
 use placements::Placement;
 
 // The word of a placement and a message.
 pub fn fill(layout: Layout, at: Placement, message: &[u8], word: &mut [u8])
-    requires { ⌜ Fitting layout × Fillable layout at (now message) (now word) ⌝ }
-    ensures { λ _. ⌜ now (word .exit) ≡ wordOf (figuresOf layout) (startsIn at) (now (message .entry)) ⌝ }
+    requires { ⌜ Serves layout × Fillable layout at (now message) (now word) ⌝ }
+    ensures { λ _. ⌜ now (word .exit) ≡ codingIn layout .codec .encode (startsIn at) (now (message .entry)) ⌝ }
 {
     let kinds = blocks::kinds_of(layout, at);
-    let rank = at.rank(layout.b as u32);
-    let digits = digits::spelled(layout.q, layout.m, layout.index_tail, rank);
+    let value = value::index_value(layout, at);
+    let digits = digits::spelled(layout.q, layout.m, layout.index_tail, value);
     let count = layout.m * (layout.index_tail + 1);
     fill_cells(
         layout,

@@ -1,6 +1,9 @@
 pub mod Capped
 pub mod Laying
+pub mod LongLaying
 pub mod Answered
 pub mod Shape
 pub mod Fitting
+pub mod LongFitting
+pub mod Either
 mod Starting

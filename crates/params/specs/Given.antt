@@ -6,8 +6,16 @@ use Prim.Native.Nat.{ℕ, _+_, _-_, _*_, _≤_, _<_}
 use lib.ListN.{getD}
 use Rattle.cells.specs.Plan.{Frame, Spares}
 use Rattle.construction_a.specs.Figures.{Params, params, maxBursts, inRange, isPlacement, parts, blocks, headOf, blockMin, fits}
-use Rattle.construction_a.specs.Writing.{frameWith}
-use Rattle.params.specs.Answer.{LaidOut}
+use Rattle.construction_a.specs.Writing.{rank, frameWith}
+use Rattle.cells.specs.Outcomes.{Coding}
+use Rattle.construction_a.specs.Outcomes.{coding as codingA}
+use Rattle.construction_b.specs.Figures.{LongParams, longParams}
+use Rattle.construction_b.specs.Figures as B
+use Rattle.construction_b.specs.Outcomes.{coding as codingB}
+use Rattle.construction_b.specs.Writing.{startIn, endOffset}
+use Rattle.params.specs.declared.Spells.{Spells}
+use Rattle.params.specs.declared.Spells.the-variants.{Rank, EndOffset}
+use Rattle.params.specs.Answer.{LaidOut, LongLaidOut}
 use Rattle.params.specs.declared.Layout.{Layout}
 
 -- the most blocks that a word can have: p × m where m is the largest
@@ -27,6 +35,44 @@ pub record Fitting (l : Layout) : Type 0 where
   pub range : inRange (figuresOf l) ≡ true
   pub fit : fits (figuresOf l) ≡ true
   pub laid : LaidOut (figuresOf l) l
+
+-- ---- Construction B, and either
+
+-- one burst's figures
+abbrev pub longOf : Params → LongParams
+longOf f = longParams (f .n) (f .q) (f .b)
+
+-- the same of Construction B
+pub record LongFitting (l : Layout) : Type 0 where
+  pub range : B.inRange (longOf (figuresOf l)) ≡ true
+  pub fit : B.fits (longOf (figuresOf l)) ≡ true
+  pub laid : LongLaidOut (longOf (figuresOf l)) l
+
+-- what figures give, of the construction whose index blocks spell this
+abbrev pub codingWith : Spells → Params → Coding
+codingWith Rank f = codingA f
+codingWith EndOffset f = codingB (longOf f)
+
+abbrev pub codingIn : Layout → Coding
+codingIn l = codingWith (l .spells) (figuresOf l)
+
+abbrev pub FittingWith : Spells → Layout → Type 0
+FittingWith Rank l = Fitting l
+FittingWith EndOffset l = LongFitting l
+
+-- the figures of its construction fit, and the layout is theirs
+abbrev pub Serves : Layout → Type 0
+Serves l = FittingWith (l .spells) l
+
+-- what the index blocks spell of a placement: its rank, or how far into its part the burst ends
+abbrev pub spelledWith : Spells → Params → List ℕ → ℕ
+spelledWith Rank f ss = rank f ss
+spelledWith EndOffset f ss = endOffset (longOf f) (startIn ss)
+
+abbrev pub spelledIn : Layout → List ℕ → ℕ
+spelledIn l ss = spelledWith (l .spells) (figuresOf l) ss
+
+-- ---- The shape of its words
 
 -- the blocks of a placement's word and its bursts, by the layout's own r
 abbrev pub frameOf : Layout → List ℕ → Frame

@@ -6,16 +6,19 @@ ghost use Rattle.construction_a.specs.Figures.{params, inRange, maxCount, place
 ghost use Rattle.construction_a.specs.Outcomes.{figuresNumber, figuresOut};
 ghost use Rattle.cells.specs.Cut.{blockHead, blockWith};
 ghost use Rattle.cells.specs.Erasures.{foundBound};
-ghost use Rattle.params.specs.Bridge.{given};
-ghost use Rattle.params.specs.Answer.{figuredAs, layoutNumber, LaidIn};
+ghost use Rattle.cells.specs.Outcomes.{figuresUnder};
+ghost use Rattle.params.specs.Bridge.{given, codingOf};
+ghost use Rattle.params.specs.Answer.{figuredAs, layoutNumber, LaidIn, LaidAs};
 ghost use Rattle.params.specs.Blocks.{HasPosition};
 ghost use Rattle.params.specs.Given.{figuresOf, Shaped, HeadsOf};
+use crate::long::LongParams;
 use binomials::CountAnswer;
 use refusals::Refusal;
 
 pub mod bytes;
 pub mod cut;
 pub mod heads;
+pub mod long;
 mod tail;
 
 // The figures as a caller passes them: any numbers.
@@ -26,8 +29,20 @@ pub struct Params {
     pub b: u32,
 }
 
-// The figures of a word that can be laid out, and document 01's p, L, T, r and k, in this order, which follow from them.
-// Positions and lengths are usize, values u64.
+// The figures of either construction.
+pub enum Figures {
+    Ranked(Params),
+    Long(LongParams),
+}
+
+// What the index blocks spell: the rank of the placement (Construction A), or how far into its part the one burst ends (Construction B).
+pub enum Spells {
+    Rank,
+    EndOffset,
+}
+
+// The figures of a word that can be laid out, and document 01's p, L, T, r and k, in this order, which follow from them; Construction B has one burst
+// and three parts, which are its blocks. Positions and lengths are usize, values u64.
 pub struct Layout {
     pub n: usize,
     pub q: u64,
@@ -38,6 +53,7 @@ pub struct Layout {
     pub placement_count: u64,
     pub index_tail: usize,
     pub message_len: usize,
+    pub spells: Spells,
 }
 
 // What "figures alone" answers.
@@ -154,6 +170,7 @@ impl Params {
             placement_count: count,
             index_tail,
             message_len,
+            spells: Spells::Rank,
         })
     }
 
@@ -165,6 +182,19 @@ impl Params {
             return Params::MIN_PARTS as usize;
         }
         self.m as usize
+    }
+}
+
+impl Figures {
+    // The layout that the figures give, whatever numbers come. Refusals in order: 1 2.
+    pub fn layout(self) -> LayoutAnswer
+        ensures answer { λ r. ⌜ figuredAs r ≡ figuresUnder (codingOf self) ⌝ }
+        ensures layout { λ r. ⌜ LaidAs self r ⌝ }
+    {
+        match self {
+            Figures::Ranked(p) => Params::figures(p.n, p.q, p.m, p.b),
+            Figures::Long(p) => LongParams::figures(p.n, p.q, p.b),
+        }
     }
 }
 

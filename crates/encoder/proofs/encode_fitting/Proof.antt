@@ -6,11 +6,11 @@ use borrow.Author.Needs.{needs}
 use borrow.Author.Tests.{not-true, not-false}
 use lib.ListN.{length}
 use Rattle.combinatorics.specs.Bursts.{apart}
-use Rattle.construction_a.specs.Figures.{maxBursts}
-use Rattle.construction_a.specs.Writing.{word}
-use Rattle.params.specs.Given.{figuresOf}
+use Rattle.cells.specs.Outcomes.{maxBursts}
+use Rattle.params.specs.Given.{codingIn}
 use Rattle.params.specs.declared.Layout.{Layout}
-use Rattle.params.proofs.Fitting.{shaped, bound, long}
+use Rattle.params.proofs.Either.{in-shape, in-order, numbers-in, apart-in, below-in}
+use Rattle.params.proofs.Shape.{bound, long}
 use Rattle.placements.specs.Bridge.{heldAs, startsIn}
 use Rattle.placements.proofs.Placing.{placing-of}
 use Rattle.encoder.proofs.Outcomes.{told, encode-count, encode-message, encode-word, encode-starts, encode-symbol, encode-served}
@@ -26,36 +26,44 @@ cast-if1 c = search needs
 returns : tie.Need-returns
 returns c =
     let s = c .before .before .before .before .before in
-    told _ _ (encode-count (figuresOf (l s)) (heldAs (s .args .at)) (s .args .message .now) (s .args .word .now) (s .pre .range) (s .pre .fit) (c .if1 .taken))
+    let ok = in-order (l s) (s .pre) in
+    let is = numbers-in (l s) (s .pre) in
+    told _ _ (encode-count (codingIn (l s)) (heldAs (s .args .at)) (s .args .message .now) (s .args .word .now) (ok .0) (ok .1) (λ e. c .if1 .taken (e ∙ sym (is .bursts-is))))
 
 returns-2 : tie.Need-returns-2
 returns-2 c =
     let s = c .before .before .before .before .before .before .before in
-    told _ _ (encode-message (figuresOf (l s)) (heldAs (s .args .at)) (s .args .message .now) (s .args .word .now) (s .pre .range) (s .pre .fit) (c .before .before .if1 .left) (λ e. c .if2 .taken (e ∙ sym (s .pre .laid .len-is))))
+    let ok = in-order (l s) (s .pre) in
+    let is = numbers-in (l s) (s .pre) in
+    told _ _ (encode-message (codingIn (l s)) (heldAs (s .args .at)) (s .args .message .now) (s .args .word .now) (ok .0) (ok .1) (c .before .before .if1 .left ∙ is .bursts-is) (λ e. c .if2 .taken (e ∙ sym (is .len-is))))
 
 returns-3 : tie.Need-returns-3
 returns-3 c =
     let s = c .before .before .before .before .before .before .before .before .before in
-    told _ _ (encode-word (figuresOf (l s)) (heldAs (s .args .at)) (s .args .message .now) (s .args .word .now) (s .pre .range) (s .pre .fit) (c .before .before .before .before .if1 .left) (c .before .before .if2 .left ∙ s .pre .laid .len-is) (c .if3 .taken))
+    let ok = in-order (l s) (s .pre) in
+    let is = numbers-in (l s) (s .pre) in
+    told _ _ (encode-word (codingIn (l s)) (heldAs (s .args .at)) (s .args .message .now) (s .args .word .now) (ok .0) (ok .1) (c .before .before .before .before .if1 .left ∙ is .bursts-is) (c .before .before .if2 .left ∙ is .len-is) (λ e. c .if3 .taken (e ∙ sym (is .word-is))))
 
 cast-apart : tie.Need-cast-apart
-cast-apart c = let s = c .before .before .before .before .before .before .before .before .before .before in omega (arith, bound (l s) (s .pre) .n-most)
+cast-apart c = let s = c .before .before .before .before .before .before .before .before .before .before in omega (arith, bound (l s) (in-shape (l s) (s .pre)) .n-most)
 
 cast-apart-2 : tie.Need-cast-apart-2
 cast-apart-2 c =
     let s = c .before .before .before .before .before .before .before .before .before .before .before in
-    omega (arith, bound (l s) (s .pre) .n-most, long (l s) (s .pre))
+    omega (arith, bound (l s) (in-shape (l s) (s .pre)) .n-most, long (l s) (in-shape (l s) (s .pre)))
 
 apart-requires : tie.Need-apart-requires
 apart-requires c κs =
     let s = c .before .before .before .before .before .before .before .before .before .before .before in
-    omega (arith, bound (l s) (s .pre) .m-most, c .before .before .before .before .before .before .if1 .left)
+    omega (arith, bound (l s) (in-shape (l s) (s .pre)) .m-most, c .before .before .before .before .before .before .if1 .left)
 
 returns-4 : tie.Need-returns-4
 returns-4 c =
     let s = c .before .before .before .before .before .before .before .before .before .before .before .before .before in
-    told _ _ (encode-starts (figuresOf (l s)) (heldAs (s .args .at)) (s .args .message .now) (s .args .word .now) (s .pre .range) (s .pre .fit) (c .before .before .before .before .before .before .before .before .if1 .left) (c .before .before .before .before .before .before .if2 .left ∙ s .pre .laid .len-is) (c .before .before .before .before .if3 .left)
-    (sym (c .before .apart .ensures) ∙ not-true _ (c .if4 .taken)))
+    let ok = in-order (l s) (s .pre) in
+    let is = numbers-in (l s) (s .pre) in
+    told _ _ (encode-starts (codingIn (l s)) (heldAs (s .args .at)) (s .args .message .now) (s .args .word .now) (ok .0) (ok .1) (c .before .before .before .before .before .before .before .before .if1 .left ∙ is .bursts-is) (c .before .before .before .before .before .before .if2 .left ∙ is .len-is) (c .before .before .before .before .if3 .left ∙ is .word-is)
+    (apart-in (l s) (s .pre) (startsIn (s .args .at)) ∙ sym (c .before .apart .ensures) ∙ not-true _ (c .if4 .taken)))
 
 all-below-requires : tie.Need-all-below-requires
 all-below-requires c κs = search needs
@@ -63,16 +71,24 @@ all-below-requires c κs = search needs
 returns-5 : tie.Need-returns-5
 returns-5 c =
     let s = c .before .before .before .before .before .before .before .before .before .before .before .before .before .before .before in
-    told _ _ (encode-symbol (figuresOf (l s)) (heldAs (s .args .at)) (s .args .message .now) (s .args .word .now) (s .pre .range) (s .pre .fit) (c .before .before .before .before .before .before .before .before .before .before .if1 .left) (c .before .before .before .before .before .before .before .before .if2 .left ∙ s .pre .laid .len-is) (c .before .before .before .before .before .before .if3 .left)
-    (sym (c .before .before .before .apart .ensures) ∙ not-false _ (c .before .before .if4 .left)) (sym (c .before .all-below .ensures) ∙ not-true _ (c .if5 .taken)))
+    let ok = in-order (l s) (s .pre) in
+    let is = numbers-in (l s) (s .pre) in
+    told _ _ (encode-symbol (codingIn (l s)) (heldAs (s .args .at)) (s .args .message .now) (s .args .word .now) (ok .0) (ok .1) (c .before .before .before .before .before .before .before .before .before .before .if1 .left ∙ is .bursts-is) (c .before .before .before .before .before .before .before .before .if2 .left ∙ is .len-is) (c .before .before .before .before .before .before .if3 .left ∙ is .word-is)
+    (apart-in (l s) (s .pre) (startsIn (s .args .at)) ∙ sym (c .before .before .before .apart .ensures) ∙ not-false _ (c .before .before .if4 .left))
+    (below-in (l s) (s .pre) (s .args .message .now) ∙ sym (c .before .all-below .ensures) ∙ not-true _ (c .if5 .taken)))
 
 fill-requires : tie.Need-fill-requires
 fill-requires c κs =
     let s = c .before .before .before .before .before .before .before .before .before .before .before .before .before .before .before .before in
     let sized : length (s .args .at .starts) ≡ maxBursts = search needs in
-    let len = c .before .before .before .before .before .before .before .before .before .if2 .left in
-    let valid : apart (l s .b) (l s .n) 0 (startsIn (s .args .at)) ≡ true = sym (c .before .before .before .before .apart .ensures) ∙ not-false _ (c .before .before .before .if4 .left) in
-    (s .pre, record { placing = placing-of (l s) (s .args .at) sized (shaped (l s) (s .pre)) (c .before .before .before .before .before .before .before .before .before .before .before .if1 .left) valid; sent = len; room = c .before .before .before .before .before .before .before .if3 .left })
+    let valid : apart (l s .b) (l s .n) 0 (startsIn (s .args .at)) ≡ true = sym (c .before .before .before .before .apart .ensures) ∙ not-false _ (c .before .before .before .if4 .left) in (
+      s .pre,
+      record {
+        placing = placing-of (l s) (s .args .at) sized (in-shape (l s) (s .pre)) (c .before .before .before .before .before .before .before .before .before .before .before .if1 .left) valid;
+        sent = c .before .before .before .before .before .before .before .before .before .if2 .left;
+        room = c .before .before .before .before .before .before .before .if3 .left;
+      },
+    )
 
 same-length : tie.Need-same-length
 same-length c = search needs
@@ -80,8 +96,11 @@ same-length c = search needs
 returns-6 : tie.Need-returns-6
 returns-6 c =
     let s = c .before .before .before .before .before .before .before .before .before .before .before .before .before .before .before .before .before .before .before in
-    let e = encode-served (figuresOf (l s)) (heldAs (s .args .at)) (s .args .message .now) (s .args .word .now) (s .pre .range) (s .pre .fit) (c .before .before .before .before .before .before .before .before .before .before .before .before .before .before .if1 .left) (c .before .before .before .before .before .before .before .before .before .before .before .before .if2 .left ∙ s .pre .laid .len-is) (c .before .before .before .before .before .before .before .before .before .before .if3 .left)
-    (sym (c .before .before .before .before .before .before .before .apart .ensures) ∙ not-false _ (c .before .before .before .before .before .before .if4 .left)) (sym (c .before .before .before .before .before .all-below .ensures) ∙ not-false _ (c .before .before .before .before .if5 .left)) in
+    let ok = in-order (l s) (s .pre) in
+    let is = numbers-in (l s) (s .pre) in
+    let e = encode-served (codingIn (l s)) (heldAs (s .args .at)) (s .args .message .now) (s .args .word .now) (ok .0) (ok .1) (c .before .before .before .before .before .before .before .before .before .before .before .before .before .before .if1 .left ∙ is .bursts-is) (c .before .before .before .before .before .before .before .before .before .before .before .before .if2 .left ∙ is .len-is) (c .before .before .before .before .before .before .before .before .before .before .if3 .left ∙ is .word-is)
+    (apart-in (l s) (s .pre) (startsIn (s .args .at)) ∙ sym (c .before .before .before .before .before .before .before .apart .ensures) ∙ not-false _ (c .before .before .before .before .before .before .if4 .left))
+    (below-in (l s) (s .pre) (s .args .message .now) ∙ sym (c .before .before .before .before .before .all-below .ensures) ∙ not-false _ (c .before .before .before .before .if5 .left)) in
     (told _ _ e .0, c .before .before .fill .ensures ∙ told _ _ e .1)
 
 pub encode-fitting-spec : {M : Type 1} → statement M

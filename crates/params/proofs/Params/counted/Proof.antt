@@ -96,6 +96,7 @@ returns-3 c =
         count-is = t;
         tail-is = tail-is (searched (c .before .before));
         len-is = len-is (fitted c);
+        spells-is = refl;
       },
     )
 

@@ -1,0 +1,123 @@
+-- What a caller learns of figures of either construction from their layout. Assumes nothing.
+use mathlib.Core.Path.{_≡_, refl, sym, ap, ap₂, subst, _∙_}
+use mathlib.Core.Bool.{true}
+use mathlib.Core.List.{List}
+use Prim.Native.Nat.{ℕ, _≤_}
+use native.Mathlib.Omega.{arith}
+use Rattle.combinatorics.specs.Bursts.{apart}
+use Rattle.combinatorics.specs.Lists.{allBelow}
+use Rattle.cells.specs.Outcomes.{Coding, unserved, figuresUnder}
+use Rattle.cells.proofs.Outcomes.{figured-fits}
+use Rattle.construction_a.specs.Figures.{messageLen}
+use Rattle.construction_a.proofs.Figures.{ranged}
+use Rattle.construction_b.specs.Figures.{LongParams, longParams}
+use Rattle.construction_b.specs.Figures as B
+use Rattle.construction_b.specs.Outcomes.{coding as codingB}
+use Rattle.construction_b.proofs.Figures as BFigures
+use Rattle.params.specs.declared.Figures.{Figures}
+use Rattle.params.specs.declared.Figures.the-variants.{Ranked, Long}
+use Rattle.params.specs.declared.Layout.{Layout}
+use Rattle.params.specs.declared.LayoutAnswer.{LayoutAnswer}
+use Rattle.params.specs.declared.LayoutAnswer.the-variants.{Fit}
+use Rattle.params.specs.declared.Spells.{Spells}
+use Rattle.params.specs.declared.Spells.the-variants.{Rank, EndOffset}
+use Rattle.params.specs.Answer.{figuredAs, LaidOut, LaidIn, LongLaidOut, LongLaidIn, LaidAs, HasNumbers, Small}
+use Rattle.params.specs.Bridge.{given, givenLong, codingOf}
+use Rattle.params.specs.Given.{figuresOf, longOf, LongFitting, codingWith, codingIn, FittingWith, Serves, Shaped}
+use Rattle.params.proofs.Fitting.{laid-fits, shaped}
+use Rattle.params.proofs.LongFitting.{long-shaped}
+
+-- the layout's numbers
+pub has-numbers : (f : Figures) (l : Layout) → LaidAs f (Fit l) → HasNumbers (codingOf f) l
+has-numbers (Ranked p) l is =
+    record { word-is = is .n-is; alphabet-is = is .q-is; bursts-is = is .m-is; burst-is = is .b-is; count-is = is .count-is; tail-is = is .tail-is; len-is = is .len-is }
+has-numbers (Long p) l is =
+    record { word-is = is .n-is; alphabet-is = is .q-is; bursts-is = is .m-is; burst-is = is .b-is; count-is = is .count-is; tail-is = is .tail-is; len-is = is .len-is }
+
+pub small : (f : Figures) → codingOf f .inRange ≡ true → Small (codingOf f)
+unfolding messageLen B.messageLen
+small (Ranked p) e =
+    let r = ranged (given p) e in
+    record { word-most = r .n-most; message-most = omega arith; alphabet-least = r .q-least; alphabet-most = r .q-most; bursts-most = r .m-most }
+small (Long p) e =
+    let r = BFigures.ranged (givenLong p) e in
+    record { word-most = r .n-most; message-most = omega arith; alphabet-least = r .q-least; alphabet-most = r .q-most; bursts-most = omega arith }
+
+-- of an answer that was taken apart: the figures are in range and fit, and the layout has their numbers
+pub laid-learnt : (f : Figures) (r : LayoutAnswer) (l : Layout) → r ≡ Fit l → figuredAs r ≡ figuresUnder (codingOf f) → LaidAs f r
+    → (codingOf f .inRange ≡ true) × (codingOf f .fits ≡ true) × HasNumbers (codingOf f) l × Small (codingOf f)
+laid-learnt f r l e answer laid =
+    let fit = figured-fits (codingOf f) (l .«placement_count») (l .«index_tail») (l .«message_len») (sym answer ∙ ap figuredAs e) in
+    (fit .0, fit .1, has-numbers f l (subst (LaidAs f) e laid), small f (fit .0))
+
+-- ---- The layout alone, by what its index blocks spell
+
+module _ (l : Layout) where
+  pub in-shape : Serves l → Shaped l
+  in-shape g = go (l .spells) g
+    where
+      go : (s : Spells) → FittingWith s l → Shaped l
+      go Rank g = shaped l g
+      go EndOffset g = long-shaped l g
+
+  pub in-order : Serves l → (codingIn l .inRange ≡ true) × (codingIn l .fits ≡ true)
+  in-order g = go (l .spells) g
+    where
+      go : (s : Spells) → FittingWith s l → (codingWith s (figuresOf l) .inRange ≡ true) × (codingWith s (figuresOf l) .fits ≡ true)
+      go Rank g = (g .range, g .fit)
+      go EndOffset g = (g .range, g .fit)
+
+  pub numbers-in : Serves l → HasNumbers (codingIn l) l
+  numbers-in g = go (l .spells) g
+    where
+      go : (s : Spells) → FittingWith s l → HasNumbers (codingWith s (figuresOf l)) l
+      go Rank g =
+          record {
+            word-is = refl;
+            alphabet-is = refl;
+            bursts-is = refl;
+            burst-is = refl;
+            count-is = g .laid .count-is;
+            tail-is = g .laid .tail-is;
+            len-is = g .laid .len-is;
+          }
+      go EndOffset g =
+          record {
+            word-is = refl;
+            alphabet-is = refl;
+            bursts-is = g .laid .m-is;
+            burst-is = refl;
+            count-is = g .laid .count-is;
+            tail-is = g .laid .tail-is;
+            len-is = g .laid .len-is;
+          }
+
+  -- tests of starts and of symbols, by the layout's own numbers
+  pub apart-in : Serves l → (ss : List ℕ) → apart (codingIn l .burstLen) (codingIn l .codec .wordLen) 0 ss ≡ apart (l .b) (l .n) 0 ss
+  apart-in g ss = let is = numbers-in g in sym (ap₂ (λ (b n : ℕ). apart b n 0 ss) (is .burst-is) (is .word-is))
+
+  pub below-in : Serves l → (ms : List ℕ) → allBelow (codingIn l .codec .alphabet) ms ≡ allBelow (l .q) ms
+  below-in g ms = sym (ap (λ (q : ℕ). allBelow q ms) (numbers-in g .alphabet-is))
+
+long-same : {f : LongParams} {n q b : ℕ} → n ≡ f .n → q ≡ f .q → b ≡ f .b → longParams n q b ≡ f
+long-same e₁ e₂ e₃ = rw (e₁, e₂, e₃)
+
+-- of an answer that was taken apart: what the layout gives is what the caller's figures give, and they fit
+pub serves : (f : Figures) (r : LayoutAnswer) (l : Layout) → r ≡ Fit l → figuredAs r ≡ figuresUnder (codingOf f) → LaidAs f r
+    → (codingIn l ≡ codingOf f) × Serves l
+serves (Ranked p) r l e answer laid =
+    let fit = laid-learnt (Ranked p) r l e answer laid in
+    let is : LaidOut (given p) l = subst (LaidIn (given p)) e laid in
+    let own = laid-fits (given p) l (fit .0) (fit .1) is in
+    (ap₂ codingWith (is .spells-is) (own .0), subst (λ (s : Spells). FittingWith s l) (sym (is .spells-is)) (own .1))
+serves (Long p) r l e answer laid =
+    let fit = laid-learnt (Long p) r l e answer laid in
+    let is : LongLaidOut (givenLong p) l = subst (LongLaidIn (givenLong p)) e laid in
+    let same : longOf (figuresOf l) ≡ givenLong p = long-same (is .n-is) (is .q-is) (is .b-is) in
+    let own : LongFitting l =
+    record {
+      range = ap B.inRange same ∙ fit .0;
+      fit = ap B.fits same ∙ fit .1;
+      laid = subst (λ (g : LongParams). LongLaidOut g l) (sym same) is;
+    } in
+    (ap (λ (s : Spells). codingWith s (figuresOf l)) (is .spells-is) ∙ ap codingB same, subst (λ (s : Spells). FittingWith s l) (sym (is .spells-is)) own)
