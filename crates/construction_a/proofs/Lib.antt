@@ -9,4 +9,3 @@ pub mod Complete
 pub mod Sound
 pub mod DemandTwo
 mod Misreadings
-pub mod Erased

@@ -12,8 +12,9 @@ use Rattle.refusals.specs.Refusals.{must, served, wrongLength}
 use Rattle.combinatorics.proofs.Cases.{eqb-same, eqb-other}
 use Rattle.combinatorics.proofs.Lists.{fill-turn, fill-done}
 use Rattle.cells.specs.Bytes.{byteValues}
+use Rattle.cells.specs.Outcomes.{decodeUnder}
 use Rattle.construction_a.specs.Figures.{Params, inRange, fits}
-use Rattle.construction_a.specs.Outcomes.{unserved, figuresOut, decodeOut}
+use Rattle.construction_a.specs.Outcomes.{unserved, coding, figuresOut, decodeOut}
 use Rattle.construction_a.proofs.Outcomes.{refused-alike}
 use Rattle.placements.specs.Bridge.{startsIn}
 use Rattle.decoder.specs.declared.Decoded.{Decoded}
@@ -77,8 +78,8 @@ module _ (f : Params) (w out bytes : List ℕ) where
     exported-length size = rw (range, fit, eqb-other (length bytes) (2 * f .m) size)
 
     -- and what the word reader answers
-    pub exported-read : length bytes ≡ 2 * f .m → exportedOut f w out bytes ≡ exportedAs bytes (decodeOut f w out)
-    unfolding exportedOut
+    pub exported-read : length bytes ≡ 2 * f .m → exportedOut f w out bytes ≡ exportedAs bytes (decodeUnder (coding f) w out)
+    unfolding exportedOut decodeOut
     exported-read size = rw (range, fit, eqb-same (length bytes) (2 * f .m) size)
 
 -- the word reader's answer in code, taken apart

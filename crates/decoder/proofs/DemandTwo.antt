@@ -10,15 +10,16 @@ use Rattle.combinatorics.specs.Bursts.{rankOf}
 use Rattle.combinatorics.proofs.Cases.{eqb-same}
 use Rattle.cells.specs.Codec.{Reading, accepted, refused, ReadsExactly}
 use Rattle.cells.specs.Outcomes.{Coding, maxBursts, inUse, held, rankIs, refusal, answerNumber, Decoded, unread, decodedFrom, decodeUnder}
-use Rattle.construction_a.specs.DemandTwo.{Listed}
-use Rattle.construction_a.specs.Figures.{Params}
-use Rattle.construction_a.specs.Outcomes.{coding, decodeOut}
-use Rattle.construction_a.proofs.DemandTwo.{demand-two}
+use Rattle.construction_a.proofs.DemandTwo as A
+use Rattle.construction_b.proofs.DemandTwo as B
+use Rattle.params.specs.Bridge.{given, givenLong, codingOf}
+use Rattle.params.specs.declared.Figures.{Figures}
+use Rattle.params.specs.declared.Figures.the-variants.{Ranked, Long}
 use Rattle.decoder.specs.declared.WordAnswer.{WordAnswer}
 use Rattle.decoder.specs.declared.WordAnswer.the-variants.{Accepted, Refused}
 use Rattle.decoder.specs.declared.Decoded.{Decoded as Answered}
 use Rattle.decoder.specs.Answer.{answerAs, wordNumber, decodedAs}
-use Rattle.decoder.specs.DemandTwo.{DecodesExactlyUnder, DecodesExactly}
+use Rattle.decoder.specs.DemandTwo.{DecodesExactlyUnder, ListedIn, DecodesExactly}
 
 held-starts : (ss : List ℕ) → inUse (held ss) ≡ ss
 held-starts ss = take-append-seam ss (replicate (maxBursts - length ss) 0)
@@ -58,9 +59,9 @@ decodes-exactly-under d Listed reads w out g =
       );
     }
 
-pub decodes-exactly : (f : Params) (w out : List ℕ) → DecodesExactly f w out (decodeOut f w out)
-unfolding decodeOut
-decodes-exactly f = decodes-exactly-under (coding f) (Listed f) (demand-two f)
+decodes-exactly : (f : Figures) (w out : List ℕ) → DecodesExactly f w out (decodeUnder (codingOf f) w out)
+decodes-exactly (Ranked p) = decodes-exactly-under (codingOf (Ranked p)) (ListedIn (Ranked p)) (A.demand-two (given p))
+decodes-exactly (Long p) = decodes-exactly-under (codingOf (Long p)) (ListedIn (Long p)) (B.demand-two (givenLong p))
 
 -- an answer's number is that of what it says
 number-is : (r : WordAnswer) → wordNumber r ≡ answerNumber (answerAs r)
@@ -68,7 +69,8 @@ number-is (Accepted v) = refl
 number-is (Refused a) = refl
 
 -- the clauses of the reader's contract
-pub by-outcome : (f : Params) (w out : List ℕ) (r : Answered) (left : List ℕ) → decodedAs r left ≡ decodeOut f w out
-    → (decodedAs r left ≡ decodeOut f w out) × (DecodesExactly f w out (decodedAs r left) × (wordNumber (r .answer) ≡ answerNumber (decodeOut f w out .answer)))
+pub by-outcome : (f : Figures) (w out : List ℕ) (r : Answered) (left : List ℕ) → decodedAs r left ≡ decodeUnder (codingOf f) w out
+    → (decodedAs r left ≡ decodeUnder (codingOf f) w out)
+    × (DecodesExactly f w out (decodedAs r left) × (wordNumber (r .answer) ≡ answerNumber (decodeUnder (codingOf f) w out .answer)))
 by-outcome f w out r left e =
     (e, (subst (DecodesExactly f w out) (sym e) (decodes-exactly f w out), number-is (r .answer) ∙ ap (λ (d : Decoded). answerNumber (d .answer)) e))

@@ -4,3 +4,6 @@ pub mod GoingOn
 pub mod Calls
 pub mod DemandTwo
 pub mod Bytes
+pub mod Covered
+pub mod ByLayout
+pub mod Started

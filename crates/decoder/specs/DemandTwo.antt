@@ -1,4 +1,4 @@
--- Demand 2 of what the word reader answers, under any figures and for Construction A. Assumes nothing.
+-- Demand 2 of what the word reader answers, under any figures and for either construction. Assumes nothing.
 use mathlib.Core.Path.{_≡_}
 use mathlib.Core.Logic.{_↔_}
 use mathlib.Core.Bool.{true}
@@ -7,9 +7,11 @@ use Prim.Native.Nat.{ℕ}
 use lib.ListN.{length}
 use Rattle.cells.specs.Codec.{accepted, Word, LeadsTo}
 use Rattle.cells.specs.Outcomes.{Coding, Decoded, unread, decodedFrom}
-use Rattle.construction_a.specs.DemandTwo.{Listed}
-use Rattle.construction_a.specs.Figures.{Params}
-use Rattle.construction_a.specs.Outcomes.{coding}
+use Rattle.construction_a.specs.DemandTwo as A
+use Rattle.construction_b.specs.DemandTwo as B
+use Rattle.params.specs.Bridge.{given, givenLong, codingOf}
+use Rattle.params.specs.declared.Figures.{Figures}
+use Rattle.params.specs.declared.Figures.the-variants.{Ranked, Long}
 
 -- figures that fit, a word that can be found, and a buffer for its message
 pub record Readable (d : Coding) (w out : List ℕ) : Type 0 where
@@ -32,5 +34,10 @@ pub record ReadsAsWritten (d : Coding) (Listed : List ℕ → ℕ → Type 0) (w
 abbrev pub DecodesExactlyUnder : Coding → (List ℕ → ℕ → Type 0) → List ℕ → List ℕ → Decoded → Type 0
 DecodesExactlyUnder d Listed w out r = Readable d w out → ReadsAsWritten d Listed w out r
 
-abbrev pub DecodesExactly : Params → List ℕ → List ℕ → Decoded → Type 0
-DecodesExactly f = DecodesExactlyUnder (coding f) (Listed f)
+-- the listed conditions of either construction
+abbrev pub ListedIn : Figures → List ℕ → ℕ → Type 0
+ListedIn (Ranked p) = A.Listed (given p)
+ListedIn (Long p) = B.Listed (givenLong p)
+
+abbrev pub DecodesExactly : Figures → List ℕ → List ℕ → Decoded → Type 0
+DecodesExactly f = DecodesExactlyUnder (codingOf f) (ListedIn f)

@@ -1,35 +1,64 @@
 -- What the reader's inner functions ask for and go by. Assumes nothing.
 use mathlib.Core.Path.{_≡_}
-use mathlib.Core.Bool.{Bool, true}
+use mathlib.Core.Bool.{Bool, true, not}
 use mathlib.Core.List.{List}
-use Prim.Native.Nat.{ℕ, _<_}
+use Prim.Native.Nat.{ℕ, _<_, min}
 use lib.Dec.{eqb}
 use lib.ListN.{length, getD}
+use Rattle.refusals.specs.Refusals.{must, erased}
+use Rattle.combinatorics.specs.Bursts.{rankOf}
 use Rattle.combinatorics.specs.Lists.{allBelow}
-use Rattle.cells.specs.Erasures.{foundBound}
+use Rattle.cells.specs.Cells.{message, pick}
+use Rattle.cells.specs.Codec.{Reading, accepted, refused}
+use Rattle.cells.specs.Erasures.{foundBound, hasErasure}
+use Rattle.cells.specs.Outcomes.{held}
+use Rattle.cells.specs.Plan.{planIn}
 use Rattle.construction_a.specs.DemandTwo.{IndexRead}
-use Rattle.construction_a.specs.Figures.{placementCount}
 use Rattle.construction_a.specs.Reading.{written}
+use Rattle.construction_b.specs.DemandTwo as B
+use Rattle.construction_b.specs.Reading as B′
 use Rattle.params.specs.declared.Layout.{Layout}
-use Rattle.params.specs.Given.{figuresOf, Fitting}
+use Rattle.params.specs.Given.{figuresOf, longOf, frameOf, codingIn, Fitting, LongFitting, Serves}
 use Rattle.placements.specs.declared.Placement.{Placement}
-use Rattle.placements.specs.Bridge.{Placing}
+use Rattle.placements.specs.Bridge.{heldAs, startsIn, Placing}
 use Rattle.heads.specs.Given.{Finding}
+
+-- "a q among message symbols, after 9" (02, 6): what is left to refuse once the placement is known; otherwise its message is taken
+abbrev pub readMessage : Layout → List ℕ → List ℕ → Reading
+readMessage l w ss =
+    let ms = pick message (planIn (frameOf l ss)) w in
+    must (not (hasErasure (l .q) ms)) (refused erased) (accepted ss ms)
 
 -- a layout of figures that fit; a complete word without values above q, whether all of it could be read, and a buffer of k symbols
 pub record Lent (l : Layout) (whole : Bool) (w out : List ℕ) : Type 0 where
-  pub fitting : Fitting l
+  pub fitting : Serves l
   pub finding : Finding l w
   pub found : allBelow (foundBound (l .q)) w ≡ true
   pub scanned : whole ≡ allBelow (l .q) w
   pub room : length out ≡ l .«message_len»
 
--- the same with a rank, which index blocks without an erasure spell
+-- the same with the value that index blocks without an erasure spell, no further than T: of Construction A
 pub record Ranked (l : Layout) (ks : List ℕ) (v : ℕ) (whole : Bool) (w out : List ℕ) : Type 0 where
+  pub fitting : Fitting l
   pub lent : Lent l whole w out
   pub index : IndexRead (figuresOf l) w ks
-  pub spelled : v ≡ written (figuresOf l) w ks
-  pub below : v < placementCount (figuresOf l)
+  pub spelled : v ≡ min (written (figuresOf l) w ks) (l .«placement_count»)
+
+-- and of Construction B, with its index part
+pub record EndsAt (l : Layout) (i v : ℕ) (whole : Bool) (w out : List ℕ) : Type 0 where
+  pub fitting : LongFitting l
+  pub lent : Lent l whole w out
+  pub among : i < l .parts
+  pub index : B.IndexRead (longOf (figuresOf l)) w i
+  pub spelled : v ≡ min (B′.written (longOf (figuresOf l)) w i) (l .«placement_count»)
+
+-- the same with the placement that the word was read to have, and its rank
+pub record Located (l : Layout) (at : Placement) (v : ℕ) (whole : Bool) (w out : List ℕ) : Type 0 where
+  pub lent : Lent l whole w out
+  pub placing : Placing l at
+  pub is-held : heldAs at ≡ held (startsIn at)
+  pub ranked : v ≡ rankOf (l .b) (startsIn at)
+  pub read-as : codingIn l .codec .decode w ≡ readMessage l w (startsIn at)
 
 -- a complete word, a placement, and a buffer of k symbols
 pub record Takeable (l : Layout) (at : Placement) (w out : List ℕ) : Type 0 where

@@ -3,22 +3,26 @@ ghost use mathlib.Core.Path.{_≡_};
 ghost use mathlib.Core.List.{List};
 ghost use Prim.Native.Nat.{ℕ};
 ghost use lib.ListN.{take};
-ghost use Rattle.construction_a.specs.Outcomes.{unread as unreadAs, answerNumber, decodeAs, decodeOut};
-ghost use Rattle.construction_a.specs.Reading.{readRank, read};
-ghost use Rattle.params.specs.Bridge.{given};
-ghost use Rattle.params.specs.Given.{figuresOf, Fitting, HeadsOf};
+ghost use Rattle.cells.specs.Outcomes.{unread as unreadAs, answerNumber, decodedFrom, decodeUnder};
+ghost use Rattle.construction_a.specs.Reading.{written, readRank};
+ghost use Rattle.params.specs.Bridge.{codingOf};
+ghost use Rattle.params.specs.Given.{figuresOf, codingIn, Serves, HeadsOf};
+ghost use Rattle.placements.specs.Bridge.{startsIn};
+ghost use Rattle.stretches.specs.ByBlock.{Tables};
 ghost use Rattle.decoder.specs.Answer.{wordNumber, decodedAs};
 ghost use Rattle.decoder.specs.DemandTwo.{DecodesExactly};
-ghost use Rattle.decoder.specs.Reader.{Lent, Ranked};
+ghost use Rattle.decoder.specs.Reader.{readMessage, Lent, Ranked, Located};
+use params::Figures;
 use params::Layout;
 use params::LayoutAnswer;
-use params::Params;
+use params::Spells;
 use params::heads::heads_of;
 use placements::Placement;
 use refusals::Refusal;
 
 mod agree;
 mod erasures;
+mod offset;
 pub mod starts;
 mod taking;
 
@@ -36,12 +40,12 @@ pub struct Decoded {
 
 // The rank and the placement of a found word of n symbols, and its message in a buffer of k, which keeps its contents where the word is
 // refused. Refusals: 1 2 3 4 7 19 8 9 19.
-pub fn decode(figures: Params, word: &[u8], message: &mut [u8]) -> Decoded
-    ensures outcome { λ r. ⌜ decodedAs r (now (message .exit)) ≡ decodeOut (given figures) (now (word .entry)) (now (message .entry)) ⌝ }
-    ensures exactly { λ r. ⌜ DecodesExactly (given figures) (now (word .entry)) (now (message .entry)) (decodedAs r (now (message .exit))) ⌝ }
-    ensures number { λ r. ⌜ wordNumber (r .answer) ≡ answerNumber (decodeOut (given figures) (now (word .entry)) (now (message .entry)) .answer) ⌝ }
+pub fn decode(figures: Figures, word: &[u8], message: &mut [u8]) -> Decoded
+    ensures outcome { λ r. ⌜ decodedAs r (now (message .exit)) ≡ decodeUnder (codingOf figures) (now (word .entry)) (now (message .entry)) ⌝ }
+    ensures exactly { λ r. ⌜ DecodesExactly figures (now (word .entry)) (now (message .entry)) (decodedAs r (now (message .exit))) ⌝ }
+    ensures number { λ r. ⌜ wordNumber (r .answer) ≡ answerNumber (decodeUnder (codingOf figures) (now (word .entry)) (now (message .entry)) .answer) ⌝ }
 {
-    let answer = Params::figures(figures.n, figures.q, figures.m, figures.b);
+    let answer = figures.layout();
     match answer {
         LayoutAnswer::Refused(number) => unread(number),
         LayoutAnswer::Fit(layout) => decode_fitting(layout, word, message),
@@ -50,8 +54,8 @@ pub fn decode(figures: Params, word: &[u8], message: &mut [u8]) -> Decoded
 
 // The same for figures that fit. Refusals: 3 4 7 19 8 9 19.
 pub fn decode_fitting(layout: Layout, word: &[u8], message: &mut [u8]) -> Decoded
-    requires { ⌜ Fitting layout ⌝ }
-    ensures { λ r. ⌜ decodedAs r (now (message .exit)) ≡ decodeOut (figuresOf layout) (now (word .entry)) (now (message .entry)) ⌝ }
+    requires { ⌜ Serves layout ⌝ }
+    ensures { λ r. ⌜ decodedAs r (now (message .exit)) ≡ decodeUnder (codingIn layout) (now (word .entry)) (now (message .entry)) ⌝ }
 {
     if word.len() != layout.n {
         return unread(Refusal::LENGTH);
@@ -75,7 +79,7 @@ fn decode_found(
     message: &mut [u8],
 ) -> Decoded
     requires { ⌜ Lent layout whole (now word) (now message) × HeadsOf (figuresOf layout) (now heads) ⌝ }
-    ensures { λ r. ⌜ decodedAs r (now (message .exit)) ≡ decodeAs (figuresOf layout) (now (message .entry)) (read (figuresOf layout) (now (word .entry))) ⌝ }
+    ensures { λ r. ⌜ decodedAs r (now (message .exit)) ≡ decodedFrom (layout .b) (now (message .entry)) (codingIn layout .codec .decode (now (word .entry))) ⌝ }
 {
     let shown = heads::pattern::index_read(layout, heads, word);
     if !shown.found {
@@ -85,14 +89,18 @@ fn decode_found(
     if !erasures::index_whole(layout, heads, index, whole, word) {
         return unread(Refusal::ERASED);
     }
-    let rank = heads::written::written_value(layout, heads, word, index);
-    if layout.placement_count <= rank {
-        return unread(Refusal::VALUE);
+    let value = heads::written::written_value(layout, heads, word, index);
+    let spells = layout.spells;
+    match spells {
+        Spells::Rank => decode_rank(layout, heads, index, value, whole, word, message),
+        Spells::EndOffset => {
+            let part = index[0];
+            offset::decode_offset(layout, heads, part as usize, value, whole, word, message)
+        }
     }
-    decode_rank(layout, heads, index, rank, whole, word, message)
 }
 
-// The same for the rank that index blocks spell. Refusals: 9 19. The message is taken where nothing can be refused any more.
+// The same for the rank that index blocks spell, or T where the value is no less. Refusals: 8 9 19.
 fn decode_rank(
     layout: Layout,
     heads: &[u16; Layout::MAX_HEADS],
@@ -103,17 +111,37 @@ fn decode_rank(
     message: &mut [u8],
 ) -> Decoded
     requires { ⌜ Ranked layout (take (layout .m) index) rank whole (now word) (now message) × HeadsOf (figuresOf layout) (now heads) ⌝ }
-    ensures { λ r. ⌜ decodedAs r (now (message .exit)) ≡ decodeAs (figuresOf layout) (now (message .entry)) (readRank (figuresOf layout) (now (word .entry)) (take (layout .m) index) rank) ⌝ }
+    ensures { λ r. ⌜ decodedAs r (now (message .exit)) ≡ decodedFrom (layout .b) (now (message .entry)) (readRank (figuresOf layout) (now (word .entry)) (take (layout .m) index) (written (figuresOf layout) (now (word .entry)) (take (layout .m) index))) ⌝ }
 {
+    if layout.placement_count <= rank {
+        return unread(Refusal::VALUE);
+    }
     let placement = Placement::unrank(layout.n as u32, layout.m as u32, layout.b as u32, rank);
     let kinds = blocks::kinds_of(layout, placement);
     if !agree::agrees(layout, heads, &kinds, index, word) {
         return unread(Refusal::DISAGREES);
     }
+    decode_placed(layout, heads, &kinds, placement, rank, whole, word, message)
+}
+
+// The same for the placement that the word was read to have, and its rank. Refusal: 19. The message is taken where nothing can be refused any more.
+fn decode_placed(
+    layout: Layout,
+    heads: &[u16; Layout::MAX_HEADS],
+    kinds: &[u8; Layout::MAX_BLOCKS],
+    placement: Placement,
+    rank: u64,
+    whole: bool,
+    word: &[u8],
+    message: &mut [u8],
+) -> Decoded
+    requires { ⌜ Located layout placement rank whole (now word) (now message) × Tables layout placement (now heads) (now kinds) ⌝ }
+    ensures { λ r. ⌜ decodedAs r (now (message .exit)) ≡ decodedFrom (layout .b) (now (message .entry)) (readMessage layout (now (word .entry)) (startsIn placement)) ⌝ }
+{
     if !erasures::message_whole(layout, placement, whole, word) {
         return unread(Refusal::ERASED);
     }
-    taking::take_message(layout, placement, heads, &kinds, word, message);
+    taking::take_message(layout, placement, heads, kinds, word, message);
     Decoded {
         answer: WordAnswer::Accepted(rank),
         placement,

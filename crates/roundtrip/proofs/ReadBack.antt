@@ -17,7 +17,7 @@ use Rattle.cells.specs.Erasures.{foundBound}
 use Rattle.cells.proofs.Erasures.{found-least}
 use Rattle.construction_a.specs.DemandTwo.{constructionA}
 use Rattle.construction_a.specs.Figures.{Params, isPlacement}
-use Rattle.construction_a.specs.Outcomes.{Held, inUse, Encoded, encodeOut, decodeAs, decodeOut}
+use Rattle.construction_a.specs.Outcomes.{coding, Held, inUse, Encoded, encodeOut, decodeAs, decodeOut}
 use Rattle.construction_a.specs.Writing.{word}
 use Rattle.construction_a.proofs.DemandTwo.{exact, writes}
 use Rattle.construction_a.proofs.Figures.{Served, serve}
@@ -54,7 +54,8 @@ module _ (f : Params) (at : Held) (ms ds w out : List ℕ) (h : Writable f at ms
   valid = both (eqb (length (inUse at)) (f .m)) (apart (f .b) (f .n) 0 (inUse at)) (h .placed) .1
 
   pub is-written : encodeOut f at ms w .word ≡ word f (inUse at) ms
-  is-written = ap (λ (o : Encoded). o .word) (encode-served f at ms w (h .range) (h .fit) (h .count) (h .sent) (h .word-len) valid (h .symbols))
+  unfolding encodeOut
+  is-written = ap (λ (o : Encoded). o .word) (encode-served (coding f) at ms w (h .range) (h .fit) (h .count) (h .sent) (h .word-len) valid (h .symbols))
 
   -- what is written, and what is found once it is damaged
   abbrev codeword : List ℕ
@@ -84,6 +85,7 @@ module _ (f : Params) (at : Held) (ms ds w out : List ℕ) (h : Writable f at ms
       }
 
   pub reads-back : decodeOut f found out ≡ readBack f (inUse at) ms
+  unfolding decodeOut
   reads-back =
-      decode-read f found out (h .range) (h .fit) found-len (h .read-len) found-below
+      decode-read (coding f) found out (h .range) (h .fit) found-len (h .read-len) found-below
       ∙ ap (decodeAs f out) (exact f ok found (inUse at) ms (record { complete = found-len; symbols = found-below }) .1 leads)

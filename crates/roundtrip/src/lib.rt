@@ -8,6 +8,7 @@ ghost use Rattle.decoder.specs.Answer.{decodedAs};
 ghost use Rattle.roundtrip.specs.Damage.{Damaging, damaged};
 ghost use Rattle.roundtrip.specs.RoundTrip.{Writable, readBack};
 use decoder::Decoded;
+use params::Figures;
 use params::Params;
 use placements::Placement;
 use placements::bursts::in_burst;
@@ -26,9 +27,9 @@ pub fn round_trip(
     ensures word { λ _. ⌜ now (word .exit) ≡ damaged (inBurst (figures .b) (startsIn at)) (now (damage .entry)) (wordOf (given figures) (startsIn at) (now (message .entry))) ⌝ }
     ensures read { λ r. ⌜ decodedAs r (now (read .exit)) ≡ readBack (given figures) (startsIn at) (now (message .entry)) ⌝ }
 {
-    encoder::encode(figures, at, message, word);
+    encoder::encode(Figures::Ranked(figures), at, message, word);
     spoil(at, figures.b, damage, word);
-    decoder::decode(figures, word, read)
+    decoder::decode(Figures::Ranked(figures), word, read)
 }
 
 // The symbols of `damage` stand in the word wherever a burst has its position.

@@ -5,7 +5,7 @@ use Prim.Native.Nat.{ℕ}
 use Rattle.cells.specs.Codec.{accepted, Word}
 use Rattle.construction_a.specs.DemandTwo.{constructionA}
 use Rattle.construction_a.specs.Figures.{Params}
-use Rattle.construction_a.specs.Outcomes.{Decoded, decodeAs, decodeOut}
+use Rattle.construction_a.specs.Outcomes.{coding, Decoded, decodeAs, decodeOut}
 use Rattle.construction_a.specs.Reading.{read}
 use Rattle.construction_a.specs.Writing.{kindAt}
 use Rattle.construction_a.proofs.DemandTwo.{demand-two}
@@ -15,16 +15,17 @@ use Rattle.slips.specs.Slips.{Stays}
 use Rattle.slips.proofs.Slips.{found, spelled, planned-a, slips-stay-a}
 
 pub reads-slipped : (f : Params) (w w′ out out′ : List ℕ) → ReadsSlipped f w w′ out out′ (decodeOut f w out) (decodeOut f w′ out′)
+unfolding decodeOut
 reads-slipped f w w′ out out′ starts ms d h =
     let two = demand-two f (h .range) (h .fit) in
     let planned = planned-a f (h .range) (h .fit) in
     let word′ : Word (constructionA f) w′ = found (constructionA f) (kindAt f) (spelled f) planned (two .exactly) starts ms w w′ d (h .found) (h .spoilt) (h .slips) in
     let same = slips-stay-a f (h .range) (h .fit) starts ms w w′ d (h .found) (h .spoilt) (h .slips) in
     let second : decodeOut f w′ out′ ≡ decodeAs f out′ (accepted starts (same .0)) =
-    decode-read f w′ out′ (h .range) (h .fit) (word′ .complete) (h .room′) (word′ .symbols) ∙ ap (decodeAs f out′) (same .1 .same-placement) in
+    decode-read (coding f) w′ out′ (h .range) (h .fit) (word′ .complete) (h .room′) (word′ .symbols) ∙ ap (decodeAs f out′) (same .1 .same-placement) in
     let message : decodeOut f w′ out′ .message ≡ same .0 = ap (λ (o : Decoded). o .message) second in
     record {
-      read = decode-read f w out (h .range) (h .fit) (h .found .complete) (h .room) (h .found .symbols) ∙ ap (decodeAs f out) (two .exactly w starts ms (h .found) .1 (h .spoilt));
+      read = decode-read (coding f) w out (h .range) (h .fit) (h .found .complete) (h .room) (h .found .symbols) ∙ ap (decodeAs f out) (two .exactly w starts ms (h .found) .1 (h .spoilt));
       altered = second ∙ ap (λ (x : List ℕ). decodeAs f out′ (accepted starts x)) (sym message);
       stays = subst (λ (x : List ℕ). Stays (constructionA f) (kindAt f starts) starts ms w w′ d x) (sym message) (same .1);
     }

@@ -6,6 +6,7 @@ ghost use Rattle.params.specs.Bridge.{given};
 ghost use Rattle.decoder.specs.Answer.{decodedAs};
 ghost use Rattle.slips.specs.Reading.{ReadsSlipped};
 use decoder::Decoded;
+use params::Figures;
 use params::Params;
 
 // What two found words are answered with.
@@ -27,7 +28,7 @@ pub fn decode_both(
     ensures second { λ r. ⌜ decodedAs (r .second) (now (changed .exit)) ≡ decodeOut (given figures) (now (altered .entry)) (now (changed .entry)) ⌝ }
     ensures claim { λ r. ⌜ ReadsSlipped (given figures) (now (strip .entry)) (now (altered .entry)) (now (message .entry)) (now (changed .entry)) (decodedAs (r .first) (now (message .exit))) (decodedAs (r .second) (now (changed .exit))) ⌝ }
 {
-    let first = decoder::decode(figures, strip, message);
-    let second = decoder::decode(figures, altered, changed);
+    let first = decoder::decode(Figures::Ranked(figures), strip, message);
+    let second = decoder::decode(Figures::Ranked(figures), altered, changed);
     BothDecoded { first, second }
 }

@@ -1,6 +1,7 @@
 // Runs the bench strips that no proof computes, and writes what the proved functions answer, a line for each. Assumes nothing.
 use decoder::WordAnswer;
 use jobs::JobTable;
+use params::Figures;
 use params::LayoutAnswer;
 use params::Params;
 use placements::CoverAnswer;
@@ -88,7 +89,7 @@ fn first_written() {
         starts: [12, 0, 0, 0, 0, 0, 0, 0],
         count: 1,
     };
-    let answer = encoder::encode(first_strip(), at, &message, &mut word);
+    let answer = encoder::encode(Figures::Ranked(first_strip()), at, &message, &mut word);
     written_row(b"start 12, message 1: ", answer, &word);
 }
 
@@ -105,7 +106,7 @@ fn second_written() {
         m: 2,
         b: 4,
     };
-    let answer = encoder::encode(figures, at, &message, &mut word);
+    let answer = encoder::encode(Figures::Ranked(figures), at, &message, &mut word);
     written_row(b"starts 8 12, message 2: ", answer, &word);
 }
 
@@ -122,7 +123,7 @@ fn third_written() {
         m: 3,
         b: 3,
     };
-    let answer = encoder::encode(figures, at, &message, &mut word);
+    let answer = encoder::encode(Figures::Ranked(figures), at, &message, &mut word);
     written_row(b"starts 22 30 65, message 2: ", answer, &word);
 }
 
@@ -161,7 +162,7 @@ fn first_word(index: [u8; 6]) -> [u8; 30] {
 fn read_row(what: &[u8], word: &[u8]) {
     let mut message = [0u8; 20];
     io::write_all(libc::STDOUT_FILENO, what);
-    let found = decoder::decode(first_strip(), word, &mut message);
+    let found = decoder::decode(Figures::Ranked(first_strip()), word, &mut message);
     let answer = found.answer;
     match answer {
         WordAnswer::Refused(number) => put(b": refused ", number as u64),

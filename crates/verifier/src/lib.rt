@@ -5,6 +5,7 @@ ghost use Rattle.placements.specs.Bridge.{heldAs};
 ghost use Rattle.verifier.specs.Answer.{verdictAs};
 ghost use Rattle.verifier.specs.Given.{LaidFor, Expecting};
 ghost use Rattle.verifier.specs.Verify.{verifyOut};
+use params::Figures;
 use params::Layout;
 use params::LayoutAnswer;
 use params::Params;
@@ -61,7 +62,7 @@ fn verify_against(
     requires { ⌜ Expecting (given figures) layout (now word) (now expected) ⌝ }
     ensures { λ r. ⌜ verdictAs r ≡ verifyOut (given figures) (heldAs at) (now (message .entry)) (now (word .entry)) ⌝ }
 {
-    let refusal = encoder::encode(figures, at, message, expected);
+    let refusal = encoder::encode(Figures::Ranked(figures), at, message, expected);
     if refusal != Refusal::NONE {
         return VerifyAnswer::Refused(refusal);
     }

@@ -1,25 +1,24 @@
 -- `decode` meets its contract: 1, 2, or what figures that fit give. Assumes nothing.
 use mathlib.Core.Path.{_≡_, sym, ap, _∙_}
 use borrow.Author.Needs.{needs}
-use Rattle.construction_a.specs.Figures.{Params}
-use Rattle.construction_a.specs.Outcomes.{decodeOut}
-use Rattle.params.specs.Bridge.{given}
-use Rattle.params.specs.Given.{figuresOf, Fitting}
-use Rattle.params.proofs.Answered.{refused-learnt}
-use Rattle.params.proofs.Fitting.{layout-fits}
+use Rattle.cells.specs.Outcomes.{Coding, decodeUnder}
+use Rattle.params.specs.Answer.{figuredAs}
+use Rattle.params.specs.Bridge.{codingOf}
+use Rattle.params.specs.Given.{codingIn, Serves}
+use Rattle.params.proofs.Either.{serves}
 use Rattle.decoder.proofs.Calls.{decode-unfit}
 use Rattle.decoder.proofs.DemandTwo.{by-outcome}
 use Rattle.decoder.proofs.decode.Statement.{statement}
 use Rattle.decoder.proofs.decode.Tie as tie
 
 -- the layout that was answered
-learnt : (c : tie.After-answer2) → (figuresOf (c .answer2 .given .0 .0) ≡ given (c .before .before .before .before .before .args .figures)) × Fitting (c .answer2 .given .0 .0)
+learnt : (c : tie.After-answer2) → (codingIn (c .answer2 .given .0 .0) ≡ codingOf (c .before .before .before .before .before .args .figures)) × Serves (c .answer2 .given .0 .0)
 learnt c =
-    let r = c .before .before .figures in
-    layout-fits (given (c .before .before .before .before .before .args .figures)) (r .result) (c .answer2 .given .0 .0) (c .answer2 .given .1) (r .ensures .0) (r .ensures .1)
+    let r = c .before .before .layout in
+    serves (c .before .before .before .before .before .args .figures) (r .result) (c .answer2 .given .0 .0) (c .answer2 .given .1) (r .ensures .0) (r .ensures .1)
 
-figures-requires : tie.Need-figures-requires
-figures-requires c κs = search needs
+layout-requires : tie.Need-layout-requires
+layout-requires c κs = search needs
 
 enum-known-answer : tie.Need-enum-known-answer
 enum-known-answer c = search needs
@@ -38,8 +37,9 @@ returns c =
     let s = c .before .before .before .before .before .before .before in
     let number = c .before .before .answer .given in
     let out = s .args .message .now in
-    by-outcome (given (s .args .figures)) (s .args .word .now) out (c .unread .result) out
-    (c .unread .ensures out ∙ sym (decode-unfit (given (s .args .figures)) (s .args .word .now) out (number .0 .0) (refused-learnt (given (s .args .figures)) (c .before .before .before .before .figures .result) (number .0 .0) (number .1) (c .before .before .before .before .figures .ensures .0))))
+    let d = codingOf (s .args .figures) in
+    by-outcome (s .args .figures) (s .args .word .now) out (c .unread .result) out
+    (c .unread .ensures out ∙ sym (decode-unfit d (s .args .word .now) out (number .0 .0) (sym (c .before .before .before .before .layout .ensures .0) ∙ ap figuredAs (number .1))))
 
 same-length : tie.Need-same-length
 same-length c = search needs
@@ -47,17 +47,17 @@ same-length c = search needs
 returns-2 : tie.Need-returns-2
 returns-2 c =
     let s = c .before .before .before .before .before .before .before .before .before .before in
-    let f = given (s .args .figures) in
     let w = s .args .word .now in
     let out = s .args .message .now in
     let call = c .before .before .decode-fitting in
-    by-outcome f w out (call .result) (call .last .1 .1 .0) (call .ensures ∙ ap (λ (g : Params). decodeOut g w out) (learnt (c .before .before .before .before .before) .0))
+    by-outcome (s .args .figures) w out (call .result) (call .last .1 .1 .0)
+    (call .ensures ∙ ap (λ (d : Coding). decodeUnder d w out) (learnt (c .before .before .before .before .before) .0))
 
 pub decode-spec : {M : Type 1} → statement M
 decode-spec =
     tie.close
     (tie.spec
-    figures-requires
+    layout-requires
     enum-known-answer
     unread-requires
     enum-known-answer-2

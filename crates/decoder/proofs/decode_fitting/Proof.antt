@@ -1,16 +1,21 @@
 -- `decode_fitting` meets its contract: 3, 4, or what a word that can be found gives. Assumes nothing.
-use mathlib.Core.Path.{sym, _∙_}
+use mathlib.Core.Path.{sym, ap, _∙_}
 use borrow.Author.Needs.{needs}
 use borrow.Author.Tests.{not-true, not-false}
-use Rattle.construction_a.specs.Figures.{Params}
-use Rattle.params.specs.Given.{figuresOf}
-use Rattle.params.proofs.Fitting.{shaped}
-use Rattle.decoder.proofs.Calls.{decode-short, decode-room, decode-symbol, decode-read}
+use Prim.Native.Nat.{ℕ}
+use Rattle.cells.specs.Outcomes.{Coding, decodedFrom}
+use Rattle.params.specs.Given.{codingIn}
+use Rattle.params.specs.declared.Layout.{Layout}
+use Rattle.params.proofs.Either.{in-shape, in-order, numbers-in}
+use Rattle.decoder.proofs.Calls.{decode-short, decode-room, decode-symbol, decode-read, found-in}
 use Rattle.decoder.proofs.decode_fitting.Statement.{statement}
 use Rattle.decoder.proofs.decode_fitting.Tie as tie
 
-abbrev f : tie.Start → Params
-f s = figuresOf (s .args .layout)
+abbrev l : tie.Start → Layout
+l s = s .args .layout
+
+abbrev d : tie.Start → Coding
+d s = codingIn (s .args .layout)
 
 unread-requires : tie.Need-unread-requires
 unread-requires c κs = search needs
@@ -18,7 +23,7 @@ unread-requires c κs = search needs
 returns : tie.Need-returns
 returns c =
     let s = c .before .before .before .before .before in
-    c .unread .ensures (s .args .message .now) ∙ sym (decode-short (f s) (s .args .word .now) (s .args .message .now) (s .pre .range) (s .pre .fit) (c .before .if1 .taken))
+    c .unread .ensures (s .args .message .now) ∙ sym (decode-short (d s) (s .args .word .now) (s .args .message .now) (in-order (l s) (s .pre) .0) (in-order (l s) (s .pre) .1) (λ e. c .before .if1 .taken (e ∙ sym (numbers-in (l s) (s .pre) .word-is))))
 
 unread-requires-2 : tie.Need-unread-requires-2
 unread-requires-2 c κs = search needs
@@ -27,7 +32,7 @@ returns-2 : tie.Need-returns-2
 returns-2 c =
     let s = c .before .before .before .before .before .before .before in
     c .unread2 .ensures (s .args .message .now)
-    ∙ sym (decode-room (f s) (s .args .word .now) (s .args .message .now) (s .pre .range) (s .pre .fit) (c .before .before .before .if1 .left) (λ e. c .before .if2 .taken (e ∙ sym (s .pre .laid .len-is))))
+    ∙ sym (decode-room (d s) (s .args .word .now) (s .args .message .now) (in-order (l s) (s .pre) .0) (in-order (l s) (s .pre) .1) (c .before .before .before .if1 .left ∙ numbers-in (l s) (s .pre) .word-is) (λ e. c .before .if2 .taken (e ∙ sym (numbers-in (l s) (s .pre) .len-is))))
 
 all-below-requires : tie.Need-all-below-requires
 all-below-requires c κs = search needs
@@ -42,17 +47,17 @@ returns-3 : tie.Need-returns-3
 returns-3 c =
     let s = c .before .before .before .before .before .before .before .before .before .before in
     c .unread3 .ensures (s .args .message .now)
-    ∙ sym (decode-symbol (f s) (s .args .word .now) (s .args .message .now) (s .pre .range) (s .pre .fit) (c .before .before .before .before .before .before .if1 .left) (c .before .before .before .before .if2 .left ∙ s .pre .laid .len-is) (sym (c .before .before .can-be-found .ensures) ∙ not-true _ (c .before .if3 .taken)))
+    ∙ sym (decode-symbol (d s) (s .args .word .now) (s .args .message .now) (in-order (l s) (s .pre) .0) (in-order (l s) (s .pre) .1) (c .before .before .before .before .before .before .if1 .left ∙ numbers-in (l s) (s .pre) .word-is) (c .before .before .before .before .if2 .left ∙ numbers-in (l s) (s .pre) .len-is) (found-in (l s) (s .args .word .now) ∙ sym (c .before .before .can-be-found .ensures) ∙ not-true _ (c .before .if3 .taken)))
 
 heads-of-requires : tie.Need-heads-of-requires
-heads-of-requires c κs = let s = c .before .before .before .before .before .before .before .before .before in shaped (s .args .layout) (s .pre)
+heads-of-requires c κs = let s = c .before .before .before .before .before .before .before .before .before in in-shape (l s) (s .pre)
 
 decode-found-requires : tie.Need-decode-found-requires
 decode-found-requires c κs =
     let s = c .before .before .before .before .before .before .before .before .before .before .before .before in (
       record {
         fitting = s .pre;
-        finding = record { layout = shaped (s .args .layout) (s .pre); complete = c .before .before .before .before .before .before .before .before .if1 .left };
+        finding = record { layout = in-shape (l s) (s .pre); complete = c .before .before .before .before .before .before .before .before .if1 .left };
         found = sym (c .before .before .before .before .can-be-found .ensures) ∙ not-false _ (c .before .before .before .if3 .left);
         scanned = c .before .before .before .before .before .all-below .ensures;
         room = c .before .before .before .before .before .before .if2 .left;
@@ -67,7 +72,8 @@ returns-4 : tie.Need-returns-4
 returns-4 c =
     let s = c .before .before .before .before .before .before .before .before .before .before .before .before .before .before .before in
     c .before .before .decode-found .ensures
-    ∙ sym (decode-read (f s) (s .args .word .now) (s .args .message .now) (s .pre .range) (s .pre .fit) (c .before .before .before .before .before .before .before .before .before .before .before .if1 .left) (c .before .before .before .before .before .before .before .before .before .if2 .left ∙ s .pre .laid .len-is) (sym (c .before .before .before .before .before .before .before .can-be-found .ensures) ∙ not-false _ (c .before .before .before .before .before .before .if3 .left)))
+    ∙ ap (λ (b : ℕ). decodedFrom b (s .args .message .now) (d s .codec .decode (s .args .word .now))) (numbers-in (l s) (s .pre) .burst-is)
+    ∙ sym (decode-read (d s) (s .args .word .now) (s .args .message .now) (in-order (l s) (s .pre) .0) (in-order (l s) (s .pre) .1) (c .before .before .before .before .before .before .before .before .before .before .before .if1 .left ∙ numbers-in (l s) (s .pre) .word-is) (c .before .before .before .before .before .before .before .before .before .if2 .left ∙ numbers-in (l s) (s .pre) .len-is) (found-in (l s) (s .args .word .now) ∙ sym (c .before .before .before .before .before .before .before .can-be-found .ensures) ∙ not-false _ (c .before .before .before .before .before .before .if3 .left)))
 
 pub decode-fitting-spec : {M : Type 1} → statement M
 decode-fitting-spec =

@@ -6,7 +6,7 @@ use native.Mathlib.Omega.{arith}
 use borrow.Author.Needs.{needs}
 use lib.ListN.{length}
 use Rattle.combinatorics.specs.Bursts.{inBurst}
-use Rattle.construction_a.specs.Outcomes.{decodeOut}
+use Rattle.construction_a.specs.Outcomes.{encodeOut, decodeOut}
 use Rattle.params.specs.Bridge.{given}
 use Rattle.placements.specs.Bridge.{heldAs, startsIn}
 use Rattle.construction_a.proofs.Figures.{serve}
@@ -19,6 +19,7 @@ encode-requires : tie.Need-encode-requires
 encode-requires c κs = search needs
 
 spoil-requires : tie.Need-spoil-requires
+unfolding encodeOut
 spoil-requires c κs =
     let s = c .before .before .before .before .before .before .before .before .before in
     let h = s .pre in
@@ -39,6 +40,7 @@ same-length-2 : tie.Need-same-length-2
 same-length-2 c = search needs
 
 returns : tie.Need-returns
+unfolding encodeOut decodeOut
 returns c =
     let s = c .before .before .before .before .before .before .before .before .before .before .before .before .before .before .before .before .before in
     let h = s .pre in

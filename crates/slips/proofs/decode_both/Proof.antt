@@ -1,5 +1,6 @@
 -- `decode_both` meets its contract: both words are read by `decode`, and the claim is that of its outcomes. Assumes nothing.
 use borrow.Author.Needs.{needs}
+use Rattle.construction_a.specs.Outcomes.{decodeOut}
 use Rattle.params.specs.Bridge.{given}
 use Rattle.slips.proofs.Reading.{reads-as}
 use Rattle.slips.proofs.decode_both.Statement.{statement}
@@ -18,6 +19,7 @@ same-length-2 : tie.Need-same-length-2
 same-length-2 c = search needs
 
 returns : tie.Need-returns
+unfolding decodeOut
 returns c =
     let a = c .before .before .before .before .before .before .before .before .before .before .before .before .args in
     let first = c .before .before .before .before .before .before .decode .ensures .0 in

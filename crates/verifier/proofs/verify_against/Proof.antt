@@ -26,6 +26,7 @@ f s = given (s .args .figures)
 
 -- writing was refused nothing
 wrote : (c : tie.Else1) → Wrote (f (c .before .before .before .before .before .before .before .before)) (heldAs (c .before .before .before .before .before .before .before .before .args .at)) (c .before .before .before .before .before .before .before .before .args .message .now) (c .before .before .before .before .before .before .before .before .args .word .now) (c .before .before .before .before .before .before .before .before .args .expected .now)
+unfolding encodeOut
 wrote c =
     let s = c .before .before .before .before .before .before .before .before in
     verify-passed (f s) (heldAs (s .args .at)) (s .args .message .now) (s .args .word .now) (s .args .expected .now) (s .pre .room ∙ sym (s .pre .complete))
@@ -38,6 +39,7 @@ same-length : tie.Need-same-length
 same-length c = search needs
 
 returns : tie.Need-returns
+unfolding encodeOut
 returns c =
     let s = c .before .before .before .before .before .before .before .before in
     let e = c .before .before .before .encode .ensures .0 in
@@ -69,6 +71,7 @@ returns-2 c =
     (sym (symbols-are (c .before)) ∙ not-true _ (c .if2 .taken)))
 
 cover-differences-requires : tie.Need-cover-differences-requires
+unfolding encodeOut
 cover-differences-requires c κs =
     let s = c .before .before .before .before .before .before .before .before .before .before .before .before in
     (wrote (c .before .before .before .before) .few, ap length (c .before .before .before .before .before .before .before .encode .ensures .1 ∙ wrote (c .before .before .before .before) .word-is) ∙ word-length (f s) (startsIn (s .args .at)) (s .args .message .now) ∙ ap (λ (g : Params). g .n) (sym (s .pre .laid .same)) ∙ sym (s .pre .complete))
@@ -79,6 +82,7 @@ same-length-3 c = search needs
 -- the verdict is that of the differences
 judged : (c : tie.After-cover-differences) (b : Bool) → c .cover-differences .result ≡ b
     → verifyOut (f (c .before .before .before .before .before .before .before .before .before .before .before .before .before)) (heldAs (c .before .before .before .before .before .before .before .before .before .before .before .before .before .args .at)) (c .before .before .before .before .before .before .before .before .before .before .before .before .before .args .message .now) (c .before .before .before .before .before .before .before .before .before .before .before .before .before .args .word .now) ≡ cond b agreeing differing
+unfolding encodeOut
 judged c b e =
     let s = c .before .before .before .before .before .before .before .before .before .before .before .before .before in
     let w = s .args .word .now in
