@@ -12,15 +12,13 @@ use Rattle.refusals.specs.Refusals.{must, served, wrongLength}
 use Rattle.combinatorics.proofs.Cases.{eqb-same, eqb-other}
 use Rattle.combinatorics.proofs.Lists.{fill-turn, fill-done}
 use Rattle.cells.specs.Bytes.{byteValues}
-use Rattle.cells.specs.Outcomes.{decodeUnder}
-use Rattle.construction_a.specs.Figures.{Params, inRange, fits}
-use Rattle.construction_a.specs.Outcomes.{unserved, coding, figuresOut, decodeOut}
-use Rattle.construction_a.proofs.Outcomes.{refused-alike}
+use Rattle.cells.specs.Outcomes.{Coding, unserved, figuresUnder, decodeUnder}
+use Rattle.cells.proofs.Outcomes.{refused-alike}
 use Rattle.placements.specs.Bridge.{startsIn}
 use Rattle.decoder.specs.declared.Decoded.{Decoded}
 use Rattle.decoder.specs.declared.WordAnswer.the-variants.{Accepted, Refused}
 use Rattle.decoder.specs.Answer.{decodedAs}
-use Rattle.decoder.specs.Exported.{lentAs, startBytes, exportedAs, exportedOut}
+use Rattle.decoder.specs.Exported.{lentAs, startBytes, exportedAs, exportedUnder}
 
 -- ---- Starts as bytes
 
@@ -62,25 +60,22 @@ module _ (ss out : List ℕ) (j : ℕ) (size : length out ≡ 2 * length ss) (so
 
 -- ---- "word read 1 2 3 4 7 8 9"
 
-module _ (f : Params) (w out bytes : List ℕ) where
+module _ (d : Coding) (w out bytes : List ℕ) where
   -- 1 and 2, with the number that the figures have alone
-  pub exported-unfit : (a : ℕ) → figuresOut f ≡ unserved a → exportedOut f w out bytes ≡ lentAs a out bytes
-  unfolding exportedOut
+  pub exported-unfit : (a : ℕ) → figuresUnder d ≡ unserved a → exportedUnder d w out bytes ≡ lentAs a out bytes
   exported-unfit a e =
-      refused-alike f a (λ x. lentAs x out bytes)
-      (must (eqb (length bytes) (2 * f .m)) (lentAs wrongLength out bytes)
-      (exportedAs bytes (decodeOut f w out))) e
+      refused-alike d a (λ x. lentAs x out bytes)
+      (must (eqb (length bytes) (2 * d .bursts)) (lentAs wrongLength out bytes)
+      (exportedAs bytes (decodeUnder d w out))) e
 
-  module _ (range : inRange f ≡ true) (fit : fits f ≡ true) where
+  module _ (range : d .inRange ≡ true) (fit : d .fits ≡ true) where
     -- 3, for the starts
-    pub exported-length : length bytes ≢ 2 * f .m → exportedOut f w out bytes ≡ lentAs wrongLength out bytes
-    unfolding exportedOut
-    exported-length size = rw (range, fit, eqb-other (length bytes) (2 * f .m) size)
+    pub exported-length : length bytes ≢ 2 * d .bursts → exportedUnder d w out bytes ≡ lentAs wrongLength out bytes
+    exported-length size = rw (range, fit, eqb-other (length bytes) (2 * d .bursts) size)
 
     -- and what the word reader answers
-    pub exported-read : length bytes ≡ 2 * f .m → exportedOut f w out bytes ≡ exportedAs bytes (decodeUnder (coding f) w out)
-    unfolding exportedOut decodeOut
-    exported-read size = rw (range, fit, eqb-same (length bytes) (2 * f .m) size)
+    pub exported-read : length bytes ≡ 2 * d .bursts → exportedUnder d w out bytes ≡ exportedAs bytes (decodeUnder d w out)
+    exported-read size = rw (range, fit, eqb-same (length bytes) (2 * d .bursts) size)
 
 -- the word reader's answer in code, taken apart
 module _ (bytes out : List ℕ) (d : Decoded) where

@@ -1,5 +1,5 @@
 -- That the reader answers as the definitions do, refusal by refusal. Assumes nothing.
-use mathlib.Core.Path.{_≡_, refl, sym, ap, subst, _∙_}
+use mathlib.Core.Path.{_≡_, refl, sym, ap, _∙_}
 use mathlib.Core.Logic.{_≢_}
 use mathlib.Core.Bool.{true, false, not, _&&_}
 use mathlib.Core.List.{List}
@@ -12,11 +12,12 @@ use Rattle.refusals.specs.Refusals.{must, wrongLength, badSymbol, valueTooLarge
 use Rattle.combinatorics.specs.Lists.{allBelow}
 use Rattle.combinatorics.proofs.Cases.{by-eq, by-bool, leb-holds, leb-fails, eqb-same, eqb-other}
 use Rattle.cells.specs.Cells.{Cell, message, pick}
-use Rattle.cells.specs.Codec.{Reading, accepted, refused}
+use Rattle.cells.specs.Codec.{Reading, accepted, refused, ReadsExactly}
 use Rattle.cells.specs.Erasures.{foundBound, hasErasure}
 use Rattle.cells.specs.Outcomes.{Coding, Held, held, unserved, figuresUnder, rankIs, refusal, Decoded, unread, decodedFrom, decodeUnder}
 use Rattle.cells.proofs.Outcomes.{refused-alike}
 use Rattle.construction_a.specs.DemandTwo.{IndexRead}
+use Rattle.construction_a.specs.DemandTwo as A
 use Rattle.construction_a.specs.Figures.{Params, inRange, fits, isPlacement, placementCount, messageLen}
 use Rattle.construction_a.specs.Outcomes.{coding}
 use Rattle.construction_a.specs.Reading.{written, agrees, readRank, read}
@@ -24,10 +25,13 @@ use Rattle.construction_a.specs.Writing.{placementOf}
 use Rattle.construction_a.proofs.DemandTwo.{demand-two}
 use Rattle.construction_a.proofs.Figures.{placed-starts}
 use Rattle.construction_a.proofs.Ranking.{rank-bijection}
+use Rattle.construction_b.specs.DemandTwo as B
+use Rattle.construction_b.proofs.DemandTwo as B′
+use Rattle.construction_b.proofs.Figures.{placed-start}
 use Rattle.params.specs.declared.Layout.{Layout}
 use Rattle.params.specs.declared.Spells.{Spells}
 use Rattle.params.specs.declared.Spells.the-variants.{Rank, EndOffset}
-use Rattle.params.specs.Given.{figuresOf, codingWith, codingIn, Fitting, FittingWith, Serves}
+use Rattle.params.specs.Given.{figuresOf, longOf, codingWith, codingIn, Fitting, FittingWith, Serves}
 use Rattle.params.proofs.Fitting.{served, shaped, plan-is}
 use Rattle.placements.specs.declared.Placement.{Placement}
 use Rattle.placements.specs.Bridge.{heldAs, Placing}
@@ -83,10 +87,7 @@ module _ (f : Params) (w ks : List ℕ) where
   disagreeing v below e = rw (leb-holds (suc v) (placementCount f) below, e)
 
 module _ (l : Layout) (g : Fitting l) where
-  pub ranked-serves : Serves l
-  ranked-serves = subst (λ (s : Spells). FittingWith s l) (sym (g .laid .spells-is)) g
-
-  pub ranked-coding : codingIn l ≡ coding (figuresOf l)
+  ranked-coding : codingIn l ≡ coding (figuresOf l)
   ranked-coding = ap (λ (s : Spells). codingWith s (figuresOf l)) (g .laid .spells-is)
 
   module _ (w ks : List ℕ) (v : ℕ) (below : v < placementCount (figuresOf l)) where
@@ -126,24 +127,40 @@ refused-not : {P : Type 0} (out : List ℕ) (d : Decoded) (a v : ℕ) → d ≡ 
 refused-not out d a v e r =
     absurd (let x : refusal a ≡ rankIs v = sym (ap (λ (d : Decoded). d .answer) e) ∙ r in let z : _≡_ {A = ℕ} 0 1 = cc in omega arith)
 
-pub accepted-count : (f : Params) (w out : List ℕ) (v : ℕ) → inRange f ≡ true → fits f ≡ true → decodeUnder (coding f) w out .answer ≡ rankIs v
-    → decodeUnder (coding f) w out .placement .count ≡ f .m
-accepted-count f w out v range fit r =
-    by-eq (length w) (f .n) (λ _. d .placement .count ≡ f .m)
-    (λ whole. by-eq (length out) (messageLen f) (λ _. d .placement .count ≡ f .m)
-    (λ room. by-bool (allBelow (foundBound (f .q)) w) (λ low. at whole low (decode-read (coding f) w out range fit whole room low))
-    (λ high. refused-not out d badSymbol v (decode-symbol (coding f) w out range fit whole room high) r))
-    (λ other. refused-not out d wrongLength v (decode-room (coding f) w out range fit whole other) r))
-    (λ other. refused-not out d wrongLength v (decode-short (coding f) w out range fit other) r)
-  where
-    d : Decoded
-    d = decodeUnder (coding f) w out
+module _ (d : Coding) (Listed : List ℕ → ℕ → Type 0) (reads : ReadsExactly (d .codec) Listed) (counts : (ss : List ℕ) → d .codec .placed ss ≡ true → length ss ≡ d .bursts)
+    (range : d .inRange ≡ true) (fit : d .fits ≡ true) (w out : List ℕ) (v : ℕ) (r : decodeUnder d w out .answer ≡ rankIs v) where
+  counts-under : decodeUnder d w out .placement .count ≡ d .bursts
+  counts-under =
+      by-eq (length w) (d .codec .wordLen) (λ _. o .placement .count ≡ d .bursts)
+      (λ whole. by-eq (length out) (d .codec .messageLen) (λ _. o .placement .count ≡ d .bursts)
+      (λ room. by-bool (allBelow (d .codec .foundBound) w) (λ low. at whole low (decode-read d w out range fit whole room low))
+      (λ high. refused-not out o badSymbol v (decode-symbol d w out range fit whole room high) r))
+      (λ other. refused-not out o wrongLength v (decode-room d w out range fit whole other) r))
+      (λ other. refused-not out o wrongLength v (decode-short d w out range fit other) r)
+    where
+      o : Decoded
+      o = decodeUnder d w out
 
-    at : length w ≡ f .n → allBelow (foundBound (f .q)) w ≡ true → d ≡ decodedFrom (f .b) out (read f w) → d .placement .count ≡ f .m
-    at whole low e = go (read f w) refl
-      where
-        go : (x : Reading) → read f w ≡ x → d .placement .count ≡ f .m
-        go (accepted ss ms) g =
-            let l = demand-two f range fit .exactly w ss ms (record { complete = whole; symbols = low }) .0 g in
-            ap (λ (o : Decoded). o .placement .count) (e ∙ ap (decodedFrom (f .b) out) g) ∙ placed-starts f ss (l .placement) .1
-        go (refused a) g = refused-not out d a v (e ∙ ap (decodedFrom (f .b) out) g) r
+      at : length w ≡ d .codec .wordLen → allBelow (d .codec .foundBound) w ≡ true → o ≡ decodedFrom (d .burstLen) out (d .codec .decode w)
+          → o .placement .count ≡ d .bursts
+      at whole low e = go (d .codec .decode w) refl
+        where
+          go : (x : Reading) → d .codec .decode w ≡ x → o .placement .count ≡ d .bursts
+          go (accepted ss ms) g =
+              let l = reads .exactly w ss ms (record { complete = whole; symbols = low }) .0 g in
+              ap (λ (o : Decoded). o .placement .count) (e ∙ ap (decodedFrom (d .burstLen) out) g) ∙ counts ss (l .placement)
+          go (refused a) g = refused-not out o a v (e ∙ ap (decodedFrom (d .burstLen) out) g) r
+
+pub accepted-count : (l : Layout) → Serves l → (w out : List ℕ) (v : ℕ) → decodeUnder (codingIn l) w out .answer ≡ rankIs v
+    → decodeUnder (codingIn l) w out .placement .count ≡ l .m
+accepted-count l g w out v = go (l .spells) g
+  where
+    go : (s : Spells) → FittingWith s l → decodeUnder (codingWith s (figuresOf l)) w out .answer ≡ rankIs v
+        → decodeUnder (codingWith s (figuresOf l)) w out .placement .count ≡ l .m
+    go Rank h r =
+        let f = figuresOf l in
+        counts-under (coding f) (A.Listed f) (demand-two f (h .range) (h .fit)) (λ ss e. placed-starts f ss e .1) (h .range) (h .fit) w out v r
+    go EndOffset h r =
+        let f = longOf (figuresOf l) in
+        counts-under (codingWith EndOffset (figuresOf l)) (B.Listed f) (B′.demand-two f (h .range) (h .fit)) (λ ss e. ap length (placed-start f ss e .0)) (h .range) (h .fit) w out v r
+        ∙ sym (h .laid .m-is)

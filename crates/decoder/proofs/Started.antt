@@ -1,5 +1,5 @@
 -- Laws of reading a word of Construction B by its layout: the part that has the burst's end, 8 and 9, and the burst's start. Assumes nothing.
-use mathlib.Core.Path.{_≡_, sym, ap, subst, _∙_}
+use mathlib.Core.Path.{_≡_, sym, ap, _∙_}
 use mathlib.Core.Bool.{true, not}
 use mathlib.Core.List.{List, [], _∷_}
 use Prim.Native.Nat.{ℕ, zero, suc, _+_, _-_, _*_, _≤_, _<_, min}
@@ -24,7 +24,7 @@ use Rattle.construction_b.specs.Reading.{before, written, endAt, readPart, read
 use Rattle.construction_b.proofs.Base.{head-same, length-below}
 use Rattle.construction_b.proofs.Figures.{part-rises, part-end, start-placed, count-is, counted}
 use Rattle.construction_b.proofs.Ranking.{burst-fits, start-ranked}
-use Rattle.params.specs.Given.{figuresOf, longOf, codingWith, codingIn, LongFitting, FittingWith, Serves}
+use Rattle.params.specs.Given.{figuresOf, longOf, codingWith, codingIn, LongFitting}
 use Rattle.params.specs.declared.Layout.{Layout}
 use Rattle.params.specs.declared.Spells.{Spells}
 use Rattle.params.proofs.LongFitting.{served-long, base-is, long-plan-is, long-shaped}
@@ -42,10 +42,7 @@ before-lt (suc (suc zero)) l = omega arith
 before-lt (suc (suc (suc i))) l = absurd (omega arith)
 
 module _ (l : Layout) (g : LongFitting l) where
-  pub long-serves : Serves l
-  long-serves = subst (λ (s : Spells). FittingWith s l) (sym (g .laid .spells-is)) g
-
-  pub long-coding : codingIn l ≡ coding (longOf (figuresOf l))
+  long-coding : codingIn l ≡ coding (longOf (figuresOf l))
   long-coding = ap (λ (s : Spells). codingWith s (figuresOf l)) (g .laid .spells-is)
 
   -- a part is a block

@@ -5,8 +5,9 @@ use lib.Dec.{eqb}
 use lib.ListN.{length}
 use Rattle.refusals.specs.Refusals.{must, invalid, unfit, wrongLength}
 use Rattle.cells.specs.Bytes.{byteValues}
-use Rattle.construction_a.specs.Figures.{Params, inRange, fits}
-use Rattle.construction_a.specs.Outcomes.{Held, inUse, FiguresOut, figured, unserved, figuresOut, WordAnswer, rankIs, refusal, answerNumber, Decoded, decodeOut}
+use Rattle.cells.specs.Outcomes.{Coding, Held, inUse, FiguresOut, figured, unserved, WordAnswer, rankIs, refusal, answerNumber, Decoded, decodeUnder}
+use Rattle.construction_a.specs.Figures.{Params}
+use Rattle.construction_a.specs.Outcomes.{coding, figuresOut}
 
 -- "two lent byte buffers, for k message symbols and for m starts ..; the answer is 0 or the refusal"
 pub record Exported : Type 0 where
@@ -31,12 +32,16 @@ abbrev pub exportedAs : List ℕ → Decoded → Exported
 exportedAs bytes d = answered bytes (d .answer) (d .placement) (d .message)
 
 -- "word read 1 2 3 4 7 8 9", with 19 "between 7 and 8" and "after 9", where 3 stands for the buffer of starts too
+abbrev pub exportedUnder : Coding → List ℕ → List ℕ → List ℕ → Exported
+exportedUnder d w out bytes =
+    must (d .inRange) (lentAs invalid out bytes)
+    (must (d .fits) (lentAs unfit out bytes)
+    (must (eqb (length bytes) (2 * d .bursts)) (lentAs wrongLength out bytes)
+    (exportedAs bytes (decodeUnder d w out))))
+
+-- of Construction A
 unfoldable pub exportedOut : Params → List ℕ → List ℕ → List ℕ → Exported
-exportedOut f w out bytes =
-    must (inRange f) (lentAs invalid out bytes)
-    (must (fits f) (lentAs unfit out bytes)
-    (must (eqb (length bytes) (2 * f .m)) (lentAs wrongLength out bytes)
-    (exportedAs bytes (decodeOut f w out))))
+exportedOut f = exportedUnder (coding f)
 
 -- k, for a program that has to lend so many symbols; a length that no message has where the figures are refused
 abbrev pub noLength : ℕ

@@ -3,9 +3,9 @@ ghost use mathlib.Core.Path.{_≡_};
 ghost use Prim.Native.Nat.{_*_, _≤_};
 ghost use lib.ListN.{length};
 ghost use Rattle.construction_a.specs.Figures.{maxBursts};
-ghost use Rattle.params.specs.Given.{figuresOf, Fitting};
+ghost use Rattle.params.specs.Given.{codingIn, Serves};
 ghost use Rattle.placements.specs.Bridge.{startsIn};
-ghost use Rattle.decoder.specs.Exported.{lentAs, startBytes, exportedOut};
+ghost use Rattle.decoder.specs.Exported.{lentAs, startBytes, exportedUnder};
 use crate::WordAnswer;
 use crate::decode_fitting;
 use params::Layout;
@@ -15,8 +15,8 @@ use refusals::Refusal;
 
 // Word read for figures that fit, with the placement as bytes. Refusals: 3 4 7 19 8 9 19.
 pub fn decode_bytes(layout: Layout, word: &[u8], message: &mut [u8], starts: &mut [u8]) -> u8
-    requires { ⌜ Fitting layout ⌝ }
-    ensures { λ r. ⌜ lentAs r (now (message .exit)) (now (starts .exit)) ≡ exportedOut (figuresOf layout) (now (word .entry)) (now (message .entry)) (now (starts .entry)) ⌝ }
+    requires { ⌜ Serves layout ⌝ }
+    ensures { λ r. ⌜ lentAs r (now (message .exit)) (now (starts .exit)) ≡ exportedUnder (codingIn layout) (now (word .entry)) (now (message .entry)) (now (starts .entry)) ⌝ }
 {
     if starts.len() != 2 * layout.m {
         return Refusal::LENGTH;

@@ -18,7 +18,7 @@ use Rattle.cells.specs.Cells.{message}
 use Rattle.cells.specs.Erasures.{foundBound}
 use Rattle.construction_a.specs.DemandTwo.{constructionA}
 use Rattle.construction_a.specs.Figures.{Params, inRange, fits, placementCount, indexTail, messageLen}
-use Rattle.construction_a.specs.Outcomes.{Held, held, inUse, FiguresOut, figuresNumber, figuresOut, unwritten, encodeOut, worn, Covered, coverOut, WordAnswer, rankIs, refusal, answerNumber, Decoded, decodeAs, decodeOut}
+use Rattle.construction_a.specs.Outcomes.{coding, Held, held, inUse, FiguresOut, figuresNumber, figuresOut, unwritten, encodeOut, worn, Covered, coverOut, WordAnswer, rankIs, refusal, answerNumber, Decoded, decodeAs, decodeOut}
 use Rattle.construction_a.specs.DemandTwo.{constructionA}
 use Rattle.construction_a.proofs.DemandTwo.{demand-two}
 use Rattle.construction_a.proofs.Figures.{serve}
@@ -278,8 +278,8 @@ job-read f es w out =
     (where-open P (withhold out) (jobStatus es (payloadIn q k ms)) (keep refl refl) (keep refl refl) (keep refl refl) (done refl))))))))
 
 list-and-read : (f : Params) (es : List Entry) (letters numbers answers w out : List ℕ)
-    → ListAnswers (listOut f es letters numbers answers w out .answer) answers out (listOut f es letters numbers answers w out)
-unfolding listOut
+    → ListAnswers (listOut (coding f) es letters numbers answers w out .answer) answers out (listOut (coding f) es letters numbers answers w out)
+unfolding listOut jobReadOut
 list-and-read f es letters numbers answers w out =
     let r = replayOut es letters numbers answers in
     let h = replay es letters numbers answers in
@@ -330,7 +330,7 @@ module _ (out starts : List ℕ) where
       record { numbers = h .numbers; answer = h .answer; keeps = λ d. ap (λ (x : Held × List ℕ). (x .1, starts)) (h .keeps d) }
 
   word-read-bytes : (f : Params) (w : List ℕ) → ReadsIn (exportedOut f w out starts)
-  unfolding exportedOut isRefusal all any
+  unfolding exportedOut decodeOut isRefusal all any
   word-read-bytes f w =
       let d = decodeOut f w out in
       tested ReadsIn (inRange f) (keep refl refl)

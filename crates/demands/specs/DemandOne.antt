@@ -14,7 +14,7 @@ use Rattle.refusals.specs.Refusals.{served}
 use Rattle.combinatorics.specs.Lists.{all, any}
 use Rattle.construction_a.specs.Figures.{Params, inRange, fits}
 use Rattle.construction_a.specs.Ranking.{CoversLeast}
-use Rattle.construction_a.specs.Outcomes.{Held, held, figuresNumber, figuresOut, encodeOut, worn, coverOut, answerNumber, decodeOut}
+use Rattle.construction_a.specs.Outcomes.{coding, Held, held, figuresNumber, figuresOut, encodeOut, worn, coverOut, answerNumber, decodeOut}
 use Rattle.construction_a.specs.DemandTwo.{DemandTwo}
 use Rattle.jobs.specs.declared.Entry.{Entry}
 use Rattle.jobs.specs.Jobs.{Kind, opening, cancelling, finishing, reinstating, holding, releasing}
@@ -113,7 +113,7 @@ pub record DemandOne : Type 0 where
       → AnswersBy jobWrite (jobWriteOut f es at payload out .answer) out (jobWriteOut f es at payload out .word)
   pub job-read : (f : Params) (es : List Entry) (w out : List ℕ) → AnswersBy jobRead (jobReadOut f es w out .answer) out (jobReadOut f es w out .payload)
   pub list-and-read : (f : Params) (es : List Entry) (letters numbers answers w out : List ℕ)
-      → ListAnswers (listOut f es letters numbers answers w out .answer) answers out (listOut f es letters numbers answers w out)
+      → ListAnswers (listOut (coding f) es letters numbers answers w out .answer) answers out (listOut (coding f) es letters numbers answers w out)
   -- ---- Prescriptions. A refusal has no value beside it.
   pub transpose : (e : Eye) → AnswersBy prescriptionAlone (transposeOut e .number) none (transposeOut e .value)
   pub spherical-equivalent : (e : Eye) → AnswersBy prescriptionAlone (equivalentOut e .number) none (equivalentOut e .value)

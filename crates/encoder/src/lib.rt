@@ -27,7 +27,7 @@ pub fn encode(figures: Figures, at: Placement, message: &[u8], word: &mut [u8]) 
 }
 
 // The same for figures that fit. Refusals: 3 5 4.
-fn encode_fitting(layout: Layout, at: Placement, message: &[u8], word: &mut [u8]) -> u8
+pub fn encode_fitting(layout: Layout, at: Placement, message: &[u8], word: &mut [u8]) -> u8
     requires { ⌜ Serves layout ⌝ }
     ensures answer { λ r. ⌜ r ≡ encodeUnder (codingIn layout) (heldAs at) (now (message .entry)) (now (word .entry)) .answer ⌝ }
     ensures word { λ _. ⌜ now (word .exit) ≡ encodeUnder (codingIn layout) (heldAs at) (now (message .entry)) (now (word .entry)) .word ⌝ }

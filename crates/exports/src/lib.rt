@@ -16,6 +16,7 @@ use lent::starts;
 use lent::table;
 use lent_prescriptions::eyes;
 use lent_prescriptions::prescriptions;
+use params::Figures;
 use params::LayoutAnswer;
 use params::Params;
 use params::bytes;
@@ -42,7 +43,8 @@ pub extern "C" fn burgzemi_decode(
 ) -> u8
     ensures { λ r. ⌜ lentAs r (now (message .exit)) (now (starts .exit)) ≡ exportedOut (params n q m b) (now (word .entry)) (now (message .entry)) (now (starts .entry)) ⌝ }
 {
-    let answer = Params::figures(n, q, m, b);
+    let figures = Figures::Ranked(Params { n, q, m, b });
+    let answer = figures.layout();
     match answer {
         LayoutAnswer::Refused(number) => number,
         LayoutAnswer::Fit(layout) => decode_bytes(layout, word, message, starts),
@@ -88,7 +90,7 @@ pub extern "C" fn burgzemi_encode(
 {
     let figures = Params { n, q, m, b };
     let at = starts::placement_from(starts, m);
-    encoder::encode(figures, at, message, word)
+    encoder::encode(Figures::Ranked(figures), at, message, word)
 }
 
 // The check of a word against a placement and a message: 0 where it agrees outside the bursts with the word that they give, DIFFERS where it doesn't.
@@ -183,7 +185,7 @@ pub extern "C" fn burgzemi_job_write(
     }
     let at = starts::placement_from(starts, m);
     let held = table::table_in(table);
-    jobcodec::job_write(figures, held, at, payload, word)
+    jobcodec::job_write(Figures::Ranked(figures), held, at, payload, word)
 }
 
 // Job read: the payload of a found word whose job the table has open. Refusals: 1 2, 10 for K, 3 4 7 19 8 9 19, 10, 12 23 14.
@@ -207,7 +209,7 @@ pub extern "C" fn burgzemi_job_read(
         return Refusal::INVALID;
     }
     let held = table::table_in(table);
-    jobcodec::job_read(figures, held, word, payload)
+    jobcodec::job_read(Figures::Ranked(figures), held, word, payload)
 }
 
 // Words to the strip: `depth` words of n symbols, one after another, side by side. Refusals: 1 2 18 3 4.

@@ -25,6 +25,9 @@ use Rattle.construction_b.specs.Outcomes.{coding as codingB}
 use Rattle.construction_b.specs.DemandTwo.{Listed as ListedB, no-pattern as no-pattern-b, erased-index as erased-index-b, too-large as too-large-b, before-word, erased-message as erased-message-b}
 use Rattle.construction_b.proofs.Figures.{ranged as ranged-b}
 use Rattle.construction_b.proofs.DemandTwo.{demand-two as demand-two-b}
+use Rattle.params.specs.Bridge.{given, givenLong, codingOf}
+use Rattle.params.specs.declared.Figures.{Figures}
+use Rattle.params.specs.declared.Figures.the-variants.{Ranked, Long}
 use Rattle.jobs.specs.declared.Entry.{Entry}
 use Rattle.jobs.specs.Jobs.{Kind, opening, cancelling, finishing, reinstating, holding, releasing, Call, needsOpen}
 use Rattle.jobs.specs.Table.{emptyTable, twice}
@@ -285,6 +288,13 @@ reads-b f i h =
 
 pub demand-three-b : DemandThreeB
 demand-three-b f = demand-three-under (codingB f) (reads-b f)
+
+-- ---- Either, as a caller passes its figures
+
+pub follows-either : (f : Figures) (before calls : List Call) (answers : List ℕ) (es : List Entry) (w out : List ℕ) → Follows before calls answers es
+    → Claim (codingOf f) before calls w out answers (jobReadUnder (codingOf f) es w out)
+follows-either (Ranked p) = follows-under (coding (given p)) (reads-a (given p))
+follows-either (Long p) = follows-under (codingB (givenLong p)) (reads-b (givenLong p))
 
 -- it is not empty: both facts hold of the transfer example's word
 both-facts : (starts : List ℕ) × (y : List ℕ) × BothFacts (constructionA figures) (acceptedBy opened (answersFrom emptyTable opened) []) (wordWith 255) starts y

@@ -6,10 +6,9 @@ use Prim.Native.Nat.{ℕ, _≤_}
 use lib.ListN.{length}
 use Rattle.refusals.specs.Refusals.{must, badPayload}
 use Rattle.cells.specs.Bytes.{payloadLen}
-use Rattle.cells.specs.Outcomes.{Coding}
-use Rattle.construction_a.specs.Figures.{Params, maxAlphabet, inRange, fits, messageLen}
-use Rattle.construction_a.specs.Outcomes.{coding, WordAnswer, rankIs, refusal, Decoded}
-use Rattle.params.specs.Answer.{LaidOut}
+use Rattle.cells.specs.Outcomes.{Coding, WordAnswer, rankIs, refusal, Decoded}
+use Rattle.construction_a.specs.Figures.{maxAlphabet}
+use Rattle.params.specs.Given.{codingIn, Serves}
 use Rattle.params.specs.declared.Layout.{Layout}
 use Rattle.jobs.specs.declared.Entry.{Entry}
 use Rattle.jobs.specs.Table.{twice}
@@ -20,17 +19,15 @@ use Rattle.jobcodec.specs.JobRead.{JobRead}
 abbrev pub seen : ℕ → List ℕ → JobRead
 seen a out = record { answer = a; payload = out }
 
--- the layout of figures that fit, and a table that holds no number twice
-pub record Laid (f : Params) (l : Layout) (es : List Entry) : Type 0 where
-  pub range : inRange f ≡ true
-  pub fit : fits f ≡ true
-  pub layout : LaidOut f l
+-- a layout of figures that fit, and a table that holds no number twice
+pub record Laid (l : Layout) (es : List Entry) : Type 0 where
+  pub serves : Serves l
   pub once : twice es ≡ false
 
 -- a payload as long as the message has bytes
-pub record PayloadFits (f : Params) (payload message : List ℕ) : Type 0 where
-  pub range : inRange f ≡ true
-  pub count : length payload ≡ payloadLen (f .q) (length message)
+pub record PayloadFits (l : Layout) (payload message : List ℕ) : Type 0 where
+  pub serves : Serves l
+  pub count : length payload ≡ payloadLen (l .q) (length message)
 
 -- figures and table in order, and five bytes or more
 pub record ReadyUnder (d : Coding) (es : List Entry) : Type 0 where
@@ -39,14 +36,12 @@ pub record ReadyUnder (d : Coding) (es : List Entry) : Type 0 where
   pub fit : d .fits ≡ true
   pub carries : carriesJob (d .codec .alphabet) (d .codec .messageLen) ≡ true
 
-abbrev pub Ready : Params → List Entry → Type 0
-Ready f = ReadyUnder (coding f)
-
 -- figures that carry a job, room for the message, and a buffer for the payload
-pub record Readable (f : Params) (es : List Entry) (message payload : List ℕ) : Type 0 where
-  pub ready : Ready f es
-  pub room : length message ≡ messageLen f
-  pub lent : length payload ≡ payloadLen (f .q) (messageLen f)
+pub record Readable (l : Layout) (es : List Entry) (message payload : List ℕ) : Type 0 where
+  pub serves : Serves l
+  pub ready : ReadyUnder (codingIn l) es
+  pub room : length message ≡ codingIn l .codec .messageLen
+  pub lent : length payload ≡ payloadLen (codingIn l .codec .alphabet) (codingIn l .codec .messageLen)
 
 abbrev pub spelledAs : ℕ → ℕ → List ℕ → WordAnswer → WordAnswer
 spelledAs q k ms (rankIs v) = must (spellsPayload q k ms) (refusal badPayload) (rankIs v)

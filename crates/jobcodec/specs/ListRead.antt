@@ -4,14 +4,14 @@ use mathlib.Core.List.{List}
 use Prim.Native.Nat.{ℕ}
 use lib.Dec.{eqb}
 use Rattle.refusals.specs.Refusals.{must, served}
-use Rattle.construction_a.specs.Figures.{Params}
+use Rattle.cells.specs.Outcomes.{Coding}
 use Rattle.jobs.specs.declared.Entry.{Entry}
 use Rattle.jobs.specs.Jobs.{Call}
 use Rattle.ledger.specs.Replay.{ReplayOut, replayOut}
 use Rattle.jobcodec.specs.declared.ListAnswer.{ListAnswer}
 use Rattle.jobcodec.specs.declared.ListAnswer.the-variants.{Refused, Read}
-use Rattle.jobcodec.specs.JobRead.{JobRead, jobReadOut}
-use Rattle.jobcodec.specs.DemandThree.{ClaimA}
+use Rattle.jobcodec.specs.JobRead.{JobRead, jobReadUnder}
+use Rattle.jobcodec.specs.DemandThree.{Claim}
 use Rattle.jobcodec.specs.Given.{seen}
 
 -- the refusal of the whole list, or what the reading answers
@@ -31,11 +31,11 @@ abbrev pub listRead : ReplayOut → JobRead → ListOut
 listRead r j = record { answer = jobAnswer (j .answer); answers = r .answers; payload = j .payload }
 
 -- the calls from a table, then "the job reading after it"
-unfoldable pub listOut : Params → List Entry → List ℕ → List ℕ → List ℕ → List ℕ → List ℕ → ListOut
-listOut f es letters numbers answers w out =
+unfoldable pub listOut : Coding → List Entry → List ℕ → List ℕ → List ℕ → List ℕ → List ℕ → ListOut
+listOut d es letters numbers answers w out =
     let r = replayOut es letters numbers answers in
     must (eqb (r .answer) served) (listUnread r out)
-    (listRead r (jobReadOut f (r .table) w out))
+    (listRead r (jobReadUnder d (r .table) w out))
 
 -- what was seen: the answer case by case, and both buffers
 abbrev pub listSeen : ListAnswer → List ℕ → List ℕ → ListOut
@@ -44,6 +44,6 @@ listSeen (Read a) answers out = record { answer = jobAnswer a; answers = answers
 
 -- "It is a single claim about the whole list and the job reading after it": where the list is not refused, of the answers and the buffer out′
 -- that were then seen. `before` are the calls accepted earlier.
-abbrev pub Claimed : ListAnswer → Params → List Call → List Call → List ℕ → List ℕ → List ℕ → List ℕ → Type 0
-Claimed (Refused a) f before calls w out answers out′ = Unit {0}
-Claimed (Read a) f before calls w out answers out′ = ClaimA f before calls w out answers (seen a out′)
+abbrev pub Claimed : ListAnswer → Coding → List Call → List Call → List ℕ → List ℕ → List ℕ → List ℕ → Type 0
+Claimed (Refused a) d before calls w out answers out′ = Unit {0}
+Claimed (Read a) d before calls w out answers out′ = Claim d before calls w out answers (seen a out′)

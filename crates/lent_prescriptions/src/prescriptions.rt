@@ -11,6 +11,7 @@ use crate::eyes;
 use jobs::JobTable;
 use lent::starts;
 use lent::table;
+use params::Figures;
 use params::Params;
 use params::bytes::BYTE_VALUES;
 use prescription::texts::Prescription;
@@ -44,7 +45,14 @@ pub fn write(
     }
     let at = starts::placement_from(starts, figures.m);
     let held = table::table_in(table);
-    prescriptioncodec::prescription_write(figures, held, at, number, prescription, word)
+    prescriptioncodec::prescription_write(
+        Figures::Ranked(figures),
+        held,
+        at,
+        number,
+        prescription,
+        word,
+    )
 }
 
 // Reads a found word with the table as bytes, and puts its job number and its prescription into `marks` and `powers`. Refusals: 1 2, 10 for too few
@@ -78,7 +86,7 @@ fn read_held(
     if powers.len() != POWERS_LEN {
         return without_room(figures, table);
     }
-    let answer = prescriptioncodec::prescription_read(figures, table, word);
+    let answer = prescriptioncodec::prescription_read(Figures::Ranked(figures), table, word);
     match answer {
         ReadAnswer::Refused(number) => number,
         ReadAnswer::Handed(number, prescription) => {

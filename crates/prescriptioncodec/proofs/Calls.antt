@@ -15,21 +15,21 @@ use Rattle.combinatorics.proofs.Cases.{eqb-same, eqb-other, leb-fails}
 use Rattle.cells.specs.Bytes.{byteValues, payloadLen}
 use Rattle.cells.specs.Digits.{plain, spell}
 use Rattle.cells.proofs.Digits.{length-spell}
-use Rattle.cells.specs.Outcomes.{Coding, Held, inUse, Encoded, unwritten, unserved}
-use Rattle.construction_a.specs.Figures.{Params, inRange, messageLen}
-use Rattle.construction_a.specs.Outcomes.{coding, figuresOut}
+use Rattle.cells.specs.Outcomes.{Coding, Held, inUse, Encoded, unwritten, unserved, figuresUnder}
+use Rattle.params.specs.Given.{codingIn}
+use Rattle.params.proofs.Either.{in-order}
 use Rattle.params.specs.declared.Layout.{Layout}
 use Rattle.jobs.specs.declared.Entry.{Entry}
 use Rattle.jobs.specs.Table.{twice}
 use Rattle.payloads.specs.Payload.{carriesJob}
-use Rattle.jobcodec.specs.Given.{Laid, Ready}
-use Rattle.jobcodec.specs.JobWrite.{jobWriteUnder, jobWriteOut}
+use Rattle.jobcodec.specs.Given.{Laid, ReadyUnder}
+use Rattle.jobcodec.specs.JobWrite.{jobWriteUnder}
 use Rattle.jobcodec.proofs.Calls.{carries-not}
 use Rattle.jobcodec.proofs.Outcomes.{both-false, figures-refused}
 use Rattle.prescription.specs.declared.texts.Prescription.{Prescription}
 use Rattle.prescription.specs.Eyes.{Prescribed, prescribedOf}
 use Rattle.prescription.specs.Stored.{textOf, storedLen}
-use Rattle.prescriptioncodec.specs.PrescriptionWrite.{numberLen, numberBytes, prescriptionPayload, minPayload, writeOpen, writePrescribed, asJob, prescriptionWriteUnder, prescriptionWriteOut}
+use Rattle.prescriptioncodec.specs.PrescriptionWrite.{numberLen, numberBytes, prescriptionPayload, minPayload, writeOpen, writePrescribed, asJob, prescriptionWriteUnder}
 
 -- the text of t bytes has t
 pub text-length : (t : ℕ) (x : Prescribed) → storedLen ≤ t → length (textOf t x) ≡ t
@@ -77,53 +77,49 @@ writes-job d es at n p x out h e =
 
 -- ---- "1 2"
 
-module _ (f : Params) (es : List Entry) (at : Held) (n : ℕ) (p : Prescription) (out : List ℕ) where
-  pub write-twice : twice es ≡ true → prescriptionWriteOut f es at n p out ≡ unwritten out invalid
-  unfolding prescriptionWriteOut
-  write-twice e = rw (e, both-false (inRange f))
+module _ (d : Coding) (es : List Entry) (at : Held) (n : ℕ) (p : Prescription) (out : List ℕ) where
+  pub write-twice : twice es ≡ true → prescriptionWriteUnder d es at n p out ≡ unwritten out invalid
+  write-twice e = rw (e, both-false (d .inRange))
 
-  pub write-unfit : (a : ℕ) → twice es ≡ false → figuresOut f ≡ unserved a → prescriptionWriteOut f es at n p out ≡ unwritten out a
-  unfolding prescriptionWriteOut
-  write-unfit a e r = figures-refused f es (unwritten out) _ a e r
+  pub write-unfit : (a : ℕ) → twice es ≡ false → figuresUnder d ≡ unserved a → prescriptionWriteUnder d es at n p out ≡ unwritten out a
+  write-unfit a e r = figures-refused d es (unwritten out) _ a e r
 
   -- ---- "10 3 5", then 16
 
-  pub write-few : (l : Layout) → Laid f l es → (count : ℕ) → count ≡ payloadLen (l .q) (l .«message_len») → count < 5
-      → prescriptionWriteOut f es at n p out ≡ unwritten out badPayload
-  unfolding prescriptionWriteOut
-  write-few l h count e few = rw (h .range, h .once, h .fit, carries-not f l es h count e few)
+  module _ (r : ReadyUnder d es) where
+    pub write-count : at .count ≢ d .bursts → prescriptionWriteUnder d es at n p out ≡ unwritten out wrongLength
+    write-count other = rw (r .range, r .once, r .fit, r .carries, eqb-other (at .count) (d .bursts) other)
 
-  module _ (r : Ready f es) where
-    pub write-count : at .count ≢ f .m → prescriptionWriteOut f es at n p out ≡ unwritten out wrongLength
-    unfolding prescriptionWriteOut
-    write-count d = rw (r .range, r .once, r .fit, r .carries, eqb-other (at .count) (f .m) d)
+    module _ (counted : at .count ≡ d .bursts) where
+      pub write-length : length out ≢ d .codec .wordLen → prescriptionWriteUnder d es at n p out ≡ unwritten out wrongLength
+      write-length other = rw (r .range, r .once, r .fit, r .carries, eqb-same (at .count) (d .bursts) counted, eqb-other (length out) (d .codec .wordLen) other)
 
-    module _ (counted : at .count ≡ f .m) where
-      pub write-length : length out ≢ f .n → prescriptionWriteOut f es at n p out ≡ unwritten out wrongLength
-      unfolding prescriptionWriteOut
-      write-length d = rw (r .range, r .once, r .fit, r .carries, eqb-same (at .count) (f .m) counted, eqb-other (length out) (f .n) d)
+      module _ (lent : length out ≡ d .codec .wordLen) where
+        past-lengths : prescriptionWriteUnder d es at n p out
+            ≡ must (apart (d .burstLen) (d .codec .wordLen) 0 (inUse at)) (unwritten out badStarts)
+            (must (leb minPayload (payloadLen (d .codec .alphabet) (d .codec .messageLen))) (unwritten out badPrescription)
+            (writePrescribed d es at n (prescribedOf p) out))
+        past-lengths = rw (r .range, r .once, r .fit, r .carries, eqb-same (at .count) (d .bursts) counted, eqb-same (length out) (d .codec .wordLen) lent)
 
-      module _ (lent : length out ≡ f .n) where
-        past-lengths : prescriptionWriteOut f es at n p out
-            ≡ must (apart (f .b) (f .n) 0 (inUse at)) (unwritten out badStarts)
-            (must (leb minPayload (payloadLen (f .q) (messageLen f))) (unwritten out badPrescription)
-            (writePrescribed (coding f) es at n (prescribedOf p) out))
-        unfolding prescriptionWriteOut
-        past-lengths = rw (r .range, r .once, r .fit, r .carries, eqb-same (at .count) (f .m) counted, eqb-same (length out) (f .n) lent)
-
-        pub write-starts : apart (f .b) (f .n) 0 (inUse at) ≡ false → prescriptionWriteOut f es at n p out ≡ unwritten out badStarts
+        pub write-starts : apart (d .burstLen) (d .codec .wordLen) 0 (inUse at) ≡ false → prescriptionWriteUnder d es at n p out ≡ unwritten out badStarts
         write-starts e = past-lengths ∙ rw e
 
-        module _ (placed : apart (f .b) (f .n) 0 (inUse at) ≡ true) where
-          pub write-short : payloadLen (f .q) (messageLen f) < minPayload → prescriptionWriteOut f es at n p out ≡ unwritten out badPrescription
-          write-short h = past-lengths ∙ rw (placed, leb-fails minPayload (payloadLen (f .q) (messageLen f)) h)
+        module _ (placed : apart (d .burstLen) (d .codec .wordLen) 0 (inUse at) ≡ true) where
+          pub write-short : payloadLen (d .codec .alphabet) (d .codec .messageLen) < minPayload → prescriptionWriteUnder d es at n p out ≡ unwritten out badPrescription
+          write-short h = past-lengths ∙ rw (placed, leb-fails minPayload (payloadLen (d .codec .alphabet) (d .codec .messageLen)) h)
 
           -- every test is passed but the prescription's own
-          pub write-as-job : minPayload ≤ payloadLen (f .q) (messageLen f)
-              → prescriptionWriteOut f es at n p out ≡ asJob f es at n (payloadLen (f .q) (messageLen f)) out (prescribedOf p)
-          unfolding prescriptionWriteOut jobWriteOut
+          pub write-as-job : minPayload ≤ payloadLen (d .codec .alphabet) (d .codec .messageLen)
+              → prescriptionWriteUnder d es at n p out ≡ asJob d es at n (payloadLen (d .codec .alphabet) (d .codec .messageLen)) out (prescribedOf p)
           write-as-job h = go (prescribedOf p) refl
             where
-              go : (o : Option Prescribed) → prescribedOf p ≡ o → prescriptionWriteOut f es at n p out ≡ asJob f es at n (payloadLen (f .q) (messageLen f)) out o
-              go none e = past-lengths ∙ rw (placed, le-leb minPayload (payloadLen (f .q) (messageLen f)) h, e)
-              go (some x) e = writes-job (coding f) es at n p x out h e
+              go : (o : Option Prescribed) → prescribedOf p ≡ o → prescriptionWriteUnder d es at n p out ≡ asJob d es at n (payloadLen (d .codec .alphabet) (d .codec .messageLen)) out o
+              go none e = past-lengths ∙ rw (placed, le-leb minPayload (payloadLen (d .codec .alphabet) (d .codec .messageLen)) h, e)
+              go (some x) e = writes-job d es at n p x out h e
+
+-- "10: K below 5"
+pub write-few : (l : Layout) (es : List Entry) (at : Held) (n : ℕ) (p : Prescription) (out : List ℕ) → Laid l es
+    → (count : ℕ) → count ≡ payloadLen (l .q) (l .«message_len») → count < 5 → prescriptionWriteUnder (codingIn l) es at n p out ≡ unwritten out badPayload
+write-few l es at n p out h count e few =
+    let order = in-order l (h .serves) in
+    rw (order .0, h .once, order .1, carries-not l es h count e few)

@@ -14,12 +14,11 @@ use Rattle.refusals.specs.Refusals.{must, served, badPrescription}
 use Rattle.cells.specs.Bytes.{byteValues, byteWidth, payloadLen}
 use Rattle.cells.specs.Digits.{plain, spell}
 use Rattle.cells.proofs.Walk.{rest-is}
-use Rattle.construction_a.specs.Figures.{Params}
-use Rattle.construction_a.specs.Outcomes.{Held, unwritten}
+use Rattle.cells.specs.Outcomes.{Coding, Held, unwritten}
 use Rattle.params.specs.declared.Layout.{Layout}
 use Rattle.jobs.specs.declared.Entry.{Entry}
 use Rattle.payloads.specs.Given.{Spellable}
-use Rattle.jobcodec.specs.JobWrite.{jobWriteOut}
+use Rattle.jobcodec.specs.JobWrite.{jobWriteUnder}
 use Rattle.prescription.specs.declared.texts.Prescription.{Prescription}
 use Rattle.prescription.specs.Eyes.{Prescribed, prescribedOf}
 use Rattle.prescription.specs.Stored.{storedLen, textOf}
@@ -48,17 +47,17 @@ module _ (p : Prescription) (y text : List ℕ) (r : ℕ) (long : minPayload ≤
       told ∙ ap (writeOut p) (rest-is numberLen y)
       ∙ ap (λ b. must b (written badPrescription (drop numberLen y)) (writtenOr (drop numberLen y) (prescribedOf p))) (le-leb storedLen (length (drop numberLen y)) enough)
 
-  module _ (f : Params) (es : List Entry) (at : Held) (n K : ℕ) (out : List ℕ) where
-    pub text-refused : r ≢ served → unwritten out r ≡ asJob f es at n K out (prescribedOf p)
-    text-refused d = go (prescribedOf p) text-told
+  module _ (d : Coding) (es : List Entry) (at : Held) (n K : ℕ) (out : List ℕ) where
+    pub text-refused : r ≢ served → unwritten out r ≡ asJob d es at n K out (prescribedOf p)
+    text-refused other = go (prescribedOf p) text-told
       where
-        go : (o : Option Prescribed) → written r text ≡ writtenOr (drop numberLen y) o → unwritten out r ≡ asJob f es at n K out o
+        go : (o : Option Prescribed) → written r text ≡ writtenOr (drop numberLen y) o → unwritten out r ≡ asJob d es at n K out o
         go none e = ap (λ (x : Written). unwritten out (x .answer)) e
-        go (some x) e = absurd (d (ap (λ (x : Written). x .answer) e))
+        go (some x) e = absurd (other (ap (λ (x : Written). x .answer) e))
 
     -- the number's bytes before it
     pub text-goes-on : r ≡ served → (front : List ℕ) → front ≡ numberBytes n → K ≡ length y
-        → jobWriteOut f es at (front ++ drop numberLen (putMid numberLen (length y - numberLen) y text)) out ≡ asJob f es at n K out (prescribedOf p)
+        → jobWriteUnder d es at (front ++ drop numberLen (putMid numberLen (length y - numberLen) y text)) out ≡ asJob d es at n K out (prescribedOf p)
     unfolding prescriptionPayload
     text-goes-on z front spelt many = go (prescribedOf p) text-told
       where
@@ -69,14 +68,14 @@ module _ (p : Prescription) (y text : List ℕ) (r : ℕ) (long : minPayload ≤
             ∙ append-nil text
 
         go : (o : Option Prescribed) → written r text ≡ writtenOr (drop numberLen y) o
-            → jobWriteOut f es at (front ++ drop numberLen (putMid numberLen (length y - numberLen) y text)) out ≡ asJob f es at n K out o
+            → jobWriteUnder d es at (front ++ drop numberLen (putMid numberLen (length y - numberLen) y text)) out ≡ asJob d es at n K out o
         go none e = absurd (sixteen (sym (ap (λ (x : Written). x .answer) e) ∙ z))
           where
             sixteen : badPrescription ≡ served → ⊥
             sixteen h = omega (arith, h)
         go (some x) e =
-            ap (λ (z : List ℕ). jobWriteOut f es at (front ++ z) out) (behind ∙ ap (λ (x : Written). x .text) e ∙ ap (λ (t : ℕ). textOf t x) (length-drop numberLen y ∙ ap (λ (k : ℕ). k - numberLen) (sym many)))
-            ∙ ap (λ (z : List ℕ). jobWriteOut f es at (z ++ textOf (K - numberLen) x) out) spelt
+            ap (λ (z : List ℕ). jobWriteUnder d es at (front ++ z) out) (behind ∙ ap (λ (x : Written). x .text) e ∙ ap (λ (t : ℕ). textOf t x) (length-drop numberLen y ∙ ap (λ (k : ℕ). k - numberLen) (sym many)))
+            ∙ ap (λ (z : List ℕ). jobWriteUnder d es at (z ++ textOf (K - numberLen) x) out) spelt
 
 -- ---- The number
 

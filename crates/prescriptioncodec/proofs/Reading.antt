@@ -11,10 +11,9 @@ use Rattle.refusals.specs.Refusals.{must, served, invalid, wrongLength, badSymb
 use Rattle.combinatorics.specs.Lists.{allBelow}
 use Rattle.combinatorics.proofs.Cases.{eqb-other}
 use Rattle.cells.specs.Bytes.{payloadLen}
-use Rattle.cells.specs.Erasures.{foundBound}
-use Rattle.construction_a.specs.Figures.{Params, inRange, messageLen}
-use Rattle.construction_a.specs.Reading.{read}
-use Rattle.construction_a.specs.Outcomes.{unserved, figuresOut, decodeOut}
+use Rattle.cells.specs.Outcomes.{Coding, unserved, figuresUnder, decodeUnder}
+use Rattle.params.specs.Given.{codingIn, Serves}
+use Rattle.params.proofs.Either.{in-order, numbers-in}
 use Rattle.params.specs.declared.Layout.{Layout}
 use Rattle.decoder.specs.declared.WordAnswer.{WordAnswer}
 use Rattle.decoder.specs.Answer.{answerAs}
@@ -22,7 +21,7 @@ use Rattle.jobs.specs.declared.Entry.{Entry}
 use Rattle.jobs.specs.Jobs.{needsOpen}
 use Rattle.jobs.specs.Table.{twice}
 use Rattle.payloads.specs.Payload.{jobNumber, payloadIn}
-use Rattle.jobcodec.specs.Given.{Laid, Ready, spelledAnswer}
+use Rattle.jobcodec.specs.Given.{Laid, ReadyUnder, spelledAnswer}
 use Rattle.jobcodec.specs.JobWrite.{jobStatus}
 use Rattle.jobcodec.proofs.Calls.{carries-not}
 use Rattle.jobcodec.proofs.Outcomes.{both-false, figures-refused, afterSpelled, spelled-decodes}
@@ -31,40 +30,49 @@ use Rattle.prescription.specs.Eyes.{Prescribed, prescriptionOf}
 use Rattle.prescription.specs.Stored.{prescribedIn}
 use Rattle.prescription.specs.Outcomes.{Answered, answered, refused, orRefused, readOut}
 use Rattle.prescriptioncodec.specs.PrescriptionWrite.{numberLen}
-use Rattle.prescriptioncodec.specs.PrescriptionRead.{handPrescription, prescriptionIn, ofPayload, prescriptionReading, prescriptionReadOut}
+use Rattle.prescriptioncodec.specs.PrescriptionRead.{handPrescription, prescriptionIn, ofPayload, prescriptionReading, prescriptionReadUnder}
 
-module _ (f : Params) (es : List Entry) (w : List ℕ) where
+module _ (d : Coding) (es : List Entry) (w : List ℕ) where
   -- ---- "1 2", and 10 for K
 
-  pub read-twice : twice es ≡ true → prescriptionReadOut f es w ≡ refused invalid
-  unfolding prescriptionReadOut
-  read-twice e = rw (e, both-false (inRange f))
+  pub read-twice : twice es ≡ true → prescriptionReadUnder d es w ≡ refused invalid
+  read-twice e = rw (e, both-false (d .inRange))
 
-  pub read-unfit : (a : ℕ) → twice es ≡ false → figuresOut f ≡ unserved a → prescriptionReadOut f es w ≡ refused a
-  unfolding prescriptionReadOut
-  read-unfit a e r = figures-refused f es refused _ a e r
-
-  pub read-few : (l : Layout) → Laid f l es → (count : ℕ) → count ≡ payloadLen (l .q) (l .«message_len») → count < 5
-      → prescriptionReadOut f es w ≡ refused badPayload
-  unfolding prescriptionReadOut prescriptionReading
-  read-few l h count e few = rw (h .range, h .once, h .fit, carries-not f l es h count e few)
+  pub read-unfit : (a : ℕ) → twice es ≡ false → figuresUnder d ≡ unserved a → prescriptionReadUnder d es w ≡ refused a
+  read-unfit a e r = figures-refused d es refused _ a e r
 
   -- ---- The word, and what its message spells
 
-  word-first : Ready f es
-      → prescriptionReadOut f es w
-      ≡ must (eqb (length w) (f .n)) (refused wrongLength)
-      (must (allBelow (foundBound (f .q)) w) (refused badSymbol) (prescriptionIn (f .q) (messageLen f) es (read f w)))
-  unfolding prescriptionReadOut prescriptionReading
+  word-first : ReadyUnder d es
+      → prescriptionReadUnder d es w
+      ≡ must (eqb (length w) (d .codec .wordLen)) (refused wrongLength)
+      (must (allBelow (d .codec .foundBound) w) (refused badSymbol) (prescriptionIn (d .codec .alphabet) (d .codec .messageLen) es (d .codec .decode w)))
+  unfolding prescriptionReading
   word-first r = rw (r .range, r .once, r .fit, r .carries)
 
-  pub read-spelled : (ms ms′ : List ℕ) → Ready f es → length ms ≡ messageLen f
-      → (r said : WordAnswer) → r ≡ said → answerAs r ≡ spelledAnswer (f .q) (length ms) (decodeOut f w ms) → ms′ ≡ decodeOut f w ms .message
-      → prescriptionReadOut f es w ≡ afterSpelled refused (λ ds. ofPayload es (payloadIn (f .q) (messageLen f) ds)) (answerAs said) ms′
-  read-spelled ms ms′ ready room r said is e lent =
+  spelled-word : (ms ms′ : List ℕ) → ReadyUnder d es → length ms ≡ d .codec .messageLen
+      → (r said : WordAnswer) → r ≡ said → answerAs r ≡ spelledAnswer (d .codec .alphabet) (length ms) (decodeUnder d w ms) → ms′ ≡ decodeUnder d w ms .message
+      → prescriptionReadUnder d es w ≡ afterSpelled refused (λ ds. ofPayload es (payloadIn (d .codec .alphabet) (d .codec .messageLen) ds)) (answerAs said) ms′
+  spelled-word ms ms′ ready room r said is e lent =
       word-first ready
-      ∙ spelled-decodes refused (λ ds. ofPayload es (payloadIn (f .q) (messageLen f) ds)) f w (prescriptionIn (f .q) (messageLen f) es) (λ a. refl) (λ ss ds. refl)
+      ∙ spelled-decodes refused (λ ds. ofPayload es (payloadIn (d .codec .alphabet) (d .codec .messageLen) ds)) d w (prescriptionIn (d .codec .alphabet) (d .codec .messageLen) es) (λ a. refl) (λ ss ds. refl)
       ms ms′ (ready .range) (ready .fit) room r said is e lent
+
+-- the same by the layout's own q
+pub read-spelled : (l : Layout) (g : Serves l) (es : List Entry) (w ms ms′ : List ℕ) → ReadyUnder (codingIn l) es → length ms ≡ codingIn l .codec .messageLen
+    → (r said : WordAnswer) → r ≡ said → answerAs r ≡ spelledAnswer (l .q) (length ms) (decodeUnder (codingIn l) w ms) → ms′ ≡ decodeUnder (codingIn l) w ms .message
+    → prescriptionReadUnder (codingIn l) es w ≡ afterSpelled refused (λ ds. ofPayload es (payloadIn (l .q) (codingIn l .codec .messageLen) ds)) (answerAs said) ms′
+read-spelled l g es w ms ms′ ready room r said is e lent =
+    let d = codingIn l in
+    let q = numbers-in l g .alphabet-is in
+    spelled-word d es w ms ms′ ready room r said is (e ∙ ap (λ (x : ℕ). spelledAnswer x (length ms) (decodeUnder d w ms)) q) lent
+    ∙ ap (λ (x : ℕ). afterSpelled refused (λ ds. ofPayload es (payloadIn x (d .codec .messageLen) ds)) (answerAs said) ms′) (sym q)
+
+-- 10 for K
+pub read-few : (l : Layout) (es : List Entry) (w : List ℕ) → Laid l es → (count : ℕ) → count ≡ payloadLen (l .q) (l .«message_len») → count < 5
+    → prescriptionReadUnder (codingIn l) es w ≡ refused badPayload
+unfolding prescriptionReading
+read-few l es w h count e few = let order = in-order l (h .serves) in rw (order .0, h .once, order .1, carries-not l es h count e few)
 
 -- ---- The prescription of a payload's text, and the table
 

@@ -16,7 +16,7 @@ use Rattle.jobs.specs.declared.Entry.{Entry}
 use Rattle.jobs.specs.Jobs.{isJob}
 use Rattle.jobs.specs.Table.{twice}
 use Rattle.payloads.specs.Payload.{carriesJob, jobNumber, messageOf}
-use Rattle.jobcodec.specs.JobWrite.{jobStatus, whereOpen, jobWriteOut}
+use Rattle.jobcodec.specs.JobWrite.{jobStatus, whereOpen, jobWriteUnder}
 use Rattle.prescription.specs.declared.texts.Prescription.{Prescription}
 use Rattle.prescription.specs.Eyes.{Prescribed, prescribedOf}
 use Rattle.prescription.specs.Stored.{textOf}
@@ -64,12 +64,12 @@ prescriptionWriteUnder d es at n p out =
     (must (leb minPayload (payloadLen q k)) (unwritten out badPrescription)
     (writePrescribed d es at n (prescribedOf p) out))))))
 
+-- where every other test is passed: the prescription's payload of K bytes, written as a job's
+abbrev pub asJob : Coding → List Entry → Held → ℕ → ℕ → List ℕ → Option Prescribed → Encoded
+asJob d es at n K out none = unwritten out badPrescription
+asJob d es at n K out (some x) = jobWriteUnder d es at (prescriptionPayload K n x) out
+
 -- ---- Under Construction A
 
 unfoldable pub prescriptionWriteOut : Params → List Entry → Held → ℕ → Prescription → List ℕ → Encoded
 prescriptionWriteOut f = prescriptionWriteUnder (coding f)
-
--- where every other test is passed: the prescription's payload of K bytes, written as a job's
-abbrev pub asJob : Params → List Entry → Held → ℕ → ℕ → List ℕ → Option Prescribed → Encoded
-asJob f es at n K out none = unwritten out badPrescription
-asJob f es at n K out (some x) = jobWriteOut f es at (prescriptionPayload K n x) out

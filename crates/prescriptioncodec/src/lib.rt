@@ -2,17 +2,19 @@
 ghost use mathlib.Core.Path.{_≡_};
 ghost use Prim.Native.Nat.{_≤_};
 ghost use lib.ListN.{length};
-ghost use Rattle.construction_a.specs.Outcomes.{unwritten};
-ghost use Rattle.params.specs.Bridge.{given};
+ghost use Rattle.cells.specs.Outcomes.{unwritten};
+ghost use Rattle.params.specs.Bridge.{codingOf};
+ghost use Rattle.params.specs.Given.{codingIn};
 ghost use Rattle.placements.specs.Bridge.{heldAs};
 ghost use Rattle.jobs.specs.Slots.{entries};
 ghost use Rattle.payloads.specs.Payload.{payloadIn};
 ghost use Rattle.jobcodec.specs.Given.{Laid, Readable, Holding};
 ghost use Rattle.prescription.specs.Eyes.{prescribedOf};
-ghost use Rattle.prescriptioncodec.specs.PrescriptionRead.{ofPayload, prescriptionReadOut, readAnswered};
-ghost use Rattle.prescriptioncodec.specs.PrescriptionWrite.{asJob, prescriptionWriteOut};
+ghost use Rattle.prescriptioncodec.specs.PrescriptionRead.{ofPayload, prescriptionReadUnder, readAnswered};
+ghost use Rattle.prescriptioncodec.specs.PrescriptionWrite.{asJob, prescriptionWriteUnder};
 use decoder::WordAnswer;
 use jobs::JobTable;
+use params::Figures;
 use params::Layout;
 use params::LayoutAnswer;
 use params::Params;
@@ -40,37 +42,28 @@ pub enum ReadAnswer {
 
 // Writes a job's number and its prescription into a word. Refusals in order: 1 2 10 3 5 16 17 12 23 14; the word then keeps what it held.
 pub fn prescription_write(
-    figures: Params,
+    figures: Figures,
     table: JobTable,
     at: Placement,
     number: u32,
     prescription: Prescription,
     word: &mut [u8],
 ) -> u8
-    ensures answer { λ r. ⌜ r ≡ prescriptionWriteOut (given figures) (entries table) (heldAs at) number prescription (now (word .entry)) .answer ⌝ }
-    ensures word { λ _. ⌜ now (word .exit) ≡ prescriptionWriteOut (given figures) (entries table) (heldAs at) number prescription (now (word .entry)) .word ⌝ }
+    ensures answer { λ r. ⌜ r ≡ prescriptionWriteUnder (codingOf figures) (entries table) (heldAs at) number prescription (now (word .entry)) .answer ⌝ }
+    ensures word { λ _. ⌜ now (word .exit) ≡ prescriptionWriteUnder (codingOf figures) (entries table) (heldAs at) number prescription (now (word .entry)) .word ⌝ }
 {
     if table.twice() {
         return Refusal::INVALID;
     }
-    let answer = Params::figures(figures.n, figures.q, figures.m, figures.b);
+    let answer = figures.layout();
     match answer {
         LayoutAnswer::Refused(refusal) => refusal,
-        LayoutAnswer::Fit(layout) => write_laid(
-            figures,
-            layout,
-            table,
-            at,
-            number,
-            prescription,
-            word,
-        ),
+        LayoutAnswer::Fit(layout) => write_laid(layout, table, at, number, prescription, word),
     }
 }
 
 // The same for figures that fit. Refusals: 10 3 5 16 17 12 23 14.
 fn write_laid(
-    figures: Params,
     layout: Layout,
     table: JobTable,
     at: Placement,
@@ -78,20 +71,20 @@ fn write_laid(
     prescription: Prescription,
     word: &mut [u8],
 ) -> u8
-    requires { ⌜ Laid (given figures) layout (entries table) ⌝ }
-    ensures { λ r. ⌜ unwritten (now (word .exit)) r ≡ prescriptionWriteOut (given figures) (entries table) (heldAs at) number prescription (now (word .entry)) ⌝ }
+    requires { ⌜ Laid layout (entries table) ⌝ }
+    ensures { λ r. ⌜ unwritten (now (word .exit)) r ≡ prescriptionWriteUnder (codingIn layout) (entries table) (heldAs at) number prescription (now (word .entry)) ⌝ }
 {
     let count = bytes::payload_len(layout.q, layout.message_len);
     if count < jobcodec::MIN_PAYLOAD {
         return Refusal::PAYLOAD;
     }
-    if at.count != figures.m {
+    if at.count as usize != layout.m {
         return Refusal::LENGTH;
     }
     if word.len() != layout.n {
         return Refusal::LENGTH;
     }
-    if !at.apart(figures.n, figures.b) {
+    if !at.apart(layout.n as u32, layout.b as u32) {
         return Refusal::STARTS;
     }
     if count < MIN_PRESCRIBED {
@@ -100,7 +93,7 @@ fn write_laid(
     if count <= SHORT_LEN {
         let mut short = [0u8; SHORT_LEN];
         return write_payload(
-            figures,
+            layout,
             table,
             at,
             number,
@@ -111,7 +104,7 @@ fn write_laid(
     }
     let mut payload = [0u8; MAX_LEN];
     write_payload(
-        figures,
+        layout,
         table,
         at,
         number,
@@ -123,7 +116,7 @@ fn write_laid(
 
 // Makes the payload of a number and a prescription, and writes it as a job's.
 fn write_payload(
-    figures: Params,
+    layout: Layout,
     table: JobTable,
     at: Placement,
     number: u32,
@@ -131,8 +124,8 @@ fn write_payload(
     payload: &mut [u8],
     word: &mut [u8],
 ) -> u8
-    requires { ⌜ 17 ≤ length (now payload) ⌝ }
-    ensures { λ r. ⌜ unwritten (now (word .exit)) r ≡ asJob (given figures) (entries table) (heldAs at) number (length (now (payload .entry))) (now (word .entry)) (prescribedOf prescription) ⌝ }
+    requires { ⌜ Laid layout (entries table) × (17 ≤ length (now payload)) ⌝ }
+    ensures { λ r. ⌜ unwritten (now (word .exit)) r ≡ asJob (codingIn layout) (entries table) (heldAs at) number (length (now (payload .entry))) (now (word .entry)) (prescribedOf prescription) ⌝ }
 {
     let refusal = prescription.write_text(&mut payload[NUMBER_BYTES..]);
     if refusal != Refusal::NONE {
@@ -143,27 +136,27 @@ fn write_payload(
         number as u64,
         &mut payload[..NUMBER_BYTES],
     );
-    jobcodec::job_write(figures, table, at, payload, word)
+    jobcodec::write_laid(layout, table, at, payload, word)
 }
 
 // Hands out the number and the prescription of a found word. Refusals in order: 1 2, 10 for too few bytes, 3 4 7 19 8 9 19, 10, 16, 12 23 14.
-pub fn prescription_read(figures: Params, table: JobTable, word: &[u8]) -> ReadAnswer
-    ensures { λ r. ⌜ readAnswered r ≡ prescriptionReadOut (given figures) (entries table) (now (word .entry)) ⌝ }
+pub fn prescription_read(figures: Figures, table: JobTable, word: &[u8]) -> ReadAnswer
+    ensures { λ r. ⌜ readAnswered r ≡ prescriptionReadUnder (codingOf figures) (entries table) (now (word .entry)) ⌝ }
 {
     if table.twice() {
         return ReadAnswer::Refused(Refusal::INVALID);
     }
-    let answer = Params::figures(figures.n, figures.q, figures.m, figures.b);
+    let answer = figures.layout();
     match answer {
         LayoutAnswer::Refused(number) => ReadAnswer::Refused(number),
-        LayoutAnswer::Fit(layout) => read_laid(figures, layout, table, word),
+        LayoutAnswer::Fit(layout) => read_laid(layout, table, word),
     }
 }
 
 // The same for figures that fit. Refusals: 10 for too few bytes, 3 4 7 19 8 9 19, 10, 16, 12 23 14.
-fn read_laid(figures: Params, layout: Layout, table: JobTable, word: &[u8]) -> ReadAnswer
-    requires { ⌜ Laid (given figures) layout (entries table) ⌝ }
-    ensures { λ r. ⌜ readAnswered r ≡ prescriptionReadOut (given figures) (entries table) (now (word .entry)) ⌝ }
+fn read_laid(layout: Layout, table: JobTable, word: &[u8]) -> ReadAnswer
+    requires { ⌜ Laid layout (entries table) ⌝ }
+    ensures { λ r. ⌜ readAnswered r ≡ prescriptionReadUnder (codingIn layout) (entries table) (now (word .entry)) ⌝ }
 {
     let k = layout.message_len;
     let count = bytes::payload_len(layout.q, k);
@@ -173,12 +166,12 @@ fn read_laid(figures: Params, layout: Layout, table: JobTable, word: &[u8]) -> R
     if k <= SHORT_LEN {
         let mut short = [0u8; SHORT_LEN];
         let mut bytes = [0u8; SHORT_LEN];
-        return read_message(figures, table, word, &mut short[..k], &mut bytes[..count]);
+        return read_message(layout, table, word, &mut short[..k], &mut bytes[..count]);
     }
     let mut message = [0u8; MAX_LEN];
     let mut payload = [0u8; MAX_LEN];
     read_message(
-        figures,
+        layout,
         table,
         word,
         &mut message[..k],
@@ -188,19 +181,19 @@ fn read_laid(figures: Params, layout: Layout, table: JobTable, word: &[u8]) -> R
 
 // The reader goes on only with an accepted word that spells a payload. Refusals: 3 4 7 19 8 9 19, 10, 16, 12 23 14.
 fn read_message(
-    figures: Params,
+    layout: Layout,
     table: JobTable,
     word: &[u8],
     message: &mut [u8],
     payload: &mut [u8],
 ) -> ReadAnswer
-    requires { ⌜ Readable (given figures) (entries table) (now message) (now payload) ⌝ }
-    ensures { λ r. ⌜ readAnswered r ≡ prescriptionReadOut (given figures) (entries table) (now (word .entry)) ⌝ }
+    requires { ⌜ Readable layout (entries table) (now message) (now payload) ⌝ }
+    ensures { λ r. ⌜ readAnswered r ≡ prescriptionReadUnder (codingIn layout) (entries table) (now (word .entry)) ⌝ }
 {
-    let answer = jobcodec::read_spelled(figures, word, message);
+    let answer = jobcodec::read_spelled(layout, word, message);
     match answer {
         WordAnswer::Refused(number) => ReadAnswer::Refused(number),
-        WordAnswer::Accepted(_) => { hand_out(table, figures.q as u64, message, payload) }
+        WordAnswer::Accepted(_) => { hand_out(table, layout.q, message, payload) }
     }
 }
 

@@ -1,5 +1,5 @@
 -- A word that is damaged inside its bursts reads back. Assumes nothing.
-use mathlib.Core.Path.{_≡_, sym, ap, _∙_}
+use mathlib.Core.Path.{_≡_, refl, sym, ap, _∙_}
 use mathlib.Core.Bool.{Bool, true, false, cond}
 use mathlib.Core.List.{List}
 use Prim.Native.Nat.{ℕ, _≤_, _<_}
@@ -12,15 +12,18 @@ use Rattle.combinatorics.specs.Lists.{allBelow}
 use Rattle.combinatorics.proofs.Cases.{by-bool}
 use Rattle.combinatorics.proofs.Lists.{both, below-at, at-below}
 use Rattle.combinatorics.proofs.Stretch.{length-tabulate, tabulate-at}
-use Rattle.cells.specs.Codec.{LeadsTo}
-use Rattle.cells.specs.Erasures.{foundBound}
+use Rattle.cells.specs.Codec.{LeadsTo, ReadsExactly}
+use Rattle.cells.specs.Outcomes.{Coding, maxBursts, Held, inUse, Encoded, encodeUnder, decodedFrom, decodeUnder}
 use Rattle.cells.proofs.Erasures.{found-least}
-use Rattle.construction_a.specs.DemandTwo.{constructionA}
-use Rattle.construction_a.specs.Figures.{Params, isPlacement}
-use Rattle.construction_a.specs.Outcomes.{coding, Held, inUse, Encoded, encodeOut, decodeAs, decodeOut}
-use Rattle.construction_a.specs.Writing.{word}
-use Rattle.construction_a.proofs.DemandTwo.{exact, writes}
-use Rattle.construction_a.proofs.Figures.{Served, serve}
+use Rattle.construction_a.specs.Figures as AFigures
+use Rattle.construction_a.proofs.DemandTwo as A
+use Rattle.construction_b.specs.Figures as BFigures
+use Rattle.construction_b.proofs.DemandTwo as B
+use Rattle.params.specs.Bridge.{given, givenLong, codingOf}
+use Rattle.params.specs.declared.Figures.{Figures}
+use Rattle.params.specs.declared.Figures.the-variants.{Ranked, Long}
+use Rattle.params.proofs.Either.{small}
+use Rattle.decoder.specs.DemandTwo.{ListedIn}
 use Rattle.encoder.proofs.Outcomes.{encode-served}
 use Rattle.decoder.proofs.Calls.{decode-read}
 use Rattle.roundtrip.specs.Damage.{damaged}
@@ -45,47 +48,67 @@ module _ (spoilt : ℕ → Bool) (ds w : List ℕ) where
       (λ x l. rw (damaged-at x (omega (arith, damaged-length)))
       (by-bool (spoilt x) (λ e. rw e (below-at bound ds (omega arith) d x)) (λ e. rw e (omega (arith, below-at q w some s x)))))
 
-module _ (f : Params) (at : Held) (ms ds w out : List ℕ) (h : Writable f at ms ds w out) where
-  ok : Served f
-  ok = serve f (h .range) (h .fit)
+-- ---- What either construction gives
 
-  valid : apart (f .b) (f .n) 0 (inUse at) ≡ true
-  unfolding isPlacement
-  valid = both (eqb (length (inUse at)) (f .m)) (apart (f .b) (f .n) 0 (inUse at)) (h .placed) .1
+reads : (f : Figures) → codingOf f .inRange ≡ true → codingOf f .fits ≡ true → ReadsExactly (codingOf f .codec) (ListedIn f)
+reads (Ranked p) = A.demand-two (given p)
+reads (Long p) = B.demand-two (givenLong p)
 
-  pub is-written : encodeOut f at ms w .word ≡ word f (inUse at) ms
-  unfolding encodeOut
-  is-written = ap (λ (o : Encoded). o .word) (encode-served (coding f) at ms w (h .range) (h .fit) (h .count) (h .sent) (h .word-len) valid (h .symbols))
+-- starts of a placement are apart
+apart-of : (f : Figures) (ss : List ℕ) → codingOf f .codec .placed ss ≡ true → apart (codingOf f .burstLen) (codingOf f .codec .wordLen) 0 ss ≡ true
+unfolding AFigures.isPlacement BFigures.isPlacement
+apart-of (Ranked p) ss e = both (eqb (length ss) (p .m)) (apart (p .b) (p .n) 0 ss) e .1
+apart-of (Long p) ss e = both (eqb (length ss) 1) (apart (p .b) (p .n) 0 ss) e .1
+
+-- every symbol can be found
+more-found : (f : Figures) → codingOf f .codec .alphabet ≤ codingOf f .codec .foundBound
+more-found (Ranked p) = found-least (p .q)
+more-found (Long p) = found-least (p .q)
+
+spoilt-is : (f : Figures) (ss : List ℕ) (x : ℕ) → codingOf f .codec .spoilt ss x ≡ inBurst (codingOf f .burstLen) ss x
+spoilt-is (Ranked p) ss x = refl
+spoilt-is (Long p) ss x = refl
+
+module _ (f : Figures) (at : Held) (ms ds w out : List ℕ) (h : Writable (codingOf f) at ms ds w out) where
+  abbrev d : Coding
+  d = codingOf f
+
+  pub is-written : encodeUnder (codingOf f) at ms w .word ≡ codingOf f .codec .encode (inUse at) ms
+  is-written =
+      ap (λ (o : Encoded). o .word) (encode-served d at ms w (h .range) (h .fit) (h .count) (h .sent) (h .word-len) (apart-of f (inUse at) (h .placed)) (h .symbols))
 
   -- what is written, and what is found once it is damaged
   abbrev codeword : List ℕ
-  codeword = word f (inUse at) ms
+  codeword = codingOf f .codec .encode (inUse at) ms
 
   abbrev found : List ℕ
-  found = damaged (inBurst (f .b) (inUse at)) ds codeword
+  found = damaged (inBurst (codingOf f .burstLen) (inUse at)) ds codeword
 
-  pub written-len : length codeword ≡ f .n
-  written-len = writes f ok (inUse at) ms (h .placed) (h .sent) (h .symbols) .0
+  pub few-bursts : at .count ≤ maxBursts
+  few-bursts = omega (arith, h .count, small f (h .range) .bursts-most)
 
-  found-len : length found ≡ f .n
-  found-len = damaged-length (inBurst (f .b) (inUse at)) ds codeword ∙ written-len
+  pub written-len : length codeword ≡ codingOf f .codec .wordLen
+  written-len = reads f (h .range) (h .fit) .written (inUse at) ms (h .placed) (h .sent) (h .symbols) .0
 
-  found-below : allBelow (foundBound (f .q)) found ≡ true
+  found-len : length found ≡ d .codec .wordLen
+  found-len = damaged-length (inBurst (d .burstLen) (inUse at)) ds codeword ∙ written-len
+
+  found-below : allBelow (d .codec .foundBound) found ≡ true
   found-below =
-      damaged-below (inBurst (f .b) (inUse at)) ds codeword (f .q) (foundBound (f .q)) (omega (arith, ok .range .q-least)) (found-least (f .q)) (h .damage-symbols)
-      (writes f ok (inUse at) ms (h .placed) (h .sent) (h .symbols) .1)
+      damaged-below (inBurst (d .burstLen) (inUse at)) ds codeword (d .codec .alphabet) (d .codec .foundBound) (omega (arith, small f (h .range) .alphabet-least)) (more-found f)
+      (h .damage-symbols)
+      (reads f (h .range) (h .fit) .written (inUse at) ms (h .placed) (h .sent) (h .symbols) .1)
 
-  leads : LeadsTo (constructionA f) found (inUse at) ms
+  leads : LeadsTo (d .codec) found (inUse at) ms
   leads =
       record {
         placement = h .placed;
         count = h .sent;
         symbols = h .symbols;
-        outside = λ x l e. sound (inBurst (f .b) (inUse at)) ds codeword x (omega (arith, written-len)) e;
+        outside = λ x l e. sound (inBurst (d .burstLen) (inUse at)) ds codeword x (omega (arith, written-len)) (sym (spoilt-is f (inUse at) x) ∙ e);
       }
 
-  pub reads-back : decodeOut f found out ≡ readBack f (inUse at) ms
-  unfolding decodeOut
+  pub reads-back : decodeUnder (codingOf f) found out ≡ readBack (codingOf f) (inUse at) ms
   reads-back =
-      decode-read (coding f) found out (h .range) (h .fit) found-len (h .read-len) found-below
-      ∙ ap (decodeAs f out) (exact f ok found (inUse at) ms (record { complete = found-len; symbols = found-below }) .1 leads)
+      decode-read d found out (h .range) (h .fit) found-len (h .read-len) found-below
+      ∙ ap (decodedFrom (d .burstLen) out) (reads f (h .range) (h .fit) .exactly found (inUse at) ms (record { complete = found-len; symbols = found-below }) .1 leads)

@@ -6,23 +6,21 @@ use Prim.Native.Nat.{ℕ}
 use lib.ListN.{length}
 use Rattle.combinatorics.specs.Lists.{allBelow}
 use Rattle.cells.specs.Codec.{accepted}
-use Rattle.cells.specs.Erasures.{foundBound}
-use Rattle.construction_a.specs.Figures.{Params, inRange, fits, isPlacement, messageLen}
-use Rattle.construction_a.specs.Outcomes.{Held, inUse, Decoded, decodeAs}
+use Rattle.cells.specs.Outcomes.{Coding, Held, inUse, Decoded, decodedFrom}
 
 -- figures that fit, a placement, a message, any value up to q as damage, and room for the word and for what is read
-pub record Writable (f : Params) (at : Held) (ms ds w out : List ℕ) : Type 0 where
-  pub range : inRange f ≡ true
-  pub fit : fits f ≡ true
-  pub count : at .count ≡ f .m
-  pub placed : isPlacement f (inUse at) ≡ true
-  pub sent : length ms ≡ messageLen f
-  pub symbols : allBelow (f .q) ms ≡ true
-  pub damage-len : length ds ≡ f .n
-  pub damage-symbols : allBelow (foundBound (f .q)) ds ≡ true
-  pub word-len : length w ≡ f .n
-  pub read-len : length out ≡ messageLen f
+pub record Writable (d : Coding) (at : Held) (ms ds w out : List ℕ) : Type 0 where
+  pub range : d .inRange ≡ true
+  pub fit : d .fits ≡ true
+  pub count : at .count ≡ d .bursts
+  pub placed : d .codec .placed (inUse at) ≡ true
+  pub sent : length ms ≡ d .codec .messageLen
+  pub symbols : allBelow (d .codec .alphabet) ms ≡ true
+  pub damage-len : length ds ≡ d .codec .wordLen
+  pub damage-symbols : allBelow (d .codec .foundBound) ds ≡ true
+  pub word-len : length w ≡ d .codec .wordLen
+  pub read-len : length out ≡ d .codec .messageLen
 
 -- accepted, with the rank and the starts of the placement, and the message that was written
-abbrev pub readBack : Params → List ℕ → List ℕ → Decoded
-readBack f ss ms = decodeAs f ms (accepted ss ms)
+abbrev pub readBack : Coding → List ℕ → List ℕ → Decoded
+readBack d ss ms = decodedFrom (d .burstLen) ms (accepted ss ms)

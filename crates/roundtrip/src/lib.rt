@@ -1,35 +1,43 @@
 // Writing, damage inside the bursts and reading back, as one function on lent buffers. Assumes nothing.
 ghost use mathlib.Core.Path.{_≡_};
 ghost use Rattle.combinatorics.specs.Bursts.{inBurst};
-ghost use Rattle.construction_a.specs.Writing.{word as wordOf};
-ghost use Rattle.params.specs.Bridge.{given};
+ghost use Rattle.params.specs.Bridge.{codingOf};
 ghost use Rattle.placements.specs.Bridge.{heldAs, startsIn};
 ghost use Rattle.decoder.specs.Answer.{decodedAs};
 ghost use Rattle.roundtrip.specs.Damage.{Damaging, damaged};
 ghost use Rattle.roundtrip.specs.RoundTrip.{Writable, readBack};
 use decoder::Decoded;
 use params::Figures;
-use params::Params;
 use placements::Placement;
 use placements::bursts::in_burst;
 
 // Demand 2 run as code: writes the word of a placement and a message, puts any values up to q into its bursts, and reads what is then
 // found. No entry point: what it asks for is what `encode` serves, so that the answer of `encode` is 0.
 pub fn round_trip(
-    figures: Params,
+    figures: Figures,
     at: Placement,
     message: &[u8],
     damage: &[u8],
     word: &mut [u8],
     read: &mut [u8],
 ) -> Decoded
-    requires { ⌜ Writable (given figures) (heldAs at) (now message) (now damage) (now word) (now read) ⌝ }
-    ensures word { λ _. ⌜ now (word .exit) ≡ damaged (inBurst (figures .b) (startsIn at)) (now (damage .entry)) (wordOf (given figures) (startsIn at) (now (message .entry))) ⌝ }
-    ensures read { λ r. ⌜ decodedAs r (now (read .exit)) ≡ readBack (given figures) (startsIn at) (now (message .entry)) ⌝ }
+    requires { ⌜ Writable (codingOf figures) (heldAs at) (now message) (now damage) (now word) (now read) ⌝ }
+    ensures word { λ _. ⌜ now (word .exit) ≡ damaged (inBurst (codingOf figures .burstLen) (startsIn at)) (now (damage .entry)) (codingOf figures .codec .encode (startsIn at) (now (message .entry))) ⌝ }
+    ensures read { λ r. ⌜ decodedAs r (now (read .exit)) ≡ readBack (codingOf figures) (startsIn at) (now (message .entry)) ⌝ }
 {
-    encoder::encode(Figures::Ranked(figures), at, message, word);
-    spoil(at, figures.b, damage, word);
-    decoder::decode(Figures::Ranked(figures), word, read)
+    encoder::encode(figures, at, message, word);
+    spoil(at, burst_len(figures), damage, word);
+    decoder::decode(figures, word, read)
+}
+
+// b of figures of either construction.
+fn burst_len(figures: Figures) -> u32
+    ensures { λ r. ⌜ r ≡ codingOf figures .burstLen ⌝ }
+{
+    match figures {
+        Figures::Ranked(given) => given.b,
+        Figures::Long(given) => given.b,
+    }
 }
 
 // The symbols of `damage` stand in the word wherever a burst has its position.

@@ -21,6 +21,7 @@ ghost use Rattle.transfer.specs.Steps.{writeOut, readOut, serveOut, step
 ghost use Rattle.records.specs.Bridge.{lastFigures, sessionOf};
 ghost use Rattle.transfer.specs.Bridge.{Ready, Shown, Laid, Whole};
 use jobs::JobTable;
+use params::Figures;
 use params::Layout;
 use params::LayoutAnswer;
 use params::Params;
@@ -215,7 +216,7 @@ fn write_word(
     ensures { λ r. ⌜ Shown r (now (line .entry)) (now (line .exit)) (writeStep (sessionOf session) (jobWriteOut (given figures) (entries (session .table)) (heldAs at) (now (payload .entry)) (now (word .entry)))) ⌝ }
 {
     let table = session.table;
-    let answer = jobcodec::job_write(figures, table, at, payload, word);
+    let answer = jobcodec::job_write(Figures::Ranked(figures), table, at, payload, word);
     if answer != Refusal::NONE {
         return counted(session, lines::put_refusal(line, b'W', answer));
     }
@@ -274,7 +275,7 @@ fn read_payload(
     ensures { λ r. ⌜ Shown r (now (line .entry)) (now (line .exit)) (readStep (sessionOf session) (jobReadOut (given figures) (entries (session .table)) (now (word .entry)) (now (payload .entry)))) ⌝ }
 {
     let table = session.table;
-    let answer = jobcodec::job_read(figures, table, word, payload);
+    let answer = jobcodec::job_read(Figures::Ranked(figures), table, word, payload);
     if answer != Refusal::NONE {
         return counted(session, lines::put_refusal(line, b'R', answer));
     }

@@ -19,6 +19,7 @@ same-length : tie.Need-same-length
 same-length c = search needs
 
 returns : tie.Need-returns
+unfolding encodeOut
 returns c =
     let a = c .before .before .before .before .before .before .before .before .args in
     let f = params (a .n) (a .q) (a .m) (a .b) in

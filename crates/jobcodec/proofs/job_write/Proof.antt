@@ -1,11 +1,12 @@
 -- `job_write` meets its contract. Assumes nothing.
 use mathlib.Core.Path.{_≡_, sym, ap, _∙_}
 use borrow.Author.Needs.{needs}
-use Rattle.construction_a.specs.Outcomes.{Encoded}
-use Rattle.params.specs.Bridge.{given}
-use Rattle.params.proofs.Answered.{refused-learnt}
+use Rattle.cells.specs.Outcomes.{Coding, Encoded}
+use Rattle.params.specs.Answer.{figuredAs}
+use Rattle.params.specs.Bridge.{codingOf}
 use Rattle.placements.specs.Bridge.{heldAs}
 use Rattle.jobs.specs.Slots.{entries}
+use Rattle.jobcodec.specs.JobWrite.{jobWriteUnder}
 use Rattle.jobcodec.proofs.Calls.{write-twice, write-unfit, laid}
 use Rattle.jobcodec.proofs.job_write.Statement.{statement}
 use Rattle.jobcodec.proofs.job_write.Tie as tie
@@ -20,10 +21,10 @@ twice-requires c κs = search needs
 returns : tie.Need-returns
 returns c =
     let a = c .before .before .before .before .args in
-    each (sym (write-twice (given (a .figures)) (entries (a .table)) (heldAs (a .at)) (a .payload .now) (a .word .now) (sym (c .before .twice .ensures) ∙ c .if1 .taken)))
+    each (sym (write-twice (codingOf (a .figures)) (entries (a .table)) (heldAs (a .at)) (a .payload .now) (a .word .now) (sym (c .before .twice .ensures) ∙ c .if1 .taken)))
 
-figures-requires : tie.Need-figures-requires
-figures-requires c κs = search needs
+layout-requires : tie.Need-layout-requires
+layout-requires c κs = search needs
 
 enum-known-answer : tie.Need-enum-known-answer
 enum-known-answer c = search needs
@@ -35,23 +36,28 @@ write-laid-requires : tie.Need-write-laid-requires
 write-laid-requires c κs =
     let a = c .before .before .before .before .before .before .before .before .before .args in
     let told = c .before .before .answer2 .given in
-    let figured = c .before .before .before .before .figures in
-    laid (given (a .figures)) (entries (a .table)) (figured .result) (told .0 .0) (told .1) (figured .ensures .0) (figured .ensures .1) (sym (c .before .before .before .before .before .before .twice .ensures) ∙ c .before .before .before .before .before .if1 .left)
+    let figured = c .before .before .before .before .layout in
+    laid (a .figures) (entries (a .table)) (figured .result) (told .0 .0) (told .1) (figured .ensures .0) (figured .ensures .1) (sym (c .before .before .before .before .before .before .twice .ensures) ∙ c .before .before .before .before .before .if1 .left) .1
 
 returns-2 : tie.Need-returns-2
 returns-2 c =
     let a = c .before .before .before .before .before .before .before .before .args in
-    let f = given (a .figures) in
+    let f = codingOf (a .figures) in
     let told = c .before .answer .given in
-    let figured = c .before .before .before .figures in
+    let figured = c .before .before .before .layout in
     each (sym (write-unfit f (entries (a .table)) (heldAs (a .at)) (a .payload .now) (a .word .now) (told .0 .0) (sym (c .before .before .before .before .before .twice .ensures) ∙ c .before .before .before .before .if1 .left)
-    (refused-learnt f (figured .result) (told .0 .0) (told .1) (figured .ensures .0))))
+    (sym (figured .ensures .0) ∙ ap figuredAs (told .1))))
 
 same-length : tie.Need-same-length
 same-length c = search needs
 
 returns-3 : tie.Need-returns-3
-returns-3 c = each (c .before .before .write-laid .ensures)
+returns-3 c =
+    let a = c .before .before .before .before .before .before .before .before .before .before .before .before .args in
+    let told = c .before .before .before .before .before .answer2 .given in
+    let figured = c .before .before .before .before .before .before .before .layout in
+    let same = laid (a .figures) (entries (a .table)) (figured .result) (told .0 .0) (told .1) (figured .ensures .0) (figured .ensures .1) (sym (c .before .before .before .before .before .before .before .before .before .twice .ensures) ∙ c .before .before .before .before .before .before .before .before .if1 .left) .0 in
+    each (c .before .before .write-laid .ensures ∙ ap (λ (d : Coding). jobWriteUnder d (entries (a .table)) (heldAs (a .at)) (a .payload .now) (a .word .now)) same)
 
 pub job-write-spec : {M : Type 1} → statement M
 job-write-spec =
@@ -59,7 +65,7 @@ job-write-spec =
     (tie.spec
     twice-requires
     returns
-    figures-requires
+    layout-requires
     enum-known-answer
     enum-known-answer-2
     write-laid-requires

@@ -6,52 +6,50 @@ use borrow.Author.Needs.{needs}
 use lib.ListN.{take, replicate}
 use lib.Seq.{length-take-le}
 use Rattle.construction_a.specs.Figures.{maxWord}
-use Rattle.params.specs.Bridge.{given}
-use Rattle.params.specs.Given.{shortWord}
+use Rattle.params.specs.Given.{shortWord, codingIn}
 use Rattle.jobs.specs.Slots.{entries}
 use Rattle.jobcodec.specs.Given.{Readable}
-use Rattle.jobcodec.proofs.Calls.{laid-bounds, bytes-are, message-short, room-is, ready, read-few, read-length}
+use Rattle.jobcodec.proofs.Calls.{alphabet-few, bytes-are, message-short, room-is, ready, read-few, read-length}
 use Rattle.jobcodec.proofs.read_laid.Statement.{statement}
 use Rattle.jobcodec.proofs.read_laid.Tie as tie
 
 payload-len-requires : tie.Need-payload-len-requires
 payload-len-requires c κs =
     let s = c .before .before in
-    laid-bounds (given (s .args .figures)) (s .args .layout) (entries (s .args .table)) (s .pre) .q-most
+    alphabet-few (s .args .layout) (entries (s .args .table)) (s .pre)
 
 returns : tie.Need-returns
 returns c =
     let s = c .before .before .before .before in
-    sym (read-few (given (s .args .figures)) (s .args .layout) (entries (s .args .table)) (s .pre) (s .args .word .now) (s .args .payload .now) (c .before .payload-len .result) (c .before .payload-len .ensures) (c .if1 .taken))
+    sym (read-few (s .args .layout) (entries (s .args .table)) (s .pre) (s .args .word .now) (s .args .payload .now) (c .before .payload-len .result) (c .before .payload-len .ensures) (c .if1 .taken))
 
 returns-2 : tie.Need-returns-2
 returns-2 c =
     let s = c .before .before .before .before .before in
-    let f = given (s .args .figures) in
     let l = s .args .layout in
     let es = entries (s .args .table) in
     let count = c .before .before .payload-len .result in
     let e = c .before .before .payload-len .ensures in
-    sym (read-length f es (s .args .word .now) (s .args .payload .now) (ready f l es (s .pre) count e (omega (arith, c .before .if1 .left))) (λ d. c .if2 .taken (d ∙ sym (bytes-are f l es (s .pre) count e))))
+    sym (read-length (codingIn l) es (s .args .word .now) (s .args .payload .now) (ready l es (s .pre) count e (omega (arith, c .before .if1 .left))) (λ d. c .if2 .taken (d ∙ sym (bytes-are l es (s .pre) count e))))
 
 -- a message that is lent in an array with room for it
 readable : (c : tie.Else2) (room : ℕ) → (let a = c .before .before .before .before .before .args in a .layout .«message_len» ≤ room
-    → Readable (given (a .figures)) (entries (a .table)) (take {A = ℕ} (a .layout .«message_len») (replicate room 0)) (a .payload .now))
+    → Readable (a .layout) (entries (a .table)) (take {A = ℕ} (a .layout .«message_len») (replicate room 0)) (a .payload .now))
 readable c room le =
     let s = c .before .before .before .before .before in
-    let f = given (s .args .figures) in
     let l = s .args .layout in
     let es = entries (s .args .table) in
     let count = c .before .before .payload-len .result in
     let e = c .before .before .payload-len .ensures in
     record {
-      ready = ready f l es (s .pre) count e (omega (arith, c .before .if1 .left));
-      room = room-is f l es (s .pre) room le;
-      lent = c .if2 .left ∙ bytes-are f l es (s .pre) count e;
+      serves = s .pre .serves;
+      ready = ready l es (s .pre) count e (omega (arith, c .before .if1 .left));
+      room = room-is l es (s .pre) room le;
+      lent = c .if2 .left ∙ bytes-are l es (s .pre) count e;
     }
 
 longest : (s : tie.Start) → s .args .layout .«message_len» ≤ maxWord
-longest s = message-short (given (s .args .figures)) (s .args .layout) (entries (s .args .table)) (s .pre)
+longest s = message-short (s .args .layout) (entries (s .args .table)) (s .pre)
 
 array-borrow-prefix-short : tie.Need-array-borrow-prefix-short
 array-borrow-prefix-short c = search needs

@@ -1,13 +1,14 @@
 -- `read_spelled` meets its contract: the decoder's answer, and 10 where an accepted word's message spells no payload. Assumes nothing.
 use mathlib.Core.Path.{_≡_, sym, ap, _∙_}
 use mathlib.Core.List.{List}
-use Prim.Native.Nat.{ℕ}
+use Prim.Native.Nat.{ℕ, _≤_}
 use borrow.Author.Needs.{needs}
 use borrow.Author.Tests.{not-true, not-false}
 use lib.ListN.{length}
-use Rattle.construction_a.specs.Outcomes.{Decoded as Outcome, decodeOut}
-use Rattle.construction_a.proofs.Figures.{ranged}
-use Rattle.params.specs.Bridge.{given}
+use Rattle.cells.specs.Outcomes.{Decoded as Outcome, decodeUnder}
+use Rattle.params.specs.Given.{codingIn}
+use Rattle.params.proofs.Either.{in-shape}
+use Rattle.params.proofs.Shape.{bound}
 use Rattle.payloads.specs.Payload.{spellsPayload}
 use Rattle.decoder.specs.declared.Decoded.{Decoded}
 use Rattle.decoder.specs.declared.WordAnswer.{WordAnswer}
@@ -22,17 +23,22 @@ message d = d .message
 -- what the contract says, from what the decoder answered
 module _ (s : tie.Start) where
   abbrev q : ℕ
-  q = s .args .figures .q
+  q = s .args .layout .q
 
   abbrev k : ℕ
   k = length (s .args .message .now)
 
-  told : (d : Decoded) (ms : List ℕ) (said : WordAnswer) → d .answer ≡ said → decodedAs d ms ≡ decodeOut (given (s .args .figures)) (s .args .word .now) (s .args .message .now)
-      → spelledAs q k ms (answerAs said) ≡ spelledAnswer q k (decodeOut (given (s .args .figures)) (s .args .word .now) (s .args .message .now))
+  abbrev found : Outcome
+  found = decodeUnder (codingIn (s .args .layout)) (s .args .word .now) (s .args .message .now)
+
+  few : (2 ≤ q) × (q ≤ 256)
+  few = let l = s .args .layout in let is = bound l (in-shape l (s .pre)) in (is .q-least, is .q-most)
+
+  told : (d : Decoded) (ms : List ℕ) (said : WordAnswer) → d .answer ≡ said → decodedAs d ms ≡ found → spelledAs q k ms (answerAs said) ≡ spelledAnswer q k found
   told d ms said e is = ap (λ (a : WordAnswer). spelledAs q k ms (answerAs a)) (sym e) ∙ ap (spelledAnswer q k) is
 
-decode-requires : tie.Need-decode-requires
-decode-requires c κs = search needs
+decode-fitting-requires : tie.Need-decode-fitting-requires
+decode-fitting-requires c κs = search needs
 
 enum-known-answer : tie.Need-enum-known-answer
 enum-known-answer c = search needs
@@ -46,59 +52,54 @@ same-length c = search needs
 returns : tie.Need-returns
 returns c =
     let s = c .before .before .before .before .before .before .before .before in
-    let d = c .before .before .before .before .decode in
+    let d = c .before .before .before .before .decode-fitting in
     let is = c .enum-told .given .1 in
-    (ap answerAs is ∙ told s (d .result) (d .last .1 .1 .0) _ is (d .ensures .0), ap message (d .ensures .0))
-
-cast-q : tie.Need-cast-q
-cast-q c = search needs
+    (ap answerAs is ∙ told s (d .result) (d .last .1 .1 .0) _ is (d .ensures), ap message (d .ensures))
 
 payload-len-requires : tie.Need-payload-len-requires
-payload-len-requires c κs = let s = c .before .before .before .before .before .before .before .before .before .before in ranged (given (s .args .figures)) (s .pre) .q-most
+payload-len-requires c κs = few (c .before .before .before .before .before .before .before .before .before) .1
 
 byte-width-requires : tie.Need-byte-width-requires
-byte-width-requires c κs = let s = c .before .before .before .before .before .before .before .before .before .before .before in ranged (given (s .args .figures)) (s .pre) .q-most
+byte-width-requires c κs = few (c .before .before .before .before .before .before .before .before .before .before) .1
 
 spells-requires : tie.Need-spells-requires
 spells-requires c κs =
-    let s = c .before .before .before .before .before .before .before .before .before .before .before .before .before in
-    let r = ranged (given (s .args .figures)) (s .pre) in
-    record { alphabet = r .q-least; bytes = r .q-most; width-is = c .before .byte-width .ensures; count-is = c .before .before .payload-len .ensures }
+    let s = c .before .before .before .before .before .before .before .before .before .before .before .before in
+    record { alphabet = few s .0; bytes = few s .1; width-is = c .before .byte-width .ensures; count-is = c .before .before .payload-len .ensures }
 
 same-length-2 : tie.Need-same-length-2
 same-length-2 c = search needs
 
 returns-2 : tie.Need-returns-2
 returns-2 c =
-    let s = c .before .before .before .before .before .before .before .before .before .before .before .before .before .before .before in
-    let d = c .before .before .before .before .before .before .before .before .before .before .before .decode in
+    let s = c .before .before .before .before .before .before .before .before .before .before .before .before .before .before in
+    let d = c .before .before .before .before .before .before .before .before .before .before .decode-fitting in
     let ms = d .last .1 .1 .0 in
     let same : length ms ≡ k s = search needs in
     let spelled = ap (λ (x : ℕ). spellsPayload (q s) x ms) (sym same) ∙ sym (c .before .spells .ensures) ∙ not-true _ (c .if1 .taken) in
-    (rw (← told s (d .result) ms _ (c .before .before .before .before .before .before .before .answer .given .1) (d .ensures .0), spelled), ap message (d .ensures .0))
+    (rw (← told s (d .result) ms _ (c .before .before .before .before .before .before .answer .given .1) (d .ensures), spelled), ap message (d .ensures))
 
 same-length-3 : tie.Need-same-length-3
 same-length-3 c = search needs
 
 returns-3 : tie.Need-returns-3
 returns-3 c =
-    let s = c .before .before .before .before .before .before .before .before .before .before .before .before .before .before .before in
-    let d = c .before .before .before .before .before .before .before .before .before .before .before .decode in
+    let s = c .before .before .before .before .before .before .before .before .before .before .before .before .before .before in
+    let d = c .before .before .before .before .before .before .before .before .before .before .decode-fitting in
     let ms = d .last .1 .1 .0 in
     let same : length ms ≡ k s = search needs in
     let spelled = ap (λ (x : ℕ). spellsPayload (q s) x ms) (sym same) ∙ sym (c .before .spells .ensures) ∙ not-false _ (c .if1 .left) in
-    (rw (← told s (d .result) ms _ (c .before .before .before .before .before .before .before .answer .given .1) (d .ensures .0), spelled), ap message (d .ensures .0))
+    (rw (← told s (d .result) ms _ (c .before .before .before .before .before .before .answer .given .1) (d .ensures), spelled), ap message (d .ensures))
 
 pub read-spelled-spec : {M : Type 1} → statement M
 read-spelled-spec =
     tie.close
     (tie.spec
-    decode-requires
+    decode-fitting-requires
     enum-known-answer
     enum-told
     same-length
     returns
-    cast-q
     payload-len-requires
     byte-width-requires
     spells-requires

@@ -1,5 +1,5 @@
 -- `write_laid` meets its contract: what is refused keeps the word, and what is not is written. Assumes nothing.
-use mathlib.Core.Path.{_≡_, sym, ap, _∙_}
+use mathlib.Core.Path.{_≡_, sym, ap, ap₂, _∙_}
 use Prim.Native.Nat.{ℕ, _≤_}
 use native.Mathlib.Omega.{arith}
 use borrow.Author.Needs.{needs}
@@ -7,26 +7,27 @@ use lib.ListN.{length, take, replicate}
 use lib.Seq.{length-take-le}
 use Rattle.combinatorics.proofs.Lists.{at-below}
 use Rattle.cells.specs.Bytes.{byteValues, payloadLen}
-use Rattle.construction_a.specs.Figures.{maxWord, messageLen}
-use Rattle.construction_a.specs.Outcomes.{unwritten, encodeOut}
-use Rattle.params.specs.Bridge.{given}
-use Rattle.params.specs.Given.{shortWord}
+use Rattle.cells.specs.Outcomes.{unwritten, encodeUnder}
+use Rattle.construction_a.specs.Figures.{maxWord}
+use Rattle.params.specs.Given.{shortWord, codingIn}
+use Rattle.params.proofs.Either.{numbers-in}
 use Rattle.placements.specs.Bridge.{heldAs}
 use Rattle.jobs.specs.Slots.{entries}
 use Rattle.payloads.specs.Payload.{messageOf}
+use Rattle.jobcodec.proofs.Limits.{small-in}
 use Rattle.jobcodec.specs.Given.{PayloadFits}
-use Rattle.jobcodec.specs.JobWrite.{jobWriteOut}
+use Rattle.jobcodec.specs.JobWrite.{jobWriteUnder}
 use Rattle.jobcodec.proofs.Outcomes.{write-encodes}
-use Rattle.jobcodec.proofs.RoundTrip.{Written, written}
+use Rattle.jobcodec.proofs.RoundTrip.{WrittenUnder, written-under}
 use Rattle.jobcodec.proofs.Calls.{message-short, room-is, refused-keeps}
 use Rattle.jobcodec.proofs.write_laid.Statement.{statement}
 use Rattle.jobcodec.proofs.write_laid.Tie as tie
 
 -- no test refused
-passed : (c : tie.Else1) → Written (given (c .before .before .before .before .before .args .figures)) (entries (c .before .before .before .before .before .args .table)) (heldAs (c .before .before .before .before .before .args .at)) (c .before .before .before .before .before .args .payload .now) (c .before .before .before .before .before .args .word .now)
+passed : (c : tie.Else1) → WrittenUnder (codingIn (c .before .before .before .before .before .args .layout)) (entries (c .before .before .before .before .before .args .table)) (heldAs (c .before .before .before .before .before .args .at)) (c .before .before .before .before .before .args .payload .now) (c .before .before .before .before .before .args .word .now)
 passed c =
     let a = c .before .before .before .before .before .args in
-    written (given (a .figures)) (entries (a .table)) (heldAs (a .at)) (a .payload .now) (a .word .now) (sym (c .before .write-refusal .ensures) ∙ c .if1 .left)
+    written-under (codingIn (a .layout)) (entries (a .table)) (heldAs (a .at)) (a .payload .now) (a .word .now) (sym (c .before .write-refusal .ensures) ∙ c .if1 .left)
 
 write-refusal-requires : tie.Need-write-refusal-requires
 write-refusal-requires c κs = search needs
@@ -38,35 +39,36 @@ returns : tie.Need-returns
 returns c =
     let a = c .before .before .before .before .before .args in
     let out = a .word .now in
-    let kept = refused-keeps out (given (a .figures)) (entries (a .table)) (heldAs (a .at)) (a .payload .now) in
+    let kept = refused-keeps out (codingIn (a .layout)) (entries (a .table)) (heldAs (a .at)) (a .payload .now) in
     ap (unwritten out) (c .before .write-refusal .ensures) ∙ kept (λ d. c .if1 .taken (c .before .write-refusal .ensures ∙ d))
 
 -- the word of a message that is lent in an array with room for it
 module _ (c : tie.Else1) (room : ℕ) (fits : c .before .before .before .before .before .args .layout .«message_len» ≤ room) where
-  lent-is : length (take {A = ℕ} (c .before .before .before .before .before .args .layout .«message_len») (replicate room 0)) ≡ messageLen (given (c .before .before .before .before .before .args .figures))
+  lent-is : length (take {A = ℕ} (c .before .before .before .before .before .args .layout .«message_len») (replicate room 0)) ≡ codingIn (c .before .before .before .before .before .args .layout) .codec .messageLen
   lent-is =
       let s = c .before .before .before .before .before in
-      room-is (given (s .args .figures)) (s .args .layout) (entries (s .args .table)) (s .pre) room fits
+      room-is (s .args .layout) (entries (s .args .table)) (s .pre) room fits
 
-  holds : PayloadFits (given (c .before .before .before .before .before .args .figures)) (c .before .before .before .before .before .args .payload .now) (take {A = ℕ} (c .before .before .before .before .before .args .layout .«message_len») (replicate room 0))
+  holds : PayloadFits (c .before .before .before .before .before .args .layout) (c .before .before .before .before .before .args .payload .now) (take {A = ℕ} (c .before .before .before .before .before .args .layout .«message_len») (replicate room 0))
   holds =
       let s = c .before .before .before .before .before in
-      record { range = s .pre .range; count = passed c .long ∙ ap (payloadLen (given (s .args .figures) .q)) (sym lent-is) }
+      record { serves = s .pre .serves; count = passed c .long ∙ ap₂ payloadLen (sym (numbers-in (s .args .layout) (s .pre .serves) .alphabet-is)) (sym lent-is) }
 
-  word-is : (let a = c .before .before .before .before .before .args in let f = given (a .figures) in
-      encodeOut f (heldAs (a .at)) (messageOf (f .q) (length (take {A = ℕ} (a .layout .«message_len») (replicate room 0))) (a .payload .now)) (a .word .now) ≡ jobWriteOut f (entries (a .table)) (heldAs (a .at)) (a .payload .now) (a .word .now))
+  word-is : (let a = c .before .before .before .before .before .args in let d = codingIn (a .layout) in
+      encodeUnder d (heldAs (a .at)) (messageOf (a .layout .q) (length (take {A = ℕ} (a .layout .«message_len») (replicate room 0))) (a .payload .now)) (a .word .now) ≡ jobWriteUnder d (entries (a .table)) (heldAs (a .at)) (a .payload .now) (a .word .now))
   word-is =
-      let a = c .before .before .before .before .before .args in
-      let f = given (a .figures) in
+      let s = c .before .before .before .before .before in
+      let a = s .args in
+      let d = codingIn (a .layout) in
       let y = a .payload .now in
       let p = passed c in
-      ap (λ (k : ℕ). encodeOut f (heldAs (a .at)) (messageOf (f .q) k y) (a .word .now)) lent-is
-      ∙ sym (write-encodes f (entries (a .table)) (heldAs (a .at)) y (a .word .now) (p .ready) (p .count)
+      ap₂ (λ (q k : ℕ). encodeUnder d (heldAs (a .at)) (messageOf q k y) (a .word .now)) (numbers-in (a .layout) (s .pre .serves) .alphabet-is) lent-is
+      ∙ sym (write-encodes d (entries (a .table)) (heldAs (a .at)) y (a .word .now) (p .ready) (small-in (a .layout) (s .pre .serves)) (p .count)
       (record { count = p .long; bytes = at-below byteValues y (λ x _. omega (arith, c .before .before .before .before .shared-slice-known .given x)) })
       (p .lent) (p .placed) (p .job) (p .is-open))
 
 longest : (s : tie.Start) → s .args .layout .«message_len» ≤ maxWord
-longest s = message-short (given (s .args .figures)) (s .args .layout) (entries (s .args .table)) (s .pre)
+longest s = message-short (s .args .layout) (entries (s .args .table)) (s .pre)
 
 array-borrow-prefix-short : tie.Need-array-borrow-prefix-short
 array-borrow-prefix-short c = search needs

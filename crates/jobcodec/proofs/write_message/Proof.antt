@@ -1,31 +1,30 @@
 -- `write_message` meets its contract: the word is that of the payload's message. Assumes nothing.
 use mathlib.Core.Path.{ap, ap₂, _∙_}
 use mathlib.Core.List.{List}
-use Prim.Native.Nat.{ℕ}
+use Prim.Native.Nat.{ℕ, _≤_}
+use native.Mathlib.Omega.{arith}
 use borrow.Author.Needs.{needs}
-use Rattle.construction_a.specs.Outcomes.{Encoded, encodeOut}
-use Rattle.construction_a.proofs.Figures.{Ranged, ranged}
-use Rattle.params.specs.Bridge.{given}
+use Rattle.cells.specs.Outcomes.{Encoded, encodeUnder}
+use Rattle.params.specs.Given.{codingIn}
+use Rattle.params.proofs.Either.{in-shape}
+use Rattle.params.proofs.Shape.{bound}
 use Rattle.placements.specs.Bridge.{heldAs}
 use Rattle.jobcodec.proofs.write_message.Statement.{statement}
 use Rattle.jobcodec.proofs.write_message.Tie as tie
 
-in-range : (s : tie.Start) → Ranged (given (s .args .figures))
-in-range s = ranged (given (s .args .figures)) (s .pre .range)
-
-cast-q : tie.Need-cast-q
-cast-q c = search needs
+few : (s : tie.Start) → (2 ≤ s .args .layout .q) × (s .args .layout .q ≤ 256)
+few s = let l = s .args .layout in let is = bound l (in-shape l (s .pre .serves)) in (is .q-least, is .q-most)
 
 byte-width-requires : tie.Need-byte-width-requires
-byte-width-requires c κs = in-range (c .before .before .before .before) .q-most
+byte-width-requires c κs = few (c .before .before .before) .1
 
 spell-payload-requires : tie.Need-spell-payload-requires
 spell-payload-requires c κs =
-    let s = c .before .before .before .before .before .before in
-    record { alphabet = in-range s .q-least; bytes = in-range s .q-most; width-is = c .before .byte-width .ensures; count-is = s .pre .count }
+    let s = c .before .before .before .before .before in
+    record { alphabet = few s .0; bytes = few s .1; width-is = c .before .byte-width .ensures; count-is = s .pre .count }
 
-encode-requires : tie.Need-encode-requires
-encode-requires c κs = search needs
+encode-fitting-requires : tie.Need-encode-fitting-requires
+encode-fitting-requires c κs = search needs
 
 same-length : tie.Need-same-length
 same-length c = search needs
@@ -35,19 +34,18 @@ same-length-2 c = search needs
 
 returns : tie.Need-returns
 returns c =
-    let a = c .before .before .before .before .before .before .before .before .before .before .before .before .before .before .args in
+    let a = c .before .before .before .before .before .before .before .before .before .before .before .before .before .args in
     let out = a .word .now in
-    ap₂ {C = Encoded} (λ (n : ℕ) (w : List ℕ). record { answer = n; word = w }) (c .before .before .encode .ensures .0) (c .before .before .encode .ensures .1)
-    ∙ ap (λ (ms : List ℕ). encodeOut (given (a .figures)) (heldAs (a .at)) ms out) (c .before .before .before .before .before .before .before .spell-payload .ensures)
+    ap₂ {C = Encoded} (λ (n : ℕ) (w : List ℕ). record { answer = n; word = w }) (c .before .before .encode-fitting .ensures .0) (c .before .before .encode-fitting .ensures .1)
+    ∙ ap (λ (ms : List ℕ). encodeUnder (codingIn (a .layout)) (heldAs (a .at)) ms out) (c .before .before .before .before .before .before .before .spell-payload .ensures)
 
 pub write-message-spec : {M : Type 1} → statement M
 write-message-spec =
     tie.close
     (tie.spec
-    cast-q
     byte-width-requires
     spell-payload-requires
-    encode-requires
+    encode-fitting-requires
     same-length
     same-length-2
     returns)

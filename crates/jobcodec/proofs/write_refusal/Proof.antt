@@ -6,17 +6,19 @@ use native.Mathlib.Omega.{arith}
 use borrow.Author.Needs.{needs}
 use borrow.Author.Tests.{not-true, not-false}
 use Rattle.cells.specs.Bytes.{payloadLen}
-use Rattle.construction_a.specs.Figures.{Params, messageLen}
-use Rattle.construction_a.specs.Outcomes.{Held, Encoded}
-use Rattle.construction_a.proofs.Figures.{ranged}
-use Rattle.params.specs.Bridge.{given}
-use Rattle.placements.specs.Bridge.{heldAs}
+use Rattle.cells.specs.Outcomes.{Coding, Held, Encoded}
+use Rattle.params.specs.Answer.{HasNumbers}
+use Rattle.params.specs.Given.{codingIn}
+use Rattle.params.specs.declared.Layout.{Layout}
+use Rattle.params.proofs.Either.{in-shape, numbers-in, apart-in}
+use Rattle.params.proofs.Shape.{bound, long}
+use Rattle.placements.specs.Bridge.{heldAs, startsIn}
 use Rattle.jobs.specs.declared.Entry.{Entry}
 use Rattle.jobs.specs.Jobs.{isJob, needsOpen}
 use Rattle.jobs.specs.Slots.{entries}
 use Rattle.jobs.specs.Table.{standing, lookup}
-use Rattle.jobcodec.specs.Given.{Ready}
-use Rattle.jobcodec.proofs.Calls.{laid-bounds, bytes-are, ready, write-few, write-count, write-bytes, write-length, write-starts, write-zero, write-status}
+use Rattle.jobcodec.specs.Given.{ReadyUnder}
+use Rattle.jobcodec.proofs.Calls.{alphabet-few, bytes-are, ready, write-few, write-count, write-bytes, write-length, write-starts, write-zero, write-status}
 use Rattle.jobcodec.proofs.write_refusal.Statement.{statement}
 use Rattle.jobcodec.proofs.write_refusal.Tie as tie
 
@@ -25,8 +27,11 @@ answer r = r .answer
 
 -- ---- What the contract lends
 
-abbrev f : tie.Start → Params
-f s = given (s .args .figures)
+abbrev l : tie.Start → Layout
+l s = s .args .layout
+
+abbrev d : tie.Start → Coding
+d s = codingIn (l s)
 
 abbrev es : tie.Start → List Entry
 es s = entries (s .args .table)
@@ -40,47 +45,61 @@ y s = s .args .payload .now
 abbrev w : tie.Start → List ℕ
 w s = s .args .word .now
 
--- five bytes or more, so many as the payload holds
-goes-on : (c : tie.Else1) → Ready (f (c .before .before .before .before)) (es (c .before .before .before .before))
-goes-on c = let s = c .before .before .before .before in ready (f s) (s .args .layout) (es s) (s .pre) (c .before .payload-len .result) (c .before .payload-len .ensures) (omega arith)
+is : (s : tie.Start) → HasNumbers (d s) (l s)
+is s = numbers-in (l s) (s .pre .serves)
 
-as-many : (c : tie.Else1) → c .before .payload-len .result ≡ payloadLen (c .before .before .before .before .args .figures .q) (messageLen (f (c .before .before .before .before)))
-as-many c = let s = c .before .before .before .before in bytes-are (f s) (s .args .layout) (es s) (s .pre) (c .before .payload-len .result) (c .before .payload-len .ensures)
+-- five bytes or more, so many as the payload holds
+goes-on : (c : tie.Else1) → ReadyUnder (d (c .before .before .before .before)) (es (c .before .before .before .before))
+goes-on c = let s = c .before .before .before .before in ready (l s) (es s) (s .pre) (c .before .payload-len .result) (c .before .payload-len .ensures) (omega arith)
+
+as-many : (c : tie.Else1) → c .before .payload-len .result ≡ payloadLen (d (c .before .before .before .before) .codec .alphabet) (d (c .before .before .before .before) .codec .messageLen)
+as-many c = let s = c .before .before .before .before in bytes-are (l s) (es s) (s .pre) (c .before .payload-len .result) (c .before .payload-len .ensures)
 
 payload-len-requires : tie.Need-payload-len-requires
-payload-len-requires c κs = let s = c .before .before in laid-bounds (f s) (s .args .layout) (es s) (s .pre) .q-most
+payload-len-requires c κs = let s = c .before .before in alphabet-few (l s) (es s) (s .pre)
 
 returns : tie.Need-returns
 returns c =
     let s = c .before .before .before .before in
-    sym (ap answer (write-few (f s) (s .args .layout) (es s) (s .pre) (at s) (y s) (w s) (c .before .payload-len .result) (c .before .payload-len .ensures) (c .if1 .taken)))
+    sym (ap answer (write-few (l s) (es s) (s .pre) (at s) (y s) (w s) (c .before .payload-len .result) (c .before .payload-len .ensures) (c .if1 .taken)))
+
+cast-if2 : tie.Need-cast-if2
+cast-if2 c = search needs
 
 returns-2 : tie.Need-returns-2
 returns-2 c =
     let s = c .before .before .before .before .before .before .before in
-    sym (ap answer (write-count (f s) (es s) (at s) (y s) (w s) (goes-on (c .before .before .before)) (c .if2 .taken)))
+    sym (ap answer (write-count (d s) (es s) (at s) (y s) (w s) (goes-on (c .before .before .before)) (λ e. c .if2 .taken (e ∙ sym (is s .bursts-is)))))
 
 returns-3 : tie.Need-returns-3
 returns-3 c =
     let s = c .before .before .before .before .before .before .before .before in
     let five = c .before .before .before .before in
-    sym (ap answer (write-bytes (f s) (es s) (at s) (y s) (w s) (goes-on five) (c .before .if2 .left) (λ d. c .if3 .taken (d ∙ sym (as-many five)))))
+    sym (ap answer (write-bytes (d s) (es s) (at s) (y s) (w s) (goes-on five) (c .before .if2 .left ∙ is s .bursts-is) (λ e. c .if3 .taken (e ∙ sym (as-many five)))))
 
 returns-4 : tie.Need-returns-4
 returns-4 c =
     let s = c .before .before .before .before .before .before .before .before .before .before in
     let five = c .before .before .before .before .before .before in
-    sym (ap answer (write-length (f s) (es s) (at s) (y s) (w s) (goes-on five) (c .before .before .before .if2 .left) (c .before .before .if3 .left ∙ as-many five) (λ d. c .if4 .taken (d ∙ sym (s .pre .layout .n-is)))))
+    sym (ap answer (write-length (d s) (es s) (at s) (y s) (w s) (goes-on five) (c .before .before .before .if2 .left ∙ is s .bursts-is) (c .before .before .if3 .left ∙ as-many five) (λ e. c .if4 .taken (e ∙ sym (is s .word-is)))))
+
+cast-apart : tie.Need-cast-apart
+cast-apart c = let s = c .before .before .before .before .before .before .before .before .before .before .before in omega (arith, bound (l s) (in-shape (l s) (s .pre .serves)) .n-most)
+
+cast-apart-2 : tie.Need-cast-apart-2
+cast-apart-2 c =
+    let s = c .before .before .before .before .before .before .before .before .before .before .before .before in
+    omega (arith, bound (l s) (in-shape (l s) (s .pre .serves)) .n-most, long (l s) (in-shape (l s) (s .pre .serves)))
 
 apart-requires : tie.Need-apart-requires
-apart-requires c κs = let s = c .before .before .before .before .before .before .before .before .before .before in omega (arith, c .before .before .before .if2 .left, ranged (f s) (s .pre .range) .m-most)
+apart-requires c κs = let s = c .before .before .before .before .before .before .before .before .before .before .before .before in omega (arith, c .before .before .before .before .before .if2 .left, bound (l s) (in-shape (l s) (s .pre .serves)) .m-most)
 
 returns-5 : tie.Need-returns-5
 returns-5 c =
-    let s = c .before .before .before .before .before .before .before .before .before .before .before .before in
-    let five = c .before .before .before .before .before .before .before .before in
-    sym (ap answer (write-starts (f s) (es s) (at s) (y s) (w s) (goes-on five) (c .before .before .before .before .before .if2 .left) (c .before .before .before .before .if3 .left ∙ as-many five) (c .before .before .if4 .left ∙ s .pre .layout .n-is)
-    (sym (c .before .apart .ensures) ∙ not-true _ (c .if5 .taken))))
+    let s = c .before .before .before .before .before .before .before .before .before .before .before .before .before .before in
+    let five = c .before .before .before .before .before .before .before .before .before .before in
+    sym (ap answer (write-starts (d s) (es s) (at s) (y s) (w s) (goes-on five) (c .before .before .before .before .before .before .before .if2 .left ∙ is s .bursts-is) (c .before .before .before .before .before .before .if3 .left ∙ as-many five) (c .before .before .before .before .if4 .left ∙ is s .word-is)
+    (apart-in (l s) (s .pre .serves) (startsIn (s .args .at)) ∙ sym (c .before .apart .ensures) ∙ not-true _ (c .if5 .taken))))
 
 job-number-requires : tie.Need-job-number-requires
 job-number-requires c κs = search needs
@@ -90,12 +109,10 @@ is-job-requires c κs = search needs
 
 returns-6 : tie.Need-returns-6
 returns-6 c =
-    let five = c .before .before .before .before .before .before .before .before .before .before .before in
-    let s = five .before .before .before .before in
-    sym (ap answer (write-zero (f s) (es s) (at s) (y s) (w s) (goes-on five) (c .before .before .before .before .before .before .before .before .if2 .left)
-    (c .before .before .before .before .before .before .before .if3 .left ∙ as-many five)
-    (c .before .before .before .before .before .if4 .left ∙ s .pre .layout .n-is)
-    (sym (c .before .before .before .before .apart .ensures) ∙ not-false _ (c .before .before .before .if5 .left))
+    let s = c .before .before .before .before .before .before .before .before .before .before .before .before .before .before .before .before .before in
+    let five = c .before .before .before .before .before .before .before .before .before .before .before .before .before in
+    sym (ap answer (write-zero (d s) (es s) (at s) (y s) (w s) (goes-on five) (c .before .before .before .before .before .before .before .before .before .before .if2 .left ∙ is s .bursts-is) (c .before .before .before .before .before .before .before .before .before .if3 .left ∙ as-many five) (c .before .before .before .before .before .before .before .if4 .left ∙ is s .word-is)
+    (apart-in (l s) (s .pre .serves) (startsIn (s .args .at)) ∙ sym (c .before .before .before .before .apart .ensures) ∙ not-false _ (c .before .before .before .if5 .left))
     (ap isJob (sym (c .before .before .job-number .ensures)) ∙ sym (c .before .is-job .ensures) ∙ not-true _ (c .if6 .taken))))
 
 needs-open-requires : tie.Need-needs-open-requires
@@ -103,13 +120,11 @@ needs-open-requires c κs = search needs
 
 returns-7 : tie.Need-returns-7
 returns-7 c =
-    let five = c .before .before .before .before .before .before .before .before .before .before .before .before in
-    let s = five .before .before .before .before in
+    let s = c .before .before .before .before .before .before .before .before .before .before .before .before .before .before .before .before .before .before in
+    let five = c .before .before .before .before .before .before .before .before .before .before .before .before .before .before in
     c .needs-open .ensures ∙ ap (λ (n : ℕ). needsOpen (standing (lookup (es s) n))) (c .before .before .before .job-number .ensures)
-    ∙ sym (write-status (f s) (es s) (at s) (y s) (w s) (goes-on five) (c .before .before .before .before .before .before .before .before .before .if2 .left)
-    (c .before .before .before .before .before .before .before .before .if3 .left ∙ as-many five)
-    (c .before .before .before .before .before .before .if4 .left ∙ s .pre .layout .n-is)
-    (sym (c .before .before .before .before .before .apart .ensures) ∙ not-false _ (c .before .before .before .before .if5 .left))
+    ∙ sym (write-status (d s) (es s) (at s) (y s) (w s) (goes-on five) (c .before .before .before .before .before .before .before .before .before .before .before .if2 .left ∙ is s .bursts-is) (c .before .before .before .before .before .before .before .before .before .before .if3 .left ∙ as-many five) (c .before .before .before .before .before .before .before .before .if4 .left ∙ is s .word-is)
+    (apart-in (l s) (s .pre .serves) (startsIn (s .args .at)) ∙ sym (c .before .before .before .before .before .apart .ensures) ∙ not-false _ (c .before .before .before .before .if5 .left))
     (ap isJob (sym (c .before .before .before .job-number .ensures)) ∙ sym (c .before .before .is-job .ensures) ∙ not-false _ (c .before .if6 .left)))
 
 pub write-refusal-spec : {M : Type 1} → statement M
@@ -118,9 +133,12 @@ write-refusal-spec =
     (tie.spec
     payload-len-requires
     returns
+    cast-if2
     returns-2
     returns-3
     returns-4
+    cast-apart
+    cast-apart-2
     apart-requires
     returns-5
     job-number-requires

@@ -1,10 +1,12 @@
 -- `prescription_read` meets its contract. Assumes nothing.
-use mathlib.Core.Path.{sym, _∙_}
+use mathlib.Core.Path.{sym, ap, _∙_}
 use borrow.Author.Needs.{needs}
-use Rattle.params.specs.Bridge.{given}
-use Rattle.params.proofs.Answered.{refused-learnt}
+use Rattle.params.specs.Bridge.{codingOf}
+use Rattle.params.specs.Answer.{figuredAs}
 use Rattle.jobs.specs.Slots.{entries}
 use Rattle.jobcodec.proofs.Calls.{laid}
+use Rattle.cells.specs.Outcomes.{Coding}
+use Rattle.prescriptioncodec.specs.PrescriptionRead.{prescriptionReadUnder}
 use Rattle.prescriptioncodec.proofs.Reading.{read-twice, read-unfit}
 use Rattle.prescriptioncodec.proofs.prescription_read.Statement.{statement}
 use Rattle.prescriptioncodec.proofs.prescription_read.Tie as tie
@@ -15,10 +17,10 @@ twice-requires c κs = search needs
 returns : tie.Need-returns
 returns c =
     let a = c .before .before .before .args in
-    sym (read-twice (given (a .figures)) (entries (a .table)) (a .word .now) (sym (c .before .twice .ensures) ∙ c .if1 .taken))
+    sym (read-twice (codingOf (a .figures)) (entries (a .table)) (a .word .now) (sym (c .before .twice .ensures) ∙ c .if1 .taken))
 
-figures-requires : tie.Need-figures-requires
-figures-requires c κs = search needs
+layout-requires : tie.Need-layout-requires
+layout-requires c κs = search needs
 
 enum-known-answer : tie.Need-enum-known-answer
 enum-known-answer c = search needs
@@ -30,20 +32,24 @@ read-laid-requires : tie.Need-read-laid-requires
 read-laid-requires c κs =
     let a = c .before .before .before .before .before .before .before .args in
     let told = c .before .answer2 .given in
-    let figured = c .before .before .before .figures in
-    laid (given (a .figures)) (entries (a .table)) (figured .result) (told .0 .0) (told .1) (figured .ensures .0) (figured .ensures .1) (sym (c .before .before .before .before .before .twice .ensures) ∙ c .before .before .before .before .if1 .left)
+    let figured = c .before .before .before .layout in
+    laid (a .figures) (entries (a .table)) (figured .result) (told .0 .0) (told .1) (figured .ensures .0) (figured .ensures .1) (sym (c .before .before .before .before .before .twice .ensures) ∙ c .before .before .before .before .if1 .left) .1
 
 returns-2 : tie.Need-returns-2
 returns-2 c =
     let a = c .before .before .before .before .before .before .before .args in
-    let f = given (a .figures) in
     let told = c .before .answer .given in
-    let figured = c .before .before .before .figures in
-    sym (read-unfit f (entries (a .table)) (a .word .now) (told .0 .0) (sym (c .before .before .before .before .before .twice .ensures) ∙ c .before .before .before .before .if1 .left)
-    (refused-learnt f (figured .result) (told .0 .0) (told .1) (figured .ensures .0)))
+    let figured = c .before .before .before .layout in
+    sym (read-unfit (codingOf (a .figures)) (entries (a .table)) (a .word .now) (told .0 .0) (sym (c .before .before .before .before .before .twice .ensures) ∙ c .before .before .before .before .if1 .left)
+    (sym (figured .ensures .0) ∙ ap figuredAs (told .1)))
 
 returns-3 : tie.Need-returns-3
-returns-3 c = search needs
+returns-3 c =
+    let a = c .before .before .before .before .before .before .before .before .args in
+    let told = c .before .before .answer2 .given in
+    let figured = c .before .before .before .before .layout in
+    let same = laid (a .figures) (entries (a .table)) (figured .result) (told .0 .0) (told .1) (figured .ensures .0) (figured .ensures .1) (sym (c .before .before .before .before .before .before .twice .ensures) ∙ c .before .before .before .before .before .if1 .left) .0 in
+    c .read-laid .ensures ∙ ap (λ (d : Coding). prescriptionReadUnder d (entries (a .table)) (a .word .now)) same
 
 pub prescription-read-spec : {M : Type 1} → statement M
 prescription-read-spec =
@@ -51,7 +57,7 @@ prescription-read-spec =
     (tie.spec
     twice-requires
     returns
-    figures-requires
+    layout-requires
     enum-known-answer
     enum-known-answer-2
     read-laid-requires

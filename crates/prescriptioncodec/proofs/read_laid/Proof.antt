@@ -6,18 +6,18 @@ use borrow.Author.Needs.{needs}
 use lib.ListN.{take, replicate}
 use Rattle.cells.specs.Bytes.{payloadLen}
 use Rattle.construction_a.specs.Figures.{maxWord}
-use Rattle.params.specs.Bridge.{given}
+use Rattle.params.specs.Given.{codingIn}
 use Rattle.params.specs.Given.{shortWord}
 use Rattle.jobs.specs.Slots.{entries}
 use Rattle.jobcodec.specs.Given.{Readable}
-use Rattle.jobcodec.proofs.Calls.{laid-bounds, bytes-are, message-short, room-is, ready}
+use Rattle.jobcodec.proofs.Calls.{alphabet-few, bytes-are, message-short, room-is, ready}
 use Rattle.prescriptioncodec.proofs.Payload.{payload-within, lent-is}
 use Rattle.prescriptioncodec.proofs.Reading.{read-few}
 use Rattle.prescriptioncodec.proofs.read_laid.Statement.{statement}
 use Rattle.prescriptioncodec.proofs.read_laid.Tie as tie
 
 longest : (s : tie.Start) → s .args .layout .«message_len» ≤ maxWord
-longest s = message-short (given (s .args .figures)) (s .args .layout) (entries (s .args .table)) (s .pre)
+longest s = message-short (s .args .layout) (entries (s .args .table)) (s .pre)
 
 -- an array with room for the message has room for the payload
 within : (s : tie.Start) (count : ℕ) → count ≡ payloadLen (s .args .layout .q) (s .args .layout .«message_len») → (room : ℕ) → s .args .layout .«message_len» ≤ room → count ≤ room
@@ -25,28 +25,28 @@ within s count e room le = omega (arith, payload-within (s .args .layout) count 
 
 -- message and payload, lent in arrays with room for them
 readable : (c : tie.Else1) (room : ℕ) → (let a = c .before .before .before .args in a .layout .«message_len» ≤ room
-    → Readable (given (a .figures)) (entries (a .table)) (take {A = ℕ} (a .layout .«message_len») (replicate room 0)) (take {A = ℕ} (c .before .payload-len .result) (replicate room 0)))
+    → Readable (a .layout) (entries (a .table)) (take {A = ℕ} (a .layout .«message_len») (replicate room 0)) (take {A = ℕ} (c .before .payload-len .result) (replicate room 0)))
 readable c room le =
     let s = c .before .before .before in
-    let f = given (s .args .figures) in
     let l = s .args .layout in
     let es = entries (s .args .table) in
     let count = c .before .payload-len .result in
     let e = c .before .payload-len .ensures in
     record {
-      ready = ready f l es (s .pre) count e (omega (arith, c .if1 .left));
-      room = room-is f l es (s .pre) room le;
-      lent = lent-is count room (within s count e room le) ∙ bytes-are f l es (s .pre) count e;
+      serves = s .pre .serves;
+      ready = ready l es (s .pre) count e (omega (arith, c .if1 .left));
+      room = room-is l es (s .pre) room le;
+      lent = lent-is count room (within s count e room le) ∙ bytes-are l es (s .pre) count e;
     }
 
 payload-len-requires : tie.Need-payload-len-requires
-payload-len-requires c κs = let s = c .before in laid-bounds (given (s .args .figures)) (s .args .layout) (entries (s .args .table)) (s .pre) .q-most
+payload-len-requires c κs = let s = c .before in alphabet-few (s .args .layout) (entries (s .args .table)) (s .pre)
 
 returns : tie.Need-returns
 returns c =
     let s = c .before .before .before in
     let len = c .before .payload-len in
-    sym (read-few (given (s .args .figures)) (entries (s .args .table)) (s .args .word .now) (s .args .layout) (s .pre) (len .result) (len .ensures) (c .if1 .taken))
+    sym (read-few (s .args .layout) (entries (s .args .table)) (s .args .word .now) (s .pre) (len .result) (len .ensures) (c .if1 .taken))
 
 array-borrow-prefix-short : tie.Need-array-borrow-prefix-short
 array-borrow-prefix-short c = search needs

@@ -3,7 +3,7 @@ use mathlib.Core.Path.{_≡_, sym, ap, _∙_}
 use borrow.Author.Needs.{needs}
 use lib.ListN.{length}
 use Rattle.construction_a.specs.Figures.{messageLen}
-use Rattle.params.specs.Bridge.{given}
+use Rattle.params.specs.Given.{codingIn}
 use Rattle.jobs.specs.Slots.{entries}
 use Rattle.decoder.specs.Answer.{answerAs}
 use Rattle.jobcodec.proofs.Outcomes.{holding}
@@ -20,16 +20,13 @@ enum-known-answer c = search needs
 enum-told : tie.Need-enum-told
 enum-told c = search needs
 
-cast-hand-out : tie.Need-cast-hand-out
-cast-hand-out c = search needs
-
 hand-out-requires : tie.Need-hand-out-requires
 hand-out-requires c κs =
-    let s = c .before .before .before .before .before .before .before .before .before .before .before .before in
-    let told = c .before .before .before .enum-told .given in
-    let d = c .before .before .before .before .before .before .before .read-spelled in
+    let s = c .before .before .before .before .before .before .before .before .before .before .before in
+    let told = c .before .before .enum-told .given in
+    let d = c .before .before .before .before .before .before .read-spelled in
     let same : length (d .last .1 .1 .0) ≡ length (s .args .message .now) = search needs in
-    holding (given (s .args .figures)) (entries (s .args .table)) (s .args .word .now) (s .args .message .now) (d .last .1 .1 .0) (s .args .payload .now) (s .pre) same (d .ensures .1)
+    holding (s .args .layout) (entries (s .args .table)) (s .args .word .now) (s .args .message .now) (d .last .1 .1 .0) (s .args .payload .now) (s .pre) same (d .ensures .1)
     (told .0 .0) (ap answerAs (sym (told .1)) ∙ d .ensures .0)
 
 same-length : tie.Need-same-length
@@ -40,7 +37,7 @@ returns c =
     let s = c .before .before .before .before .before .before .before .before .before .before in
     let told = c .before .answer .given in
     let d = c .before .before .before .before .before .read-spelled in
-    sym (read-spelled (given (s .args .figures)) (entries (s .args .table)) (s .args .word .now) (s .args .message .now) (d .last .1 .1 .0) (s .pre .ready) (s .pre .room)
+    sym (read-spelled (s .args .layout) (s .pre .serves) (entries (s .args .table)) (s .args .word .now) (s .args .message .now) (d .last .1 .1 .0) (s .pre .ready) (s .pre .room)
     (d .result) _ (told .1) (d .ensures .0) (d .ensures .1))
 
 same-length-2 : tie.Need-same-length-2
@@ -51,12 +48,12 @@ same-length-3 c = search needs
 
 returns-2 : tie.Need-returns-2
 returns-2 c =
-    let s = c .before .before .before .before .before .before .before .before .before .before .before .before .before .before .before in
-    let told = c .before .before .before .before .before .before .enum-told .given in
-    let d = c .before .before .before .before .before .before .before .before .before .before .read-spelled in
-    let same : length (d .last .1 .1 .0) ≡ messageLen (given (s .args .figures)) = search (needs, s .pre .room) in
+    let s = c .before .before .before .before .before .before .before .before .before .before .before .before .before .before in
+    let told = c .before .before .before .before .before .enum-told .given in
+    let d = c .before .before .before .before .before .before .before .before .before .read-spelled in
+    let same : length (d .last .1 .1 .0) ≡ codingIn (s .args .layout) .codec .messageLen = search (needs, s .pre .room) in
     c .before .before .hand-out .ensures
-    ∙ rw same (sym (read-spelled (given (s .args .figures)) (entries (s .args .table)) (s .args .word .now) (s .args .message .now) (d .last .1 .1 .0) (s .pre .ready) (s .pre .room)
+    ∙ rw same (sym (read-spelled (s .args .layout) (s .pre .serves) (entries (s .args .table)) (s .args .word .now) (s .args .message .now) (d .last .1 .1 .0) (s .pre .ready) (s .pre .room)
     (d .result) _ (told .1) (d .ensures .0) (d .ensures .1)))
 
 pub read-message-spec : {M : Type 1} → statement M
@@ -66,7 +63,6 @@ read-message-spec =
     read-spelled-requires
     enum-known-answer
     enum-told
-    cast-hand-out
     hand-out-requires
     same-length
     returns

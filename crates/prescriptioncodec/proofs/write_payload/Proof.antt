@@ -6,7 +6,7 @@ use native.Mathlib.Omega.{arith}
 use borrow.Author.Needs.{needs}
 use lib.ListN.{length}
 use Rattle.construction_a.specs.Outcomes.{Encoded, unwritten}
-use Rattle.params.specs.Bridge.{given}
+use Rattle.params.specs.Given.{codingIn}
 use Rattle.placements.specs.Bridge.{heldAs}
 use Rattle.jobs.specs.Slots.{entries}
 use Rattle.prescriptioncodec.proofs.Payload.{text-refused, text-goes-on, number-room, number-spellable, number-spelt}
@@ -14,9 +14,6 @@ use Rattle.prescriptioncodec.proofs.write_payload.Statement.{statement}
 use Rattle.prescriptioncodec.proofs.write_payload.Tie as tie
 
 -- answer and word together
-both-are : {a : ℕ} {w : List ℕ} {r : Encoded} → a ≡ r .answer → w ≡ r .word → unwritten w a ≡ r
-both-are e d = ap₂ (λ a w. unwritten w a) e d
-
 sub-write-text : tie.Need-sub-write-text
 sub-write-text c = search needs
 
@@ -36,7 +33,7 @@ returns : tie.Need-returns
 returns c =
     let s = c .before .before .before .before .before .before .before in
     let text = c .before .before .before .write-text in
-    text-refused (s .args .prescription) (s .args .payload .now) (text .last .1 .0) (text .result) (s .pre) (text .ensures) (given (s .args .figures)) (entries (s .args .table)) (heldAs (s .args .at)) (s .args .number) (length (s .args .payload .now)) (s .args .word .now) (c .if1 .taken)
+    text-refused (s .args .prescription) (s .args .payload .now) (text .last .1 .0) (text .result) (s .pre .1) (text .ensures) (codingIn (s .args .layout)) (entries (s .args .table)) (heldAs (s .args .at)) (s .args .number) (length (s .args .payload .now)) (s .args .word .now) (c .if1 .taken)
 
 slice-relend-prefix-spell-value : tie.Need-slice-relend-prefix-spell-value
 slice-relend-prefix-spell-value c = search needs
@@ -44,15 +41,15 @@ slice-relend-prefix-spell-value c = search needs
 slice-aggregate-spell-value : tie.Need-slice-aggregate-spell-value
 slice-aggregate-spell-value c =
     let s = c .before .before .before .before .before .before .before .before in
-    sym (number-room (s .args .payload .now) (c .before .before .before .before .write-text .last .1 .0) (s .args .number) (s .pre))
+    sym (number-room (s .args .payload .now) (c .before .before .before .before .write-text .last .1 .0) (s .args .number) (s .pre .1))
 
 spell-value-requires : tie.Need-spell-value-requires
 spell-value-requires c κs =
     let s = c .before .before .before .before .before .before .before .before in
-    number-spellable (s .args .payload .now) (c .before .before .before .before .write-text .last .1 .0) (s .args .number) (s .pre) (omega arith)
+    number-spellable (s .args .payload .now) (c .before .before .before .before .write-text .last .1 .0) (s .args .number) (s .pre .1) (omega arith)
 
-job-write-requires : tie.Need-job-write-requires
-job-write-requires c κs = search needs
+write-laid-requires : tie.Need-write-laid-requires
+write-laid-requires c κs = search needs
 
 same-length-2 : tie.Need-same-length-2
 same-length-2 c = search needs
@@ -67,10 +64,9 @@ returns-2 c =
     let spelt = c .before .before .before .before .before .before .before .spell-value in
     let y = s .args .payload .now in
     let front = spelt .last .1 .1 .0 in
-    let job = c .before .before .job-write .ensures in
-    both-are (job .0) (job .1)
-    ∙ text-goes-on (s .args .prescription) y (text .last .1 .0) (text .result) (s .pre) (text .ensures) (given (s .args .figures)) (entries (s .args .table)) (heldAs (s .args .at)) (s .args .number) (length (s .args .payload .now)) (s .args .word .now) (c .before .before .before .before .before .before .before .before .before .if1 .left) front
-    (number-spelt y (text .last .1 .0) (s .args .number) (s .pre) front (spelt .ensures)) refl
+    c .before .before .write-laid .ensures
+    ∙ text-goes-on (s .args .prescription) y (text .last .1 .0) (text .result) (s .pre .1) (text .ensures) (codingIn (s .args .layout)) (entries (s .args .table)) (heldAs (s .args .at)) (s .args .number) (length (s .args .payload .now)) (s .args .word .now) (c .before .before .before .before .before .before .before .before .before .if1 .left) front
+    (number-spelt y (text .last .1 .0) (s .args .number) (s .pre .1) front (spelt .ensures)) refl
 
 pub write-payload-spec : {M : Type 1} → statement M
 write-payload-spec =
@@ -85,7 +81,7 @@ write-payload-spec =
     slice-relend-prefix-spell-value
     slice-aggregate-spell-value
     spell-value-requires
-    job-write-requires
+    write-laid-requires
     same-length-2
     same-length-3
     returns-2)

@@ -3,6 +3,7 @@ use mathlib.Core.Path.{sym, ap, ap₂, _∙_}
 use mathlib.Core.List.{List}
 use Prim.Native.Nat.{ℕ}
 use lib.Ieee.{Float}
+use Rattle.prescriptioncodec.specs.PrescriptionRead.{prescriptionReadOut}
 use Rattle.refusals.specs.Refusals.{served}
 use Rattle.params.specs.Bridge.{given}
 use Rattle.jobs.specs.Slots.{entries}
@@ -47,6 +48,7 @@ put-powers-requires : tie.Need-put-powers-requires
 put-powers-requires c κs = search needs
 
 returns-3 : tie.Need-returns-3
+unfolding prescriptionReadOut
 returns-3 c =
     let a = c .before .before .before .before .before .before .before .before .before .args in
     read-with-room (a .marks .now) (a .powers .now) (given (a .figures)) (entries (a .table)) (a .word .now)
@@ -60,6 +62,7 @@ same-length-2 : tie.Need-same-length-2
 same-length-2 c = search needs
 
 returns-4 : tie.Need-returns-4
+unfolding prescriptionReadOut
 returns-4 c =
     let a = c .before .before .before .before .before .before .before .before .before .before .before .before .before .before .before .before .before .args in
     ap₂ (λ (ms : List ℕ) (ps : List Float). powersLent ms ps served) (c .before .before .before .before .before .before .put-marks .ensures) (c .before .before .put-powers .ensures)
