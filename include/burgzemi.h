@@ -11,7 +11,10 @@
 extern "C" {
 #endif
 
-/* What a call answers: 0, or why it was refused; burgzemi_verify has a third answer, below. Each function below says which of these it answers, in the order in which they are looked for. */
+/*
+ * What a call answers: 0, or why it was refused; burgzemi_verify has a third answer, below. Each function below says which of these it answers, in
+ * the order in which they are looked for.
+ */
 enum burgzemi_answer {
     BURGZEMI_SERVED = 0,
     /* from the input */
@@ -82,8 +85,8 @@ enum burgzemi_answer {
 
 /*
  * Of every function here: starts are 2 bytes each, high byte first, ascending. Each buffer comes with its own length, of doubles where it holds
- * doubles, and as many of its elements are read or written at most. Buffers of one call must not overlap, and none is NULL, also where its length is 0. One that is only written need not be
- * initialised. A refusal leaves every buffer as it was.
+ * doubles, and as many of its elements are read or written at most. Buffers of one call must not overlap, and none is NULL, also where its length
+ * is 0. One that is only written need not be initialised. A refusal leaves every buffer as it was.
  * Each function always returns and touches no other memory, which is what its proof says of any code here; it keeps nothing between calls, so that
  * several threads may call it at once with buffers of their own.
  */
