@@ -9,6 +9,10 @@
  *
  *     console N Q M B WORD JOB     e.g. console 25 256 1 2 0000000702FF000007F600045A000000000000007F00000000 7
  *
+ * An L in the place of M is for strips with one long burst.
+ *
+ *     console N Q L B WORD [JOB]   e.g. console 15 256 L 5 010000000700FFFFFFFFFF41424344
+ *
  * Exit status: 0 for a word that is accepted, 1 for one that is refused, 2 for a call that can't be understood.
  */
 #include "burgzemi.h"
@@ -30,7 +34,7 @@ static const char *refusal_text(unsigned answer)
     case BURGZEMI_LENGTH: return "the word has another length than the figures give";
     case BURGZEMI_SYMBOL: return "a value above q";
     case BURGZEMI_PATTERN: return "first symbols in no listed pattern";
-    case BURGZEMI_VALUE: return "the written value is no rank";
+    case BURGZEMI_VALUE: return "the written value is too large";
     case BURGZEMI_DISAGREES: return "the placement disagrees with the blocks";
     case BURGZEMI_PAYLOAD: return "no room for a job, or symbols that spell none";
     case BURGZEMI_NOT_OPEN: return "the strip of another job";
@@ -42,7 +46,7 @@ static const char *refusal_text(unsigned answer)
 
 static int usage(const char *what)
 {
-    fprintf(stderr, "console: %s\nusage: console N Q M B WORD [JOB], where WORD has two hex digits for each symbol\n", what);
+    fprintf(stderr, "console: %s\nusage: console N Q M B WORD [JOB], where WORD has two hex digits for each symbol, and M is L for one long burst\n", what);
     return 2;
 }
 
@@ -136,13 +140,21 @@ static void open_alone(uint8_t *table, uint32_t job)
         table[1 + i] = (uint8_t)(job >> (24 - 8 * i));
 }
 
-static unsigned read_prescription(uint32_t n, uint32_t q, uint32_t m, uint32_t b, const uint8_t *word, size_t word_len, uint32_t job)
+/* The figures of a strip; one long burst has m 1. */
+struct figures {
+    uint32_t n, q, m, b;
+    int one_long;
+};
+
+static unsigned read_prescription(struct figures f, const uint8_t *word, size_t word_len, uint32_t job)
 {
     uint8_t table[BURGZEMI_TABLE_LEN], marks[BURGZEMI_MARKS_LEN];
     double powers[BURGZEMI_POWERS_LEN];
 
     open_alone(table, job);
-    unsigned answer = burgzemi_prescription_read(n, q, m, b, table, sizeof table, word, word_len, marks, BURGZEMI_MARKS_LEN, powers, BURGZEMI_POWERS_LEN);
+    unsigned answer = f.one_long
+        ? burgzemi_long_prescription_read(f.n, f.q, f.b, table, sizeof table, word, word_len, marks, BURGZEMI_MARKS_LEN, powers, BURGZEMI_POWERS_LEN)
+        : burgzemi_prescription_read(f.n, f.q, f.m, f.b, table, sizeof table, word, word_len, marks, BURGZEMI_MARKS_LEN, powers, BURGZEMI_POWERS_LEN);
     if (answer != BURGZEMI_SERVED)
         return answer;
     printf("job %" PRIu32 "\n", (uint32_t)marks[0] << 24 | (uint32_t)marks[1] << 16 | (uint32_t)marks[2] << 8 | marks[3]);
@@ -152,15 +164,16 @@ static unsigned read_prescription(uint32_t n, uint32_t q, uint32_t m, uint32_t b
     return answer;
 }
 
-static unsigned read_word(uint32_t n, uint32_t q, uint32_t m, uint32_t b, const uint8_t *word, size_t word_len)
+static unsigned read_word(struct figures f, const uint8_t *word, size_t word_len)
 {
     static uint8_t message[BURGZEMI_MAX_WORD], starts[2 * BURGZEMI_MAX_BURSTS];
 
     /* Figures without a length are refused by the reader, whatever the buffers are. */
-    uint32_t k = burgzemi_message_len(n, q, m, b);
+    uint32_t k = f.one_long ? burgzemi_long_message_len(f.n, f.q, f.b) : burgzemi_message_len(f.n, f.q, f.m, f.b);
     size_t message_len = k == BURGZEMI_NO_LENGTH ? 0 : k;
-    size_t starts_len = k == BURGZEMI_NO_LENGTH ? 0 : 2 * (size_t)m;
-    unsigned answer = burgzemi_decode(n, q, m, b, word, word_len, message, message_len, starts, starts_len);
+    size_t starts_len = k == BURGZEMI_NO_LENGTH ? 0 : 2 * (size_t)f.m;
+    unsigned answer = f.one_long ? burgzemi_long_decode(f.n, f.q, f.b, word, word_len, message, message_len, starts, starts_len)
+                                 : burgzemi_decode(f.n, f.q, f.m, f.b, word, word_len, message, message_len, starts, starts_len);
     if (answer == BURGZEMI_SERVED)
         print_accepted(starts, starts_len, message, message_len);
     return answer;
@@ -169,11 +182,13 @@ static unsigned read_word(uint32_t n, uint32_t q, uint32_t m, uint32_t b, const 
 int main(int argc, char **argv)
 {
     static uint8_t word[MAX_SYMBOLS];
-    uint32_t n, q, m, b, job = 0;
+    struct figures f = {.m = 1};
+    uint32_t job = 0;
 
     if (argc != 6 && argc != 7)
         return usage("four figures and a word are wanted, and a job number may follow");
-    if (!figure(argv[1], &n) || !figure(argv[2], &q) || !figure(argv[3], &m) || !figure(argv[4], &b))
+    f.one_long = strcmp(argv[3], "L") == 0;
+    if (!figure(argv[1], &f.n) || !figure(argv[2], &f.q) || !(f.one_long || figure(argv[3], &f.m)) || !figure(argv[4], &f.b))
         return usage("a figure is no number of 32 bits");
     int len = symbols(argv[5], word);
     if (len < 0)
@@ -181,9 +196,9 @@ int main(int argc, char **argv)
     if (argc == 7 && !figure(argv[6], &job))
         return usage("the job is no number of 32 bits");
 
-    unsigned answer = argc == 7 ? read_prescription(n, q, m, b, word, (size_t)len, job) : read_word(n, q, m, b, word, (size_t)len);
+    unsigned answer = argc == 7 ? read_prescription(f, word, (size_t)len, job) : read_word(f, word, (size_t)len);
     if (answer != BURGZEMI_SERVED)
         printf("refused %u: %s\n", answer, refusal_text(answer));
-    print_silent(word, (size_t)len, q);
+    print_silent(word, (size_t)len, f.q);
     return answer != BURGZEMI_SERVED;
 }

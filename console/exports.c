@@ -1,5 +1,5 @@
-/* Calls the functions of libexports.a on document 01's bench strips, its transfer example and on prescriptions, and sees that each refusal comes in its
- * place and leaves every buffer as it was. Ends with 0 where all is right. */
+/* Calls the functions of libexports.a on document 01's bench strips, its transfer example, on prescriptions and on strips with one long burst, and sees
+ * that each refusal comes in its place and leaves every buffer as it was. Ends with 0 where all is right. */
 #include "burgzemi.h"
 
 #include <stdio.h>
@@ -121,12 +121,15 @@ static void words(void)
 
 /* ---- The longest word and the most bursts: written, covered, damaged and read, all with q 256, where a byte takes one symbol */
 
-static void large_strip(const char *what, uint32_t n, uint32_t m, uint32_t b, uint32_t k)
+/* A call under the figures n, q 256, m and b, or, where one_long is 1, of one long burst. */
+#define EITHER(call, ...) (one_long ? burgzemi_long_##call(n, 256, b, __VA_ARGS__) : burgzemi_##call(n, 256, m, b, __VA_ARGS__))
+
+static void large_strip(const char *what, int one_long, uint32_t n, uint32_t m, uint32_t b, uint32_t k)
 {
     static uint8_t word[BURGZEMI_MAX_WORD], damaged[BURGZEMI_MAX_WORD], message[BURGZEMI_MAX_WORD], map[BURGZEMI_MAX_WORD], got[BURGZEMI_MAX_WORD];
     uint8_t table[BURGZEMI_TABLE_LEN] = {0}, starts[2 * BURGZEMI_MAX_BURSTS + 2] = {0}, other[2 * BURGZEMI_MAX_BURSTS + 2] = {0};
-    length(what, burgzemi_message_len(n, 256, m, b), k);
-    length(what, burgzemi_payload_len(n, 256, m, b), k);
+    length(what, one_long ? burgzemi_long_message_len(n, 256, b) : burgzemi_message_len(n, 256, m, b), k);
+    length(what, one_long ? burgzemi_long_payload_len(n, 256, b) : burgzemi_payload_len(n, 256, m, b), k);
     for (uint32_t i = 0; i < k; i++)
         message[i] = (uint8_t)(i * 7 + 1);
     memset(map, 0, n);
@@ -136,23 +139,23 @@ static void large_strip(const char *what, uint32_t n, uint32_t m, uint32_t b, ui
         starts[2 * i + 1] = (uint8_t)start;
         map[start] = map[start + b - 1] = 1;
     }
-    see(what, burgzemi_cover(n, 256, m, b, map, n, other, 2 * m), BURGZEMI_SERVED, other, starts, sizeof starts);
+    see(what, EITHER(cover, map, n, other, 2 * m), BURGZEMI_SERVED, other, starts, sizeof starts);
 
     memset(word, 0xA5, n);
     memset(got, 0xA5, n);
-    see(what, burgzemi_encode(n, 256, m, b, starts, 2 * m + 2, message, k, word, n), BURGZEMI_LENGTH, word, got, n);
-    unsigned answer = burgzemi_encode(n, 256, m, b, starts, 2 * m, message, k, word, n);
+    see(what, EITHER(encode, starts, 2 * m + 2, message, k, word, n), BURGZEMI_LENGTH, word, got, n);
+    unsigned answer = EITHER(encode, starts, 2 * m, message, k, word, n);
     memcpy(damaged, word, n);
     for (uint32_t i = 0; i < m; i++)
         memset(damaged + n - (m - i) * (b + 1), 0xFF, b);
     memset(other, 0, sizeof other);
-    see(what, burgzemi_decode(n, 256, m, b, damaged, n, got, k, other, 2 * m), answer, got, message, k);
+    see(what, EITHER(decode, damaged, n, got, k, other, 2 * m), answer, got, message, k);
     see(what, answer, BURGZEMI_SERVED, other, starts, sizeof starts);
 
     /* The job whose number the message begins with. */
     see(what, burgzemi_call(table, sizeof table, 'O', 0x01080F16), BURGZEMI_SERVED, got, message, k);
-    see(what, burgzemi_job_write(n, 256, m, b, table, sizeof table, starts, 2 * m, message, k, got, n), BURGZEMI_SERVED, got, word, n);
-    see(what, burgzemi_job_read(n, 256, m, b, table, sizeof table, damaged, n, got, k), BURGZEMI_SERVED, got, message, k);
+    see(what, EITHER(job_write, table, sizeof table, starts, 2 * m, message, k, got, n), BURGZEMI_SERVED, got, word, n);
+    see(what, EITHER(job_read, table, sizeof table, damaged, n, got, k), BURGZEMI_SERVED, got, message, k);
 }
 
 /* ---- Covering: n 30, q 2, m 1, b 3 */
@@ -188,82 +191,86 @@ static void maps(void)
     covering("b of 0", BURGZEMI_INVALID, 0, 26, 29, 2, 31, 3, 0);
 }
 
-/* ---- Words side by side: n 3, q 4, m 1, b 1 */
+/* ---- Words side by side: n 3, q 4, m 1, b 1, and the same figures with one long burst */
 
 static const uint8_t two_words[8] = {0, 1, 2, 3, 2, 1, 4, 4}, two_laid[6] = {0, 3, 1, 2, 2, 1};
 
 /* Both ways: laid where `into` is 1, taken apart where it is 0. The fifth symbol is `fifth`. */
-static void lanes(const char *what, unsigned wanted, int into, uint32_t q, uint32_t b, uint32_t depth, uint8_t fifth, size_t from_len, size_t to_len)
+static void lanes(const char *what, unsigned wanted, int one_long, int into, uint32_t q, uint32_t b, uint32_t depth, uint8_t fifth, size_t from_len, size_t to_len)
 {
     uint8_t from[8], to[8];
     memcpy(from, into ? two_words : two_laid, 6);
     memset(from + 6, 4, 2);
     from[4] = fifth;
     memcpy(to, untouched, sizeof to);
-    unsigned answer = (into ? burgzemi_interleave : burgzemi_deinterleave)(3, q, 1, b, depth, from, from_len, to, to_len);
+    unsigned answer = one_long ? (into ? burgzemi_long_interleave : burgzemi_long_deinterleave)(3, q, b, depth, from, from_len, to, to_len)
+                               : (into ? burgzemi_interleave : burgzemi_deinterleave)(3, q, 1, b, depth, from, from_len, to, to_len);
     see(what, answer, wanted, to, wanted == BURGZEMI_SERVED ? (into ? two_laid : two_words) : untouched, 6);
     see(what, answer, wanted, to + 6, untouched + 6, 2);
 }
 
-static void side_by_side(void)
+static void side_by_side(int one_long)
 {
     for (int into = 0; into <= 1; into++) {
-        lanes("two words", BURGZEMI_SERVED, into, 4, 1, 2, 2, 6, 6);
+        lanes("two words", BURGZEMI_SERVED, one_long, into, 4, 1, 2, 2, 6, 6);
         /* 1 2 18 3 4, each beside what would be refused later */
-        lanes("q of 257", BURGZEMI_INVALID, into, 257, 2, 0, 4, 5, 6);
-        lanes("b of 2", BURGZEMI_UNFIT, into, 4, 2, 0, 4, 5, 6);
-        lanes("depth 0", BURGZEMI_DEPTH, into, 4, 1, 0, 4, 5, 6);
-        lanes("depth 0, no symbols", BURGZEMI_DEPTH, into, 4, 1, 0, 2, 0, 0);
-        lanes("depth 17", BURGZEMI_DEPTH, into, 4, 1, 17, 4, 6, 6);
-        lanes("depth of 32 bits", BURGZEMI_DEPTH, into, 4, 1, UINT32_MAX, 2, 6, 6);
-        lanes("a symbol short", BURGZEMI_LENGTH, into, 4, 1, 2, 4, 5, 6);
-        lanes("a symbol more", BURGZEMI_LENGTH, into, 4, 1, 2, 4, 7, 6);
-        lanes("no room for a symbol", BURGZEMI_LENGTH, into, 4, 1, 2, 4, 6, 5);
-        lanes("room for a symbol more", BURGZEMI_LENGTH, into, 4, 1, 2, 4, 6, 7);
-        lanes(into ? "a symbol of q laid" : "a value above q taken apart", BURGZEMI_SYMBOL, into, 4, 1, 2, into ? 4 : 5, 6, 6);
+        lanes("q of 257", BURGZEMI_INVALID, one_long, into, 257, 2, 0, 4, 5, 6);
+        lanes("b of 2", BURGZEMI_UNFIT, one_long, into, 4, 2, 0, 4, 5, 6);
+        lanes("depth 0", BURGZEMI_DEPTH, one_long, into, 4, 1, 0, 4, 5, 6);
+        lanes("depth 0, no symbols", BURGZEMI_DEPTH, one_long, into, 4, 1, 0, 2, 0, 0);
+        lanes("depth 17", BURGZEMI_DEPTH, one_long, into, 4, 1, 17, 4, 6, 6);
+        lanes("depth of 32 bits", BURGZEMI_DEPTH, one_long, into, 4, 1, UINT32_MAX, 2, 6, 6);
+        lanes("a symbol short", BURGZEMI_LENGTH, one_long, into, 4, 1, 2, 4, 5, 6);
+        lanes("a symbol more", BURGZEMI_LENGTH, one_long, into, 4, 1, 2, 4, 7, 6);
+        lanes("no room for a symbol", BURGZEMI_LENGTH, one_long, into, 4, 1, 2, 4, 6, 5);
+        lanes("room for a symbol more", BURGZEMI_LENGTH, one_long, into, 4, 1, 2, 4, 6, 7);
+        lanes(into ? "a symbol of q laid" : "a value above q taken apart", BURGZEMI_SYMBOL, one_long, into, 4, 1, 2, into ? 4 : 5, 6, 6);
     }
 
     /* Silent cells are taken apart as any other. */
     uint8_t silent[6], taken[6];
     memset(silent, 4, sizeof silent);
-    see("silent cells taken apart", burgzemi_deinterleave(3, 4, 1, 1, 2, silent, 6, taken, 6), BURGZEMI_SERVED, taken, silent, 6);
+    unsigned answer = one_long ? burgzemi_long_deinterleave(3, 4, 1, 2, silent, 6, taken, 6) : burgzemi_deinterleave(3, 4, 1, 1, 2, silent, 6, taken, 6);
+    see("silent cells taken apart", answer, BURGZEMI_SERVED, taken, silent, 6);
 }
 
-/* Words of n symbols, all q 256 and b 1: each cell of the strip is where it belongs, and the words come back. */
-static void strip_of(uint32_t n, uint32_t depth)
+/* Words of n symbols, all q 256, m 1 and b 1: each cell of the strip is where it belongs, and the words come back. */
+static void strip_of(int one_long, uint32_t n, uint32_t depth)
 {
+    const uint32_t m = 1, b = 1;
     static uint8_t words[BURGZEMI_MAX_DEPTH * BURGZEMI_MAX_WORD], strip[sizeof words], back[sizeof words];
     size_t len = (size_t)n * depth;
     uint32_t state = n + depth;
     for (size_t i = 0; i < len; i++)
         words[i] = (uint8_t)((state = state * 1664525 + 1013904223) >> 24);
-    unsigned answer = burgzemi_interleave(n, 256, 1, 1, depth, words, len, strip, len);
+    unsigned answer = EITHER(interleave, depth, words, len, strip, len);
     for (size_t t = 0; t < len && answer == BURGZEMI_SERVED; t++)
         if (strip[t] != words[t % depth * n + t / depth])
             answer = 255;
     see("a strip", answer, BURGZEMI_SERVED, words, words, len);
-    see("a strip taken apart", burgzemi_deinterleave(n, 256, 1, 1, depth, strip, len, back, len), BURGZEMI_SERVED, back, words, len);
+    see("a strip taken apart", EITHER(deinterleave, depth, strip, len, back, len), BURGZEMI_SERVED, back, words, len);
 }
 
-/* README's picture: four words of n 15, q 256, m 1, b 2 under one scratch of 8 cells, from cell 26 on. */
-static void scratch(void)
+/* README's picture: four words of n 15, q 256, m 1, b 2 under one scratch of 8 cells, from cell 26 on; and one of 20 cells with one long burst, b 5. */
+static void scratch(int one_long, uint32_t b, uint32_t k)
 {
+    const uint32_t n = 15, m = 1;
     uint8_t map[60] = {0}, maps_apart[60], words[60], strip[60], found[60], message[11], got[11], starts[2], covers[8];
     static const uint8_t planned[8] = {0, 7, 0, 7, 0, 6, 0, 6};
-    memset(map + 26, 1, 8);
-    see("a scratch taken apart", burgzemi_deinterleave(15, 256, 1, 2, 4, map, 60, maps_apart, 60), BURGZEMI_SERVED, map, map, 60);
+    memset(map + 26, 1, 4 * b);
+    see("a scratch taken apart", EITHER(deinterleave, 4, map, 60, maps_apart, 60), BURGZEMI_SERVED, map, map, 60);
     for (int j = 0; j < 4; j++) {
         memset(message, 'A' + j, sizeof message);
-        see("a lane covered", burgzemi_cover(15, 256, 1, 2, maps_apart + 15 * j, 15, covers + 2 * j, 2), BURGZEMI_SERVED, covers, planned, 2 * (size_t)j + 2);
-        see("a lane written", burgzemi_encode(15, 256, 1, 2, covers + 2 * j, 2, message, 11, words + 15 * j, 15), BURGZEMI_SERVED, covers, planned, 2);
+        see("a lane covered", EITHER(cover, maps_apart + 15 * j, 15, covers + 2 * j, 2), BURGZEMI_SERVED, covers, planned, 2 * (size_t)j + 2);
+        see("a lane written", EITHER(encode, covers + 2 * j, 2, message, k, words + 15 * j, 15), BURGZEMI_SERVED, covers, planned, 2);
     }
-    see("four lanes laid", burgzemi_interleave(15, 256, 1, 2, 4, words, 60, strip, 60), BURGZEMI_SERVED, map, map, 60);
-    memset(strip + 26, 0xFF, 8);
-    see("four lanes taken apart", burgzemi_deinterleave(15, 256, 1, 2, 4, strip, 60, found, 60), BURGZEMI_SERVED, map, map, 60);
+    see("four lanes laid", EITHER(interleave, 4, words, 60, strip, 60), BURGZEMI_SERVED, map, map, 60);
+    memset(strip + 26, 0xFF, 4 * b);
+    see("four lanes taken apart", EITHER(deinterleave, 4, strip, 60, found, 60), BURGZEMI_SERVED, map, map, 60);
     for (int j = 0; j < 4; j++) {
         memset(message, 'A' + j, sizeof message);
-        unsigned answer = burgzemi_decode(15, 256, 1, 2, found + 15 * j, 15, got, 11, starts, 2);
-        see("a lane read", answer, BURGZEMI_SERVED, got, message, 11);
+        unsigned answer = EITHER(decode, found + 15 * j, 15, got, k, starts, 2);
+        see("a lane read", answer, BURGZEMI_SERVED, got, message, k);
         see("a lane's starts", answer, BURGZEMI_SERVED, starts, planned + 2 * j, 2);
     }
 }
@@ -706,25 +713,259 @@ static void prescriptions(void)
     read_prescription("another job", BURGZEMI_NOT_OPEN, 2, 1, 8, 2, right_lengths);
 }
 
+/* ---- One long burst: n 20, q 2, b 5; start 9, message all 1. The parts begin at 0, 6 and 13: the burst ends at the begin of the third, so the first
+ * spells 0 and the second has the fixed symbol. */
+
+static const char long_word[21] = "10001101100000111111";
+
+/* Symbols from characters 0 to 9. */
+static void symbols_of(const char *text, uint8_t *word)
+{
+    for (size_t i = 0; text[i] != '\0'; i++)
+        word[i] = (uint8_t)(text[i] - '0');
+}
+
+static void long_lengths(void)
+{
+    length("one long burst", burgzemi_long_message_len(20, 2, 5), 10);
+    length("the longest burst of n 20", burgzemi_long_message_len(20, 2, 6), 9);
+    length("a burst above a third", burgzemi_long_message_len(20, 2, 7), BURGZEMI_NO_LENGTH);
+    length("no room for the digits", burgzemi_long_message_len(4, 2, 1), BURGZEMI_NO_LENGTH);
+    length("the least figures", burgzemi_long_message_len(3, 2, 1), 0);
+    length("payload of one long burst", burgzemi_long_payload_len(20, 2, 5), 1);
+    length("payload of the example with one long burst", burgzemi_long_payload_len(15, 256, 5), 8);
+    length("payload of b 7", burgzemi_long_payload_len(20, 2, 7), BURGZEMI_NO_LENGTH);
+}
+
+static void long_written(void)
+{
+    uint8_t start[4] = {0, 16, 0, 0}, message[12], word[24], expected[24];
+    memset(message, 1, sizeof message);
+    message[9] = 2;
+    memcpy(word, untouched, sizeof word);
+    memcpy(expected, untouched, sizeof expected);
+#define WRITE(what, wanted, n, q, b, starts_len, message_len, word_len) \
+    see(what, burgzemi_long_encode(n, q, b, start, starts_len, message, message_len, word, word_len), wanted, word, expected, sizeof word)
+    /* 1 2 3 5 4, each beside what would be refused later */
+    WRITE("n of 4097", BURGZEMI_INVALID, 4097, 2, 7, 1, 11, 19);
+    WRITE("q of 1", BURGZEMI_INVALID, 20, 1, 7, 1, 11, 19);
+    WRITE("b of 0", BURGZEMI_INVALID, 20, 2, 0, 1, 11, 19);
+    WRITE("b of 7", BURGZEMI_UNFIT, 20, 2, 7, 1, 11, 19);
+    WRITE("half a start", BURGZEMI_LENGTH, 20, 2, 5, 1, 10, 20);
+    WRITE("two starts", BURGZEMI_LENGTH, 20, 2, 5, 4, 10, 20);
+    WRITE("message long", BURGZEMI_LENGTH, 20, 2, 5, 2, 11, 20);
+    WRITE("word short", BURGZEMI_LENGTH, 20, 2, 5, 2, 10, 19);
+    WRITE("word long", BURGZEMI_LENGTH, 20, 2, 5, 2, 10, 21);
+    WRITE("start past the end", BURGZEMI_STARTS, 20, 2, 5, 2, 10, 20);
+    start[1] = 9;
+    WRITE("a symbol of 2", BURGZEMI_SYMBOL, 20, 2, 5, 2, 10, 20);
+    message[9] = 1;
+    symbols_of(long_word, expected);
+    WRITE("one long burst written", BURGZEMI_SERVED, 20, 2, 5, 2, 10, 20);
+#undef WRITE
+}
+
+/* Reads a word of 20 characters: the start, or the refusal with both buffers as they were. */
+static void long_read(const char *what, unsigned wanted, uint32_t q, uint32_t b, const char *text, size_t word_len, size_t message_len, size_t starts_len, uint8_t start)
+{
+    uint8_t word[21] = {0}, message[12], starts[4], kept[4] = {0, start, 0xA5, 0x5A};
+    symbols_of(text, word);
+    memcpy(message, untouched, sizeof message);
+    memcpy(starts, untouched, sizeof starts);
+    unsigned answer = burgzemi_long_decode(20, q, b, word, word_len, message, message_len, starts, starts_len);
+    see(what, answer, wanted, starts, wanted == BURGZEMI_SERVED ? kept : untouched, sizeof starts);
+    if (wanted != BURGZEMI_SERVED)
+        see(what, answer, wanted, message, untouched, sizeof message);
+}
+
+static void long_found(void)
+{
+    long_read("as it is written", BURGZEMI_SERVED, 2, 5, long_word, 20, 10, 2, 9);
+    long_read("damage in the burst", BURGZEMI_SERVED, 2, 5, "10001101101010111111", 20, 10, 2, 9);
+    long_read("a silent burst", BURGZEMI_SERVED, 2, 5, "10001101122222111111", 20, 10, 2, 9);
+    /* 1 2 3 4 7 19 8 9 19, each beside what would be refused later */
+    long_read("q of 257", BURGZEMI_INVALID, 257, 7, "33333333333333333333", 19, 9, 1, 0);
+    long_read("b of 7", BURGZEMI_UNFIT, 2, 7, "33333333333333333333", 19, 9, 1, 0);
+    long_read("word short", BURGZEMI_LENGTH, 2, 5, "33333333333333333333", 19, 10, 2, 0);
+    long_read("message short", BURGZEMI_LENGTH, 2, 5, "33333333333333333333", 20, 9, 2, 0);
+    long_read("starts short", BURGZEMI_LENGTH, 2, 5, "33333333333333333333", 20, 10, 1, 0);
+    long_read("starts long", BURGZEMI_LENGTH, 2, 5, "33333333333333333333", 20, 10, 4, 0);
+    long_read("a value of 3 in the burst", BURGZEMI_SYMBOL, 2, 5, "11121111133333111111", 20, 10, 2, 0);
+    long_read("no part with a fixed symbol", BURGZEMI_PATTERN, 2, 5, "11121111122222111112", 20, 10, 2, 0);
+    long_read("three fixed symbols", BURGZEMI_PATTERN, 2, 5, "00000000000000000000", 20, 10, 2, 0);
+    long_read("a silent digit of a value too large", BURGZEMI_ERASED, 2, 5, "11121101100000111112", 20, 10, 2, 0);
+    long_read("a value of 7 in a part of 7", BURGZEMI_VALUE, 2, 5, "11111101100000111112", 20, 10, 2, 0);
+    long_read("a value of 6 in a part of 7", BURGZEMI_SERVED, 2, 5, "11101101100000000000", 20, 10, 2, 15);
+    long_read("a value of 6 in a part of 6", BURGZEMI_VALUE, 2, 5, "11111111101110111112", 20, 10, 2, 0);
+    long_read("a burst before position 0", BURGZEMI_DISAGREES, 2, 5, "11111110111110111112", 20, 10, 2, 0);
+    long_read("a burst from position 0", BURGZEMI_SERVED, 2, 5, "11111111001110111111", 20, 10, 2, 0);
+    long_read("a silent message cell", BURGZEMI_ERASED, 2, 5, "10001101100000111112", 20, 10, 2, 0);
+}
+
+static void long_maps(void)
+{
+    uint8_t map[21] = {0}, starts[4], expected[4];
+    memcpy(starts, untouched, sizeof starts);
+    memcpy(expected, untouched, sizeof expected);
+#define COVER(what, wanted, b, map_len, starts_len) \
+    see(what, burgzemi_long_cover(20, 2, b, map, map_len, starts, starts_len), wanted, starts, expected, sizeof starts)
+    map[9] = map[14] = 2;
+    COVER("b of 0", BURGZEMI_INVALID, 0, 21, 4);
+    COVER("b of 7", BURGZEMI_UNFIT, 7, 21, 4);
+    COVER("map long", BURGZEMI_LENGTH, 5, 21, 2);
+    COVER("two starts", BURGZEMI_LENGTH, 5, 20, 4);
+    COVER("bytes of 2", BURGZEMI_SYMBOL, 5, 20, 2);
+    map[9] = map[14] = 1;
+    COVER("9 and 14", BURGZEMI_UNCOVERED, 5, 20, 2);
+    map[14] = 0;
+    map[13] = 1;
+    expected[0] = 0;
+    expected[1] = 9;
+    COVER("9 and 13", BURGZEMI_SERVED, 5, 20, 2);
+#undef COVER
+}
+
+/* The transfer program's example with one long burst: n 15, q 256, b 5; start 6, job 7. */
+static const uint8_t long_payload7[8] = {0, 0, 0, 7, 0x41, 0x42, 0x43, 0x44};
+static const uint8_t long_written7[15] = {1, 0, 0, 0, 7, 0, 0, 0, 0, 0, 0, 0x41, 0x42, 0x43, 0x44};
+
+static void long_jobs(void)
+{
+    uint8_t table[BURGZEMI_TABLE_LEN] = {6}, start[2] = {0, 11}, payload[8] = {0}, word[16], expected[16], found[16] = {0}, got[9], kept[9];
+    memcpy(word, untouched, sizeof word);
+    memcpy(expected, untouched, sizeof expected);
+    memcpy(got, untouched, sizeof got);
+    memcpy(kept, untouched, sizeof kept);
+    memset(found, 1, sizeof found);
+#define WRITE(what, wanted, n, q, b, table_len, starts_len, payload_len, word_len) \
+    see(what, burgzemi_long_job_write(n, q, b, table, table_len, start, starts_len, payload, payload_len, word, word_len), wanted, word, expected, sizeof word)
+#define READ(what, wanted, n, q, b, table_len, word_len, payload_len) \
+    see(what, burgzemi_long_job_read(n, q, b, table, table_len, found, word_len, got, payload_len), wanted, got, kept, sizeof got)
+    /* 1 2 10 3 5 and 17, or 3 7 8 9, each beside what would be refused later */
+    WRITE("an unknown state, written", BURGZEMI_INVALID, 15, 256, 6, sizeof table, 1, 7, 14);
+    READ("an unknown state, read", BURGZEMI_INVALID, 15, 256, 6, sizeof table, 14, 7);
+    table[0] = 0;
+    WRITE("b of 6, written", BURGZEMI_UNFIT, 15, 256, 6, 319, 1, 7, 14);
+    READ("b of 6, read", BURGZEMI_UNFIT, 15, 256, 6, 319, 14, 7);
+    WRITE("a payload of 4 bytes, written", BURGZEMI_PAYLOAD, 9, 256, 3, 319, 1, 7, 14);
+    READ("a payload of 4 bytes, read", BURGZEMI_PAYLOAD, 9, 256, 3, 319, 14, 7);
+    WRITE("table short, written", BURGZEMI_LENGTH, 15, 256, 5, 319, 2, 8, 15);
+    READ("table short, read", BURGZEMI_LENGTH, 15, 256, 5, 319, 15, 8);
+    WRITE("half a start", BURGZEMI_LENGTH, 15, 256, 5, sizeof table, 1, 8, 15);
+    WRITE("payload short, written", BURGZEMI_LENGTH, 15, 256, 5, sizeof table, 2, 7, 15);
+    READ("payload long, read", BURGZEMI_LENGTH, 15, 256, 5, sizeof table, 15, 9);
+    WRITE("word long, written", BURGZEMI_LENGTH, 15, 256, 5, sizeof table, 2, 8, 16);
+    READ("word short, read", BURGZEMI_LENGTH, 15, 256, 5, sizeof table, 14, 8);
+    WRITE("start past the end", BURGZEMI_STARTS, 15, 256, 5, sizeof table, 2, 8, 15);
+    READ("no pattern", BURGZEMI_PATTERN, 15, 256, 5, sizeof table, 15, 8);
+    found[10] = 0;
+    READ("a burst before position 0", BURGZEMI_DISAGREES, 15, 256, 5, sizeof table, 15, 8);
+    found[5] = 6;
+    READ("a value of 5 in a part of 5", BURGZEMI_VALUE, 15, 256, 5, sizeof table, 15, 8);
+    start[1] = 6;
+    WRITE("number 0", BURGZEMI_NUMBER_ZERO, 15, 256, 5, sizeof table, 2, 8, 15);
+    /* the job's states but for open */
+    memcpy(payload, long_payload7, sizeof payload);
+    memcpy(found, long_written7, sizeof long_written7);
+    memset(found + 6, 0xFF, 5);
+    static const uint8_t states[5][2] = {
+        {0, BURGZEMI_NOT_OPEN}, {2, BURGZEMI_CANCELLED}, {3, BURGZEMI_CANCELLED}, {4, BURGZEMI_HELD}, {5, BURGZEMI_CANCELLED},
+    };
+    for (int i = 0; i < 5; i++) {
+        set_slot(table, 63, states[i][0], 7);
+        WRITE("job 7 by its state, written", states[i][1], 15, 256, 5, sizeof table, 2, 8, 15);
+        READ("job 7 by its state, read", states[i][1], 15, 256, 5, sizeof table, 15, 8);
+    }
+    set_slot(table, 63, 1, 7);
+    memcpy(expected, long_written7, sizeof long_written7);
+    memcpy(kept, long_payload7, sizeof long_payload7);
+    WRITE("job 7 written with one long burst", BURGZEMI_SERVED, 15, 256, 5, sizeof table, 2, 8, 15);
+    READ("job 7 read with one long burst", BURGZEMI_SERVED, 15, 256, 5, sizeof table, 15, 8);
+#undef WRITE
+#undef READ
+}
+
+/* Prescriptions with one long burst: n 30, q 256, b 10; start 8, job 7, whose burst is damaged before the reading. */
+static void long_prescriptions(void)
+{
+    uint8_t table[BURGZEMI_TABLE_LEN] = {0}, start[2] = {0, 8}, word[30], expected[30], marks[8], kept[8];
+    static const uint8_t handed[8] = {0, 0, 0, 7, 2, 90, 0, 0};
+    static const double handed_powers[5] = {-1.25, 0.5, 0, 0, 63.5};
+    double powers[5] = {7, 7, 7, 7, 7}, kept_powers[5] = {7, 7, 7, 7, 7};
+    memcpy(word, untouched, sizeof word);
+    memcpy(expected, untouched, sizeof expected);
+    memcpy(marks, untouched, sizeof marks);
+    memcpy(kept, untouched, sizeof kept);
+#define WRITE(what, wanted, n, b, starts_len, distance, word_len) \
+    see(what, burgzemi_long_prescription_write(n, 256, b, table, sizeof table, start, starts_len, 7, toric.kind, toric.sphere, toric.cylinder, toric.axis, \
+                                               plano.kind, plano.sphere, plano.cylinder, plano.axis, distance, word, word_len), \
+        wanted, word, expected, sizeof word)
+#define READ(what, wanted, n, b, word_len, marks_len, powers_len) \
+    do { \
+        unsigned answer = burgzemi_long_prescription_read(n, 256, b, table, sizeof table, word, word_len, marks, marks_len, powers, powers_len); \
+        see(what, answer, wanted, marks, kept, sizeof marks); \
+        see_powers(what, powers, kept_powers, 5); \
+    } while (0)
+    /* 1 2 10 3 5 16 14, each beside what would be refused later */
+    WRITE("n of 2", BURGZEMI_INVALID, 2, 11, 1, 0, 29);
+    WRITE("b of 11", BURGZEMI_UNFIT, 30, 11, 1, 0, 29);
+    WRITE("no room for a job", BURGZEMI_PAYLOAD, 9, 3, 1, 0, 29);
+    WRITE("word short", BURGZEMI_LENGTH, 30, 10, 2, 0, 29);
+    start[1] = 21;
+    WRITE("start past the end", BURGZEMI_STARTS, 30, 10, 2, 0, 30);
+    start[1] = 8;
+    WRITE("no distance", BURGZEMI_PRESCRIPTION, 30, 10, 2, 0, 30);
+    WRITE("a payload of 16 bytes", BURGZEMI_PRESCRIPTION, 27, 9, 2, 63.5, 27);
+    WRITE("an unknown job", BURGZEMI_NOT_OPEN, 30, 10, 2, 63.5, 30);
+    set_slot(table, 5, 1, 7);
+    /* The burst ends at 17, in the second part, 7 after its begin; the third spells that, the first has the fixed symbol. */
+    memset(expected, 0, sizeof expected);
+    memcpy(expected + 1, (const uint8_t[]){0, 0, 0, 7, 2, 255, 246}, 7);
+    memcpy(expected + 18, (const uint8_t[]){0, 4, 8, 90}, 4);
+    expected[28] = 127;
+    WRITE("a prescription with one long burst", BURGZEMI_SERVED, 30, 10, 2, 63.5, 30);
+    memset(word + 8, 0xFF, 10);
+    READ("marks short", BURGZEMI_LENGTH, 30, 10, 30, 7, 5);
+    READ("powers short", BURGZEMI_LENGTH, 30, 10, 30, 8, 4);
+    word[5] = 3;
+    READ("a kind of 3", BURGZEMI_PRESCRIPTION, 30, 10, 30, 8, 5);
+    word[5] = 2;
+    memcpy(kept, handed, sizeof kept);
+    memcpy(kept_powers, handed_powers, sizeof kept_powers);
+    READ("a prescription read with one long burst", BURGZEMI_SERVED, 30, 10, 30, 8, 5);
+#undef WRITE
+#undef READ
+}
+
 int main(void)
 {
     words();
     checks();
-    large_strip("4096 symbols, 6 bursts", BURGZEMI_MAX_WORD, 6, 112, 3388);
-    large_strip("999 symbols, 8 bursts", 999, BURGZEMI_MAX_BURSTS, 15, 823);
+    large_strip("4096 symbols, 6 bursts", 0, BURGZEMI_MAX_WORD, 6, 112, 3388);
+    large_strip("999 symbols, 8 bursts", 0, 999, BURGZEMI_MAX_BURSTS, 15, 823);
+    large_strip("4096 symbols, one long burst", 1, BURGZEMI_MAX_WORD, 1, 1365, 2728);
     maps();
-    side_by_side();
-    for (uint32_t depth = 1; depth <= BURGZEMI_MAX_DEPTH; depth++) {
-        strip_of(3, depth);
-        strip_of(47, depth);
-        strip_of(1024, depth);
+    for (int one_long = 0; one_long <= 1; one_long++) {
+        side_by_side(one_long);
+        for (uint32_t depth = 1; depth <= BURGZEMI_MAX_DEPTH; depth++) {
+            strip_of(one_long, 3, depth);
+            strip_of(one_long, 47, depth);
+            strip_of(one_long, 1024, depth);
+        }
+        strip_of(one_long, BURGZEMI_MAX_WORD, BURGZEMI_MAX_DEPTH);
     }
-    strip_of(BURGZEMI_MAX_WORD, BURGZEMI_MAX_DEPTH);
-    scratch();
+    scratch(0, 2, 11);
+    scratch(1, 5, 8);
     calls();
     number_zero();
     transfer_example();
     eyes();
     prescriptions();
+    long_lengths();
+    long_written();
+    long_found();
+    long_maps();
+    long_jobs();
+    long_prescriptions();
     return wrong;
 }

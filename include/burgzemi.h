@@ -259,6 +259,68 @@ uint8_t burgzemi_prescription_read(uint32_t n, uint32_t q, uint32_t m, uint32_t 
                                    uint8_t *marks, size_t marks_len,
                                    double *powers, size_t powers_len);
 
+/*
+ * Strips with one long burst: Construction B, with the figures n, q and b. Each of these functions does what the one without "long_" in its name does, on
+ * buffers of the same lengths with 2 bytes of starts, and refuses the same in the same order, but for what the figures give:
+ *
+ * b may be up to n / 3 (rounded down), and r is the least for which an index block's first 1 + r symbols spell at least n / 3 values (rounded up). 2 is for a
+ * b above n / 3 or an r that is not below it (both rounded down). k is n - b - r - 2. The index block spells how far into its part the burst ends: 8 is for a
+ * value that is not below the part's length, and 9 for a burst that would start before position 0.
+ *
+ * burgzemi_verify has no such function beside it.
+ */
+uint32_t burgzemi_long_message_len(uint32_t n, uint32_t q, uint32_t b);
+
+uint32_t burgzemi_long_payload_len(uint32_t n, uint32_t q, uint32_t b);
+
+uint8_t burgzemi_long_decode(uint32_t n, uint32_t q, uint32_t b,
+                             const uint8_t *word, size_t word_len,
+                             uint8_t *message, size_t message_len,
+                             uint8_t *starts, size_t starts_len);
+
+uint8_t burgzemi_long_encode(uint32_t n, uint32_t q, uint32_t b,
+                             const uint8_t *starts, size_t starts_len,
+                             const uint8_t *message, size_t message_len,
+                             uint8_t *word, size_t word_len);
+
+uint8_t burgzemi_long_cover(uint32_t n, uint32_t q, uint32_t b,
+                            const uint8_t *map, size_t map_len,
+                            uint8_t *starts, size_t starts_len);
+
+uint8_t burgzemi_long_job_write(uint32_t n, uint32_t q, uint32_t b,
+                                const uint8_t *table, size_t table_len,
+                                const uint8_t *starts, size_t starts_len,
+                                const uint8_t *payload, size_t payload_len,
+                                uint8_t *word, size_t word_len);
+
+uint8_t burgzemi_long_job_read(uint32_t n, uint32_t q, uint32_t b,
+                               const uint8_t *table, size_t table_len,
+                               const uint8_t *word, size_t word_len,
+                               uint8_t *payload, size_t payload_len);
+
+uint8_t burgzemi_long_interleave(uint32_t n, uint32_t q, uint32_t b, uint32_t depth,
+                                 const uint8_t *words, size_t words_len,
+                                 uint8_t *strip, size_t strip_len);
+
+uint8_t burgzemi_long_deinterleave(uint32_t n, uint32_t q, uint32_t b, uint32_t depth,
+                                   const uint8_t *strip, size_t strip_len,
+                                   uint8_t *words, size_t words_len);
+
+uint8_t burgzemi_long_prescription_write(uint32_t n, uint32_t q, uint32_t b,
+                                         const uint8_t *table, size_t table_len,
+                                         const uint8_t *starts, size_t starts_len,
+                                         uint32_t number,
+                                         uint8_t right_kind, double right_sphere, double right_cylinder, uint8_t right_axis,
+                                         uint8_t left_kind, double left_sphere, double left_cylinder, uint8_t left_axis,
+                                         double distance,
+                                         uint8_t *word, size_t word_len);
+
+uint8_t burgzemi_long_prescription_read(uint32_t n, uint32_t q, uint32_t b,
+                                        const uint8_t *table, size_t table_len,
+                                        const uint8_t *word, size_t word_len,
+                                        uint8_t *marks, size_t marks_len,
+                                        double *powers, size_t powers_len);
+
 #ifdef __cplusplus
 }
 #endif

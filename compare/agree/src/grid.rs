@@ -1,5 +1,6 @@
 //! Figures on a grid with every boundary, through each call that takes figures.
 
+use burgzemi::{Long, Ranked};
 use second::choose::choose;
 use second::figures::{MAX_N, MAX_RUNS};
 use second::Figures;
@@ -76,8 +77,24 @@ fn bursts(n: u32, q: u32, m: u32) -> Vec<u32> {
     bursts
 }
 
-/// Calls `visit` with all figures of the grid.
-pub fn each(mut visit: impl FnMut(Numbers)) {
+/// Calls `visit` with all of Construction B's figures of the grid.
+pub fn each_long(mut visit: impl FnMut(Long)) {
+    for n in lengths() {
+        for q in alphabets() {
+            let part = n / 3;
+            let mut bursts = vec![0, 1, 2, 3, part.saturating_sub(1), part, part + 1, n];
+            bursts.extend(EDGES);
+            bursts.sort_unstable();
+            bursts.dedup();
+            for b in bursts {
+                visit((n, q, b));
+            }
+        }
+    }
+}
+
+/// Calls `visit` with all of Construction A's figures of the grid.
+pub fn each(mut visit: impl FnMut(Ranked)) {
     for n in lengths() {
         for q in alphabets() {
             for m in (0..=9).chain(EDGES) {
@@ -96,17 +113,21 @@ const NONE: PrescriptionNumbers = ((0, 0.0, 0.0, 0), (0, 0.0, 0.0, 0), 0.0);
 pub fn run(judge: &mut Judge) {
     let mut depths = (0..=17).cycle();
     each(|f| {
-        let depth = depths.next().unwrap_or(0);
-        judge.lengths(f);
-        judge.decode(f, &[], 0, 0);
-        judge.encode(f, &[], &[], 0);
+        figures_alone(judge, Numbers::Ranked(f), depths.next().unwrap_or(0));
         judge.verify(f, &[], &[], &[]);
-        judge.cover(f, &[], 0);
-        judge.interleave(f, depth, &[], 0);
-        judge.deinterleave(f, depth, &[], 0);
-        judge.job_write(f, &[], &[], &[], 0);
-        judge.job_read(f, &[], &[], 0);
-        judge.prescription_write(f, &[], &[], 0, NONE, 0);
-        judge.prescription_read(f, &[], &[], 0, 0);
     });
+    each_long(|f| figures_alone(judge, Numbers::Long(f), depths.next().unwrap_or(0)));
+}
+
+fn figures_alone(judge: &mut Judge, f: Numbers, depth: u32) {
+    judge.lengths(f);
+    judge.decode(f, &[], 0, 0);
+    judge.encode(f, &[], &[], 0);
+    judge.cover(f, &[], 0);
+    judge.interleave(f, depth, &[], 0);
+    judge.deinterleave(f, depth, &[], 0);
+    judge.job_write(f, &[], &[], &[], 0);
+    judge.job_read(f, &[], &[], 0);
+    judge.prescription_write(f, &[], &[], 0, NONE, 0);
+    judge.prescription_read(f, &[], &[], 0, 0);
 }

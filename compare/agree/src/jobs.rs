@@ -6,15 +6,15 @@ use second::Figures;
 use crate::calls::{bad_table, number, start, table};
 use crate::judge::{Judge, Op};
 use crate::make::{
-    damage, figures, found, numbers, odd_message, placement, silent_value, sound_message,
-    start_bytes, symbols, wrong_len,
+    damage, found, numbers, odd_message, placement, silent_value, sound_message, start_bytes,
+    symbols, wrong_len,
 };
 use crate::rng::Rng;
+use crate::sides::Numbers;
 use crate::words::bad_starts_of;
 
-/// One round for random figures.
-pub fn round(judge: &mut Judge, rng: &mut Rng) {
-    let f = figures(rng);
+/// One round for these figures.
+pub fn round(judge: &mut Judge, rng: &mut Rng, f: Figures) {
     let table = table(rng);
     let starts = placement(rng, &f);
     let payload = payload(rng, &f, &table);
@@ -169,13 +169,25 @@ fn refused_reading(judge: &mut Judge, rng: &mut Rng, f: &Figures, good: &[u8]) {
 }
 
 /// Figures with one of them off.
-pub fn off(rng: &mut Rng, (n, q, m, b): (u32, u32, u32, u32)) -> (u32, u32, u32, u32) {
+pub fn off(rng: &mut Rng, numbers: Numbers) -> Numbers {
+    let (mut n, mut q, mut m, mut b) = match numbers {
+        Numbers::Ranked(numbers) => numbers,
+        Numbers::Long((n, q, b)) => (n, q, 1, b),
+    };
+    let share = match numbers {
+        Numbers::Ranked(_) => n / m.max(1) + 1,
+        Numbers::Long(_) => n / 3 + 1,
+    };
     match rng.below(6) {
-        0 => (rng.pick(&[0, 2, 4097]), q, m, b),
-        1 => (n, rng.pick(&[0, 1, 257]), m, b),
-        2 => (n, q, rng.pick(&[0, 9]), b),
-        3 => (n, q, m, 0),
-        4 => (n, q, m, n / m.max(1) + 1),
-        _ => (n, q, m, n),
+        0 => n = rng.pick(&[0, 2, 4097]),
+        1 => q = rng.pick(&[0, 1, 257]),
+        2 => m = rng.pick(&[0, 9]),
+        3 => b = 0,
+        4 => b = share,
+        _ => b = n,
+    }
+    match numbers {
+        Numbers::Ranked(_) => Numbers::Ranked((n, q, m, b)),
+        Numbers::Long(_) => Numbers::Long((n, q, b)),
     }
 }

@@ -1,5 +1,6 @@
 //! The judge: makes each call on both sides, compares answers and every byte of the buffers, and counts.
 
+use burgzemi::Ranked;
 use second::raw::DIFFERS;
 use second::Figures;
 
@@ -48,6 +49,42 @@ impl Op {
             b'U' => Op::Release,
             _ => Op::OtherLetter,
         }
+    }
+
+    /// Whether Construction B's figures have this call too.
+    pub fn takes_long(self) -> bool {
+        matches!(
+            self,
+            Op::Figures
+                | Op::Encode
+                | Op::Decode
+                | Op::Cover
+                | Op::Interleave
+                | Op::Deinterleave
+                | Op::JobWrite
+                | Op::JobRead
+                | Op::PrescriptionWrite
+                | Op::PrescriptionRead
+        )
+    }
+
+    /// This call under these figures.
+    fn under(self, f: Numbers) -> Kind {
+        let long = matches!(f, Numbers::Long(_));
+        Kind { op: self, long }
+    }
+}
+
+/// A kind of call, and whether its figures are Construction B's.
+#[derive(Clone, Copy)]
+pub struct Kind {
+    pub op: Op,
+    pub long: bool,
+}
+
+impl From<Op> for Kind {
+    fn from(op: Op) -> Kind {
+        Kind { op, long: false }
     }
 }
 
@@ -111,7 +148,7 @@ impl Judge {
     /// Makes one call on both sides with copies of the same two buffers, the second often empty.
     fn both<T: Item>(
         &mut self,
-        op: Op,
+        kind: Kind,
         out: Lent,
         also: Lent<T>,
         inputs: &dyn Fn() -> String,
@@ -127,7 +164,7 @@ impl Judge {
             let kept = a.guarded(&out) && b.guarded(&also);
             if !kept || (*number != 0 && (*a != out || *b != also)) {
                 let what = format!("{} touched bytes, answer {number}", side.name);
-                self.report(op, inputs, &what);
+                self.report(kind.op, inputs, &what);
             }
         }
         if ours != theirs {
@@ -135,9 +172,9 @@ impl Judge {
             let outs = [outs.map(Lent::shown), others.map(Lent::shown)].concat();
             let outs = outs.join("\n          ");
             let what = format!("answers {} and {}\n  buffers {outs}", ours.0, theirs.0);
-            self.report(op, inputs, &what);
+            self.report(kind.op, inputs, &what);
         }
-        self.count(op, theirs.0, inputs);
+        self.count(kind, theirs.0, inputs);
         Answer {
             number: theirs.0,
             out: theirs.1.into_items(),
@@ -145,11 +182,11 @@ impl Judge {
         }
     }
 
-    fn count(&mut self, op: Op, number: u8, inputs: &dyn Fn() -> String) {
-        self.tally.count(op, number);
-        if !OPS[op as usize].2.contains(&number) {
+    fn count(&mut self, kind: Kind, number: u8, inputs: &dyn Fn() -> String) {
+        self.tally.count(kind, number);
+        if !OPS[kind.op as usize].2.contains(&number) {
             self.report(
-                op,
+                kind.op,
                 inputs,
                 &format!("answer {number}, which this call can't give"),
             );
@@ -182,9 +219,8 @@ impl Judge {
             &inputs,
             &format!("{ours:?} and {theirs:?}"),
         );
-        let (n, q, m, b) = numbers;
-        let number = Figures::new(n, q, m, b).err().unwrap_or(0);
-        self.count(Op::Figures, number, &inputs);
+        let number = Figures::try_from(numbers).err().unwrap_or(0);
+        self.count(Op::Figures.under(numbers), number, &inputs);
     }
 
     pub fn encode(&mut self, f: Numbers, starts: &[u8], message: &[u8], word: usize) -> Answer {
@@ -196,7 +232,7 @@ impl Judge {
             )
         };
         self.both(
-            Op::Encode,
+            Op::Encode.under(f),
             Lent::new(word),
             Lent::new(0),
             &inputs,
@@ -208,9 +244,13 @@ impl Judge {
     pub fn decode(&mut self, f: Numbers, word: &[u8], message: usize, starts: usize) -> Answer {
         let inputs = || format!("{f:?} word {} message {message} starts {starts}", hex(word));
         let lent = (Lent::new(message), Lent::new(starts));
-        let answer = self.both(Op::Decode, lent.0, lent.1, &inputs, &|side, out, also| {
-            (side.decode)(f, word, out, also)
-        });
+        let answer = self.both(
+            Op::Decode.under(f),
+            lent.0,
+            lent.1,
+            &inputs,
+            &|side, out, also| (side.decode)(f, word, out, also),
+        );
         if answer.number == 0 {
             self.tally.count_accepted(f, word);
         }
@@ -218,13 +258,17 @@ impl Judge {
     }
 
     /// The word and the message are lent as written buffers are, and must be left as they were.
-    pub fn verify(&mut self, f: Numbers, starts: &[u8], message: &[u8], word: &[u8]) -> u8 {
+    pub fn verify(&mut self, f: Ranked, starts: &[u8], message: &[u8], word: &[u8]) -> u8 {
         let bytes = [starts, message, word];
         let inputs = || format!("{f:?} starts, message, word {}", all(&bytes));
         let lent = (Lent::holding(word), Lent::holding(message));
-        let answer = self.both(Op::Verify, lent.0, lent.1, &inputs, &|side, out, also| {
-            (side.verify)(f, starts, also, out)
-        });
+        let answer = self.both(
+            Op::Verify.into(),
+            lent.0,
+            lent.1,
+            &inputs,
+            &|side, out, also| (side.verify)(f, starts, also, out),
+        );
         let kept = answer.out == word && answer.also == message;
         self.expect(Op::Verify, kept, &inputs, "a list or a word was touched");
         answer.number
@@ -233,7 +277,7 @@ impl Judge {
     pub fn cover(&mut self, f: Numbers, map: &[u8], starts: usize) -> Answer {
         let inputs = || format!("{f:?} map {} starts {starts}", hex(map));
         self.both(
-            Op::Cover,
+            Op::Cover.under(f),
             Lent::new(starts),
             Lent::new(0),
             &inputs,
@@ -244,7 +288,7 @@ impl Judge {
     pub fn interleave(&mut self, f: Numbers, depth: u32, words: &[u8], strip: usize) -> Answer {
         let inputs = || format!("{f:?} depth {depth} words {} strip {strip}", hex(words));
         self.both(
-            Op::Interleave,
+            Op::Interleave.under(f),
             Lent::new(strip),
             Lent::new(0),
             &inputs,
@@ -255,7 +299,7 @@ impl Judge {
     pub fn deinterleave(&mut self, f: Numbers, depth: u32, strip: &[u8], words: usize) -> Answer {
         let inputs = || format!("{f:?} depth {depth} strip {} words {words}", hex(strip));
         self.both(
-            Op::Deinterleave,
+            Op::Deinterleave.under(f),
             Lent::new(words),
             Lent::new(0),
             &inputs,
@@ -267,7 +311,7 @@ impl Judge {
     pub fn call(&mut self, table: &[u8], letter: u8, number: u32) -> Answer {
         let inputs = || format!("table {} letter {letter} number {number}", hex(table));
         self.both(
-            Op::of_letter(letter),
+            Op::of_letter(letter).into(),
             Lent::holding(table),
             Lent::new(0),
             &inputs,
@@ -286,7 +330,7 @@ impl Judge {
         let bytes = [table, starts, payload];
         let inputs = || format!("{f:?} table, starts, payload {} word {word}", all(&bytes));
         self.both(
-            Op::JobWrite,
+            Op::JobWrite.under(f),
             Lent::new(word),
             Lent::new(0),
             &inputs,
@@ -298,7 +342,7 @@ impl Judge {
         let bytes = [table, word];
         let inputs = || format!("{f:?} table, word {} payload {payload}", all(&bytes));
         self.both(
-            Op::JobRead,
+            Op::JobRead.under(f),
             Lent::new(payload),
             Lent::new(0),
             &inputs,

@@ -4,15 +4,14 @@ use second::lanes::MAX_DEPTH;
 use second::Figures;
 
 use crate::judge::{Judge, Op};
-use crate::make::{figures, found, numbers, symbols, wrong_len};
+use crate::make::{found, numbers, symbols, wrong_len};
 use crate::rng::Rng;
 
 /// Where a stretch of the strip begins, and where it ends.
 type Stretch = std::ops::Range<usize>;
 
-/// One round for random figures, at this depth.
-pub fn round(judge: &mut Judge, rng: &mut Rng, depth: u32) {
-    let f = figures(rng);
+/// One round for these figures, at this depth.
+pub fn round(judge: &mut Judge, rng: &mut Rng, f: Figures, depth: u32) {
     let worn = stretches(rng, &f, depth as usize);
     let lanes: Vec<Lane> = (0..depth as usize)
         .map(|lane| written(judge, rng, &f, map(&f, depth as usize, lane, &worn)))

@@ -1,11 +1,14 @@
 //! Buffers whose lengths are right in their low 16 or 32 bits alone: all are refused with 3.
 
+use burgzemi::Ranked;
+
 use crate::calls::TABLE;
 use crate::judge::{Judge, Op};
 use crate::sides::{EyeNumbers, Numbers, PrescriptionNumbers, Side, PROVED, SECOND};
 
-/// Document 01's transfer example: n 15, k and K 11, one start.
-const FIGURES: Numbers = (15, 256, 1, 2);
+/// Document 01's transfer example: n 15, k and K 11, one start; and Construction B's figures with the same lengths.
+const EXAMPLE: Ranked = (15, 256, 1, 2);
+const FIGURES: [Numbers; 2] = [Numbers::Ranked(EXAMPLE), Numbers::Long((15, 256, 2))];
 const WORD: usize = 15;
 const PAYLOAD: usize = 11;
 const PLANO: EyeNumbers = (0, 0.0, 0.0, 0);
@@ -14,10 +17,11 @@ const ORDER: PrescriptionNumbers = (PLANO, PLANO, 60.0);
 /// A call that takes one buffer of a wrong length.
 type Call<'a> = &'a mut dyn FnMut(&mut [u8]) -> u8;
 
-/// Each call without a table, with one length replaced; `with` lends a buffer that is too long.
-fn word_calls(side: &Side, with: &mut dyn FnMut(usize, Call) -> u8) -> [u8; 11] {
-    let f = FIGURES;
+/// Each call without a table, those on two words side by side included, with one length replaced; `with` lends a buffer that
+/// is too long.
+fn word_calls(side: &Side, f: Numbers, with: &mut dyn FnMut(usize, Call) -> u8) -> [u8; 12] {
     let (mut word, mut payload, mut starts) = ([0; WORD], [0; PAYLOAD], [0; 2]);
+    let mut two = [0; 2 * WORD];
     [
         with(2, &mut |long| (side.encode)(f, long, &payload, &mut word)),
         with(PAYLOAD, &mut |long| {
@@ -31,19 +35,8 @@ fn word_calls(side: &Side, with: &mut dyn FnMut(usize, Call) -> u8) -> [u8; 11] 
             (side.decode)(f, &word, long, &mut starts)
         }),
         with(2, &mut |long| (side.decode)(f, &word, &mut payload, long)),
-        with(2, &mut |long| (side.verify)(f, long, &payload, &word)),
-        with(PAYLOAD, &mut |long| (side.verify)(f, &starts, long, &word)),
-        with(WORD, &mut |long| (side.verify)(f, &starts, &payload, long)),
         with(WORD, &mut |long| (side.cover)(f, long, &mut starts)),
         with(2, &mut |long| (side.cover)(f, &word, long)),
-    ]
-}
-
-/// Likewise the calls on two words side by side.
-fn lane_calls(side: &Side, with: &mut dyn FnMut(usize, Call) -> u8) -> [u8; 4] {
-    let f = FIGURES;
-    let mut two = [0; 2 * WORD];
-    [
         with(2 * WORD, &mut |long| {
             (side.interleave)(f, 2, long, &mut two)
         }),
@@ -55,9 +48,19 @@ fn lane_calls(side: &Side, with: &mut dyn FnMut(usize, Call) -> u8) -> [u8; 4] {
     ]
 }
 
+/// Likewise the check, which Construction A alone has.
+fn check_calls(side: &Side, with: &mut dyn FnMut(usize, Call) -> u8) -> [u8; 3] {
+    let f = EXAMPLE;
+    let (word, payload, starts) = ([0; WORD], [0; PAYLOAD], [0; 2]);
+    [
+        with(2, &mut |long| (side.verify)(f, long, &payload, &word)),
+        with(PAYLOAD, &mut |long| (side.verify)(f, &starts, long, &word)),
+        with(WORD, &mut |long| (side.verify)(f, &starts, &payload, long)),
+    ]
+}
+
 /// Likewise each call with a table.
-fn job_calls(side: &Side, with: &mut dyn FnMut(usize, Call) -> u8) -> [u8; 8] {
-    let f = FIGURES;
+fn job_calls(side: &Side, f: Numbers, with: &mut dyn FnMut(usize, Call) -> u8) -> [u8; 8] {
     let (mut word, mut payload, starts) = ([0; WORD], [0; PAYLOAD], [0; 2]);
     let mut table = [0; TABLE];
     (table[0], table[4], payload[3]) = (1, 1, 1);
@@ -86,8 +89,7 @@ fn job_calls(side: &Side, with: &mut dyn FnMut(usize, Call) -> u8) -> [u8; 8] {
 }
 
 /// Likewise the prescription calls with a list of bytes.
-fn prescription_calls(side: &Side, with: &mut dyn FnMut(usize, Call) -> u8) -> [u8; 7] {
-    let f = FIGURES;
+fn prescription_calls(side: &Side, f: Numbers, with: &mut dyn FnMut(usize, Call) -> u8) -> [u8; 7] {
     let (mut word, starts, table) = ([0; WORD], [0; 2], [0; TABLE]);
     let (mut two, mut five) = ([0.0; 2], [0.0; 5]);
     [
@@ -114,12 +116,12 @@ fn prescription_calls(side: &Side, with: &mut dyn FnMut(usize, Call) -> u8) -> [
 }
 
 /// Likewise those with a list of doubles.
-fn power_calls(side: &Side, long: &mut [f64], extra: usize) -> [u8; 3] {
+fn power_calls(side: &Side, f: Numbers, long: &mut [f64], extra: usize) -> [u8; 3] {
     let (word, table) = ([0; WORD], [0; TABLE]);
     [
         (side.transpose)(PLANO, &mut [0; 2], &mut long[..2 + extra]),
         (side.spherical_equivalent)(PLANO, &mut long[..1 + extra]),
-        (side.prescription_read)(FIGURES, &table, &word, &mut [0; 8], &mut long[..5 + extra]),
+        (side.prescription_read)(f, &table, &word, &mut [0; 8], &mut long[..5 + extra]),
     ]
 }
 
@@ -135,10 +137,12 @@ pub fn run(judge: &mut Judge) {
     for extra in [1 << 8, 1 << 16, 1 << 32] {
         for side in [PROVED, SECOND] {
             let mut with = |len: usize, call: Call| call(&mut long[..len + extra]);
-            let mut answers = word_calls(&side, &mut with).to_vec();
-            answers.extend(lane_calls(&side, &mut with));
-            answers.extend(job_calls(&side, &mut with));
-            answers.extend(prescription_calls(&side, &mut with));
+            let mut answers = check_calls(&side, &mut with).to_vec();
+            for f in FIGURES {
+                answers.extend(word_calls(&side, f, &mut with));
+                answers.extend(job_calls(&side, f, &mut with));
+                answers.extend(prescription_calls(&side, f, &mut with));
+            }
             all_three(judge, &side, extra, &answers);
         }
     }
@@ -147,7 +151,9 @@ pub fn run(judge: &mut Judge) {
     let mut long = vec![0.0; (1 << 29) + TABLE];
     for extra in [1 << 5, 1 << 8, 1 << 13, 1 << 16, 1 << 29] {
         for side in [PROVED, SECOND] {
-            let answers = power_calls(&side, &mut long, extra);
+            let answers = FIGURES
+                .map(|f| power_calls(&side, f, &mut long, extra))
+                .concat();
             all_three(judge, &side, extra, &answers);
         }
     }

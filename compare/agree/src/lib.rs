@@ -10,6 +10,7 @@ pub mod lanes;
 pub mod lengths;
 mod lent;
 pub mod limit;
+pub mod long;
 pub mod make;
 pub mod orders;
 pub mod prescriptions;

@@ -1,16 +1,25 @@
 //! The making of inputs: figures that fit, placements, messages, damage, and values spelled into a word.
 
+use burgzemi::Ranked;
 use second::blocks::Layout;
 use second::choose::unrank;
-use second::figures::{MAX_N, MAX_RUNS};
+use second::figures::{Code, MAX_N, MAX_RUNS};
 use second::job::width;
 use second::Figures;
 
 use crate::rng::Rng;
 use crate::sides::Numbers;
 
-pub fn numbers(f: &Figures) -> Numbers {
+/// Construction A's figures as numbers.
+pub fn ranked(f: &Figures) -> Ranked {
     (f.n as u32, f.q, f.m as u32, f.b as u32)
+}
+
+pub fn numbers(f: &Figures) -> Numbers {
+    match f.code {
+        Code::ConstructionB => Numbers::Long((f.n as u32, f.q, f.b as u32)),
+        _ => Numbers::Ranked(ranked(f)),
+    }
 }
 
 /// Lengths at the limits: the longest that fit with 8 runs, with 7, and at all, before change request 11 and since; those
@@ -54,6 +63,27 @@ fn with_length(rng: &mut Rng, n: u32, q: u32, m: u32) -> Option<Figures> {
         _ => rng.between(least as u64, largest as u64) as u32,
     };
     Figures::new(n, q, m, b).ok()
+}
+
+/// Construction B's figures that fit: one burst, up to a third of the word.
+pub fn long_figures(rng: &mut Rng) -> Figures {
+    loop {
+        let n = match rng.below(4) {
+            0 => rng.between(3, 40),
+            1 => rng.between(30, 200),
+            2 => rng.pick(&EDGES),
+            _ => rng.between(100, MAX_N as u64),
+        } as u32;
+        let q = rng.pick(&[2, 2, 3, 4, 15, 16, 17, 255, 256, 256]);
+        let b = match rng.below(3) {
+            0 => n / 3,
+            1 => 1,
+            _ => rng.between(1, n as u64 / 3) as u32,
+        };
+        if let Ok(f) = Figures::construction_b(n, q, b) {
+            return f;
+        }
+    }
 }
 
 /// A placement in one of several styles: any rank, packed, at block edges, or one run to a part.
@@ -148,9 +178,9 @@ pub fn values(f: &Figures) -> u128 {
     one.pow(f.m as u32)
 }
 
-/// A value at or near a boundary, or any below T or below all that can be spelled.
-pub fn value(rng: &mut Rng, f: &Figures) -> u128 {
-    let t = f.t as u128;
+/// A value at or near the least that is refused with 8, `t`, or any below it or below all that can be spelled.
+pub fn value(rng: &mut Rng, f: &Figures, t: u64) -> u128 {
+    let t = t as u128;
     let top = values(f) - 1;
     let any = (rng.draw() as u128) << 64 | rng.draw() as u128;
     let value = match rng.below(10) {

@@ -7,7 +7,7 @@ use crate::calls::table;
 use crate::eyes::dioptres;
 use crate::jobs::known_number;
 use crate::judge::{Answer, Judge};
-use crate::make::{damage, figures, numbers, placement, start_bytes};
+use crate::make::{damage, figures, long_figures, numbers, placement, start_bytes};
 use crate::rng::Rng;
 use crate::sides::{EyeNumbers, PrescriptionNumbers};
 
@@ -120,26 +120,31 @@ pub fn odd_numbers(rng: &mut Rng, order: &Order, powers: &[f64]) -> Prescription
     (right, left, distance)
 }
 
-/// Figures of any kind, or whose payload is just long enough for a prescription, or just too short.
-fn roomy(rng: &mut Rng) -> Figures {
+/// Figures of any kind, or whose payload is just long enough for a prescription, or just too short; `long` ones are Construction B's.
+fn roomy(rng: &mut Rng, long: bool) -> Figures {
     match rng.below(4) {
+        0 if long => long_figures(rng),
         0 => figures(rng),
         _ => {
             let wanted = rng.pick(&[4, 5, 6, 15, 16, 17, 17, 18, 18, 19, 25, 40]);
-            with_payload(rng, wanted)
+            with_payload(rng, wanted, long)
         }
     }
 }
 
 /// Figures with a payload of so many bytes.
-pub fn with_payload(rng: &mut Rng, wanted: usize) -> Figures {
+pub fn with_payload(rng: &mut Rng, wanted: usize, long: bool) -> Figures {
+    let judged = |n, q, m, b| match long {
+        true => Figures::construction_b(n, q, m * b),
+        false => Figures::new(n, q, m, b),
+    };
     loop {
         let q = rng.pick(&[2, 3, 4, 7, 15, 16, 17, 100, 255, 256]);
         let (m, b) = (rng.between(1, 4) as u32, rng.between(1, 4) as u32);
         // Of a longer word, runs, first symbols and I-blocks leave more.
         let least = wanted * width(q);
         let fitting: Vec<Figures> = (least..least + 100)
-            .filter_map(|n| Figures::new(n as u32, q, m, b).ok())
+            .filter_map(|n| judged(n as u32, q, m, b).ok())
             .filter(|f| payload_len(f) == wanted)
             .collect();
         if !fitting.is_empty() {
@@ -158,8 +163,8 @@ pub struct Tray {
 }
 
 impl Tray {
-    pub fn random(rng: &mut Rng) -> Tray {
-        let f = roomy(rng);
+    pub fn random(rng: &mut Rng, long: bool) -> Tray {
+        let f = roomy(rng, long);
         Tray::of(rng, f)
     }
 

@@ -12,9 +12,8 @@ use crate::orders::{odd_numbers, Tray, LEAST, MARKS, POWERS, TEXT};
 use crate::rng::Rng;
 use crate::words::bad_starts_of;
 
-/// One round for random figures; `powers` are odd ones.
-pub fn round(judge: &mut Judge, rng: &mut Rng, powers: &[f64]) {
-    let tray = Tray::random(rng);
+/// One round for this strip; `powers` are odd ones.
+pub fn round(judge: &mut Judge, rng: &mut Rng, tray: Tray, powers: &[f64]) {
     written(judge, rng, &tray);
     plain_text(judge, rng, &tray);
     oddly_spelled(judge, rng, &tray);

@@ -1,6 +1,36 @@
 //! The two implementations behind one set of calls on plain numbers and bytes.
 
-pub use second::raw::{EyeNumbers, Numbers, PrescriptionNumbers};
+use burgzemi::{Long, Ranked};
+use second::Figures;
+
+pub use second::raw::{EyeNumbers, PrescriptionNumbers};
+
+/// The figures of either construction, for both sides.
+#[derive(Clone, Copy, PartialEq, Eq, Debug)]
+pub enum Numbers {
+    Ranked(Ranked),
+    Long(Long),
+}
+
+impl From<Numbers> for burgzemi::Numbers {
+    fn from(numbers: Numbers) -> burgzemi::Numbers {
+        match numbers {
+            Numbers::Ranked(numbers) => numbers.into(),
+            Numbers::Long(numbers) => numbers.into(),
+        }
+    }
+}
+
+impl TryFrom<Numbers> for Figures {
+    type Error = u8;
+
+    fn try_from(numbers: Numbers) -> Result<Figures, u8> {
+        match numbers {
+            Numbers::Ranked(numbers) => numbers.try_into(),
+            Numbers::Long(numbers) => numbers.try_into(),
+        }
+    }
+}
 
 type Lanes = fn(Numbers, u32, &[u8], &mut [u8]) -> u8;
 type JobWrite = fn(Numbers, &[u8], &[u8], &[u8], &mut [u8]) -> u8;
@@ -13,7 +43,7 @@ pub struct Side {
     pub payload_len: fn(Numbers) -> u32,
     pub encode: fn(Numbers, &[u8], &[u8], &mut [u8]) -> u8,
     pub decode: fn(Numbers, &[u8], &mut [u8], &mut [u8]) -> u8,
-    pub verify: fn(Numbers, &[u8], &[u8], &[u8]) -> u8,
+    pub verify: fn(Ranked, &[u8], &[u8], &[u8]) -> u8,
     pub cover: fn(Numbers, &[u8], &mut [u8]) -> u8,
     pub interleave: Lanes,
     pub deinterleave: Lanes,

@@ -1,15 +1,18 @@
 //! Transfer streams at will: served and refused records of every kind, and every way to stop.
 
+use burgzemi::{Long, Ranked};
+use second::blocks::{burst_blocks, index_blocks, Layout};
 use second::job::payload_len;
-use second::{raw, Figures};
+use second::{codec, index, Figures};
 
 use crate::calls::number;
 use crate::grid;
 use crate::make::{
-    damage, figures, found, numbers, odd_message, placement, silent_value, sound_message,
-    start_bytes,
+    damage, figures, found, long_figures, numbers, odd_message, placement, silent_value,
+    sound_message, spell, start_bytes, value,
 };
 use crate::rng::Rng;
+use crate::sides::Numbers;
 use crate::words::bad_starts_of;
 
 /// A stream being made. It knows the figures in force, as a record's length hangs on them.
@@ -63,7 +66,12 @@ pub fn figures_alone() -> Vec<u8> {
     };
     grid::each(|(n, q, m, b)| {
         if n <= 65535 && (1..=256).contains(&q) && m <= 255 && b <= 65535 {
-            stream.set((n, q, m, b));
+            stream.set(Numbers::Ranked((n, q, m, b)));
+        }
+    });
+    grid::each_long(|(n, q, b)| {
+        if n <= 65535 && (1..=256).contains(&q) && b <= 65535 {
+            stream.set(Numbers::Long((n, q, b)));
         }
     });
     stream.bytes
@@ -117,25 +125,49 @@ impl Stream<'_> {
         }
     }
 
-    fn set(&mut self, (n, q, m, b): (u32, u32, u32, u32)) {
-        self.head(b'S');
-        self.bytes.extend((n as u16).to_be_bytes());
-        self.bytes.extend([(q - 1) as u8, m as u8]);
-        self.bytes.extend((b as u16).to_be_bytes());
-        if let Ok(f) = Figures::new(n, q, m, b) {
+    fn set(&mut self, numbers: Numbers) {
+        match numbers {
+            Numbers::Ranked((n, q, m, b)) => {
+                self.head(b'S');
+                self.bytes.extend((n as u16).to_be_bytes());
+                self.bytes.extend([(q - 1) as u8, m as u8]);
+                self.bytes.extend((b as u16).to_be_bytes());
+            }
+            Numbers::Long((n, q, b)) => {
+                self.head(b'L');
+                self.bytes.extend((n as u16).to_be_bytes());
+                self.bytes.push((q - 1) as u8);
+                self.bytes.extend((b as u16).to_be_bytes());
+            }
+        }
+        if let Ok(f) = numbers.try_into() {
             self.figures = Some(f);
         }
     }
 
+    /// Construction B's figures, once in three, or Construction A's.
+    fn any_figures(&mut self) -> Numbers {
+        match self.rng.below(3) {
+            0 => numbers(&long_figures(self.rng)),
+            _ => numbers(&figures(self.rng)),
+        }
+    }
+
     fn fitting(&mut self) {
-        let f = figures(self.rng);
-        self.set(numbers(&f));
+        let numbers = self.any_figures();
+        self.set(numbers);
     }
 
     /// Figures at or past a boundary.
     fn boundary(&mut self) {
-        let f = figures(self.rng);
-        let (mut n, mut q, mut m, mut b) = numbers(&f);
+        let numbers = match self.any_figures() {
+            Numbers::Ranked(f) => Numbers::Ranked(self.ranked_boundary(f)),
+            Numbers::Long(f) => Numbers::Long(self.long_boundary(f)),
+        };
+        self.set(numbers);
+    }
+
+    fn ranked_boundary(&mut self, (mut n, mut q, mut m, mut b): Ranked) -> Ranked {
         match self.rng.below(6) {
             0 => {
                 n = self
@@ -148,7 +180,18 @@ impl Stream<'_> {
             4 => b = n / (m * m.max(3)) + self.rng.below(2) as u32,
             _ => b += 1,
         }
-        self.set((n, q, m, b));
+        (n, q, m, b)
+    }
+
+    fn long_boundary(&mut self, (mut n, mut q, mut b): Long) -> Long {
+        match self.rng.below(5) {
+            0 => n = self.rng.pick(&[0, 2, 3, 4, 5, 6, 4095, 4096, 4097, 65535]),
+            1 => q = self.rng.pick(&[1, 2, 3, 256]),
+            2 => b = self.rng.pick(&[0, 1, 65535]),
+            3 => b = n / 3 + self.rng.below(2) as u32,
+            _ => b += 1,
+        }
+        (n, q, b)
     }
 
     fn call(&mut self, letter: u8, number: u32) {
@@ -180,9 +223,9 @@ impl Stream<'_> {
         let payload = self.payload(f, number);
         let mut word = vec![0; f.n];
         let message = sound_message(f, &payload);
-        raw::encode(numbers(f), &start_bytes(&starts), &message, &mut word);
+        codec::encode(f, &starts, &message, &mut word);
         damage(self.rng, f, &starts, &mut word);
-        match self.rng.below(if self.sound { 1 } else { 12 }) {
+        match self.rng.below(if self.sound { 1 } else { 13 }) {
             8 => {
                 let at = self.rng.index(f.n);
                 word[at] = silent_value(f.q).unwrap_or(0);
@@ -193,9 +236,15 @@ impl Stream<'_> {
             }
             10 => {
                 let message = odd_message(self.rng, f, &payload);
-                raw::encode(numbers(f), &start_bytes(&starts), &message, &mut word);
+                codec::encode(f, &starts, &message, &mut word);
             }
             11 => word = found(self.rng, f.q, f.n),
+            12 => {
+                let layout = Layout::new(f);
+                let index = index_blocks(f, burst_blocks(f, &layout, &starts));
+                let value = value(self.rng, f, index::values(f, &layout, index));
+                spell(f, &layout, index, value, &mut word);
+            }
             _ => {}
         }
         self.head(b'R');
@@ -209,11 +258,7 @@ impl Stream<'_> {
             4 => self.bytes.truncate(len - 1 - self.rng.index(len.min(20))),
             5 => self.bytes.extend([0x4C, 0x55, b'O', 0, 0, 0, 1]),
             6 => {
-                // The program doesn't know L.
-                let letter = match self.rng.byte() {
-                    b'L' => 0,
-                    letter => letter,
-                };
+                let letter = self.rng.byte();
                 self.head(letter);
                 self.bytes.extend([0, 0, 0, 1]);
             }

@@ -4,7 +4,7 @@
 use crate::judge::{Judge, Op};
 use crate::sides::Numbers;
 
-const FIRST: Numbers = (30, 2, 1, 3);
+const FIRST: Numbers = Numbers::Ranked((30, 2, 1, 3));
 
 fn is(judge: &mut Judge, op: Op, strip: &str, holds: bool) {
     judge.expect(
@@ -25,9 +25,13 @@ pub fn run(judge: &mut Judge) {
 }
 
 fn seventeen(judge: &mut Judge) {
-    let fits = judge.decode((60, 17, 2, 9), &[], 0, 0).number;
+    let fits = judge
+        .decode(Numbers::Ranked((60, 17, 2, 9)), &[], 0, 0)
+        .number;
     is(judge, Op::Figures, "n 60, q 17, m 2, b 9 fits", fits == 3);
-    let unfit = judge.decode((60, 17, 2, 10), &[], 0, 0).number;
+    let unfit = judge
+        .decode(Numbers::Ranked((60, 17, 2, 10)), &[], 0, 0)
+        .number;
     is(judge, Op::Figures, "n 60, q 17, m 2, b 10 is 2", unfit == 2);
 }
 
@@ -129,7 +133,9 @@ fn limits(judge: &mut Judge) {
         (4097, 8, 4096, 1),
         (4096, 9, 4096, 1),
     ] {
-        let answer = judge.decode((n, 256, m, b), &[], 0, 1).number;
+        let answer = judge
+            .decode(Numbers::Ranked((n, 256, m, b)), &[], 0, 1)
+            .number;
         let strip = format!("n {n}, q 256, m {m}, b {b} is {number}");
         is(judge, Op::Figures, &strip, answer == number);
     }

@@ -4,14 +4,16 @@ use second::blocks::Layout;
 use second::figures::MAX_RUNS;
 use second::Figures;
 
-use crate::judge::{Op, OPS};
+use crate::judge::{Kind, Op, OPS};
 use crate::sides::Numbers;
 
 pub struct Tally {
-    /// Answers by kind of call.
-    seen: [[u64; 256]; OPS.len()],
+    /// Answers by kind of call, of Construction A or without figures, and of Construction B.
+    seen: [[[u64; 256]; OPS.len()]; 2],
     /// Accepted words, by m and by how many parts have no block that looks F.
     accepted: [[u64; 3]; MAX_RUNS + 1],
+    /// The same of Construction B.
+    accepted_long: [u64; 3],
     /// Words with altered message cells: with none, one, several, or all of several.
     slips: [u64; 4],
 }
@@ -19,20 +21,25 @@ pub struct Tally {
 impl Default for Tally {
     fn default() -> Tally {
         Tally {
-            seen: [[0; 256]; OPS.len()],
+            seen: [[[0; 256]; OPS.len()]; 2],
             accepted: Default::default(),
+            accepted_long: Default::default(),
             slips: Default::default(),
         }
     }
 }
 
 impl Tally {
-    pub fn count(&mut self, op: Op, number: u8) {
-        self.seen[op as usize][number as usize] += 1;
+    pub fn count(&mut self, kind: Kind, number: u8) {
+        self.seen[kind.long as usize][kind.op as usize][number as usize] += 1;
     }
 
     pub fn count_accepted(&mut self, f: Numbers, word: &[u8]) {
-        self.accepted[f.2 as usize][parts_without_fixed(f, word)] += 1;
+        let kinds = match f {
+            Numbers::Ranked((_, _, m, _)) => &mut self.accepted[m as usize],
+            Numbers::Long(_) => &mut self.accepted_long,
+        };
+        kinds[parts_without_fixed(f, word)] += 1;
     }
 
     pub fn count_slips(&mut self, slips: usize, symbols: usize) {
@@ -55,8 +62,9 @@ impl Tally {
             Op::PrescriptionRead,
         ];
         let judged = |&op: &Op| {
-            let seen = &self.seen[op as usize];
-            seen[0] + seen[4..].iter().sum::<u64>()
+            let both = self.seen.iter().map(|seen| &seen[op as usize]);
+            both.map(|seen| seen[0] + seen[4..].iter().sum::<u64>())
+                .sum::<u64>()
         };
         words.iter().map(judged).sum()
     }
@@ -64,14 +72,17 @@ impl Tally {
     /// Prints a line for each kind of call, and tells whether every answer that it can give was seen.
     pub fn summary(&self) -> bool {
         let mut complete = true;
-        for (op, name, possible) in OPS {
-            let seen = &self.seen[op as usize];
+        let ops = OPS.iter().map(|row| (row, 0));
+        let long = OPS.iter().filter(|row| row.0.takes_long());
+        for (&(op, name, possible), long) in ops.chain(long.map(|row| (row, 1))) {
+            let name = format!("{}{name}", ["", "long "][long]);
+            let seen = &self.seen[long][op as usize];
             let shown: Vec<String> = possible
                 .iter()
                 .map(|&number| format!("{number}: {}", seen[number as usize]))
                 .collect();
             let total: u64 = seen.iter().sum();
-            println!("{name:>18} {total:>9}   {}", shown.join("  "));
+            println!("{name:>23} {total:>9}   {}", shown.join("  "));
             for &number in possible
                 .iter()
                 .filter(|&&number| seen[number as usize] == 0)
@@ -101,6 +112,9 @@ impl Tally {
             println!("accepted with m {m}, by parts without an F-block: none {none}, one {one}, two {two}");
             complete &= *one > 0 && *two > 0 && (*none > 0 || m <= 2);
         }
+        let [_, one, two] = self.accepted_long;
+        println!("accepted with one long run, by parts without an F-block: one {one}, two {two}");
+        complete &= one > 0 && two > 0;
         if !complete {
             println!("never seen: some kind of pattern, accepted");
         }
@@ -109,8 +123,8 @@ impl Tally {
 }
 
 /// How many parts of an accepted word have no block that starts with 0.
-fn parts_without_fixed((n, q, m, b): Numbers, word: &[u8]) -> usize {
-    let Ok(f) = Figures::new(n, q, m, b) else {
+fn parts_without_fixed(numbers: Numbers, word: &[u8]) -> usize {
+    let Ok(f) = Figures::try_from(numbers) else {
         return 0;
     };
     let layout = Layout::new(&f);

@@ -20,9 +20,9 @@ fn seven_open() -> Vec<u8> {
 }
 
 /// Payloads of 1 to 40 bytes: no job below 5, no prescription below 17.
-pub fn payload_lengths(judge: &mut Judge, rng: &mut Rng) {
+pub fn payload_lengths(judge: &mut Judge, rng: &mut Rng, long: bool) {
     for len in 1..=40 {
-        let f = with_payload(rng, len);
+        let f = with_payload(rng, len, long);
         let tray = Tray {
             table: seven_open(),
             job: 7,

@@ -2,7 +2,8 @@
 
 use second::blocks::{burst_blocks, index_blocks, pattern, Layout};
 use second::choose::{rank, unrank};
-use second::Figures;
+use second::figures::Code;
+use second::{index, Figures};
 
 use crate::judge::{Judge, Op};
 use crate::make::{
@@ -21,16 +22,17 @@ pub struct Strip {
     pub word: Vec<u8>,
 }
 
-/// One round for random figures.
-pub fn round(judge: &mut Judge, rng: &mut Rng) {
-    let f = figures(rng);
+/// One round for these figures.
+pub fn round(judge: &mut Judge, rng: &mut Rng, f: Figures) {
     let strip = written(judge, rng, f);
     read_back(judge, rng, &strip);
     for _ in 0..2 {
         altered(judge, rng, &strip);
     }
     silent::outside(judge, rng, &strip);
-    verify::round(judge, rng, &strip);
+    if f.code == Code::ConstructionA {
+        verify::round(judge, rng, &strip);
+    }
     slips::round(judge, rng, &strip);
     other_value(judge, rng, &strip);
     any_word(judge, rng, &f);
@@ -99,19 +101,23 @@ fn altered(judge: &mut Judge, rng: &mut Rng, strip: &Strip) {
     judge.decode(numbers(f), &word, f.k, 2 * f.m);
 }
 
-/// Spells another value over the I-blocks: a boundary one, or the rank of a placement close by.
+/// Spells another value over the I-blocks: a boundary one, or that of a placement close by.
 fn other_value(judge: &mut Judge, rng: &mut Rng, strip: &Strip) {
     let f = &strip.f;
     let layout = Layout::new(f);
     let index = index_blocks(f, burst_blocks(f, &layout, &strip.starts));
-    let near = rank(f, &strip.starts) as i128 + rng.between(0, 6) as i128 - 3;
-    for value in [value(rng, f), near.clamp(0, f.t as i128 - 1) as u128] {
+    let bound = index::values(f, &layout, index);
+    let near = index::value(f, &layout, &strip.starts) as i128 + rng.between(0, 6) as i128 - 3;
+    for value in [
+        value(rng, f, bound),
+        near.clamp(0, bound as i128 - 1) as u128,
+    ] {
         let mut word = strip.word.clone();
         spell(f, &layout, index, value, &mut word);
         let read = judge.decode(numbers(f), &word, f.k, 2 * f.m);
-        let right = (read.number == 8) == (value >= f.t as u128);
+        let right = (read.number == 8) == (value >= bound as u128);
         let inputs = || format!("{f:?} value {value} word {word:?}");
-        judge.expect(Op::Decode, right, &inputs, "8 is for a value of T or more");
+        judge.expect(Op::Decode, right, &inputs, "8 is for a value too large");
     }
 }
 
@@ -173,10 +179,10 @@ fn fitting_value(rng: &mut Rng, f: &Figures, layout: &Layout, index: u64) -> u12
     for _ in 0..20 {
         let starts = placement(rng, f);
         if index_blocks(f, burst_blocks(f, layout, &starts)) == index {
-            return rank(f, &starts) as u128;
+            return index::value(f, layout, &starts) as u128;
         }
     }
-    value(rng, f)
+    value(rng, f, index::values(f, layout, index))
 }
 
 /// Every pattern of first symbols, for figures with few blocks; `step` above 1 takes only some.
@@ -184,11 +190,15 @@ pub fn patterns(judge: &mut Judge, rng: &mut Rng, n: u32, m: u32, step: u64) {
     for q in [2, 3, 256] {
         let largest = (1..n).rev().find_map(|b| Figures::new(n, q, m, b).ok());
         let Some(f) = largest else { continue };
-        let mut next = Some(rng.below(step));
-        while let Some(fixed) = next.filter(|&fixed| fixed <= all_blocks(&f)) {
-            patterned(judge, rng, &f, fixed);
-            next = fixed.checked_add(rng.between(1, 2 * step - 1));
-        }
+        patterns_of(judge, rng, &f, step);
+    }
+}
+
+pub fn patterns_of(judge: &mut Judge, rng: &mut Rng, f: &Figures, step: u64) {
+    let mut next = Some(rng.below(step));
+    while let Some(fixed) = next.filter(|&fixed| fixed <= all_blocks(f)) {
+        patterned(judge, rng, f, fixed);
+        next = fixed.checked_add(rng.between(1, 2 * step - 1));
     }
 }
 
@@ -275,9 +285,8 @@ fn covering(judge: &mut Judge, rng: &mut Rng, f: &Figures) {
     }
 }
 
-/// Every rank at both ends of the range, for random figures.
-pub fn end_ranks(judge: &mut Judge, rng: &mut Rng) {
-    let f = figures(rng);
+/// Every rank at both ends of the range, for these figures.
+pub fn end_ranks(judge: &mut Judge, rng: &mut Rng, f: Figures) {
     for rank in (0..3)
         .chain(f.t.saturating_sub(3)..f.t)
         .filter(|&rank| rank < f.t)

@@ -14,7 +14,7 @@ fn main() -> ExitCode {
     if run(&args).is_some() {
         return ExitCode::SUCCESS;
     }
-    eprintln!("usage: bench --times | --rows | --count ours|second encode|decode|silent ROW CALLS");
+    eprintln!("usage: bench --times | --long-times | --rows | --long-rows | --count ours|second encode|decode|silent ROW CALLS");
     eprintln!("       bench --time ours|second encode|decode|silent ROW | --transfer OURS SECOND");
     eprintln!("       bench --lanes | --count ours-interleave|second-interleave|ours-deinterleave|second-deinterleave|copy|byte-loop Q CALLS");
     ExitCode::from(2)
@@ -23,8 +23,10 @@ fn main() -> ExitCode {
 /// Does what the words ask for; None where they ask for nothing known.
 fn run(args: &[&str]) -> Option<()> {
     match *args {
-        ["--times"] => timing::table(),
+        ["--times"] => timing::table(&rows::rows()),
+        ["--long-times"] => timing::table(&rows::long_rows()),
         ["--rows"] => rows::list(),
+        ["--long-rows"] => rows::list_long(),
         ["--count", side, call, row, calls] => rows::count(side, call, row, calls)?,
         ["--time", side, call, row] => timing::once(side, call, row)?,
         ["--lanes"] => lanes::table(),

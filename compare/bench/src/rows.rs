@@ -25,14 +25,34 @@ pub fn rows() -> Vec<Figures> {
     rows
 }
 
-pub fn name(f: &Figures) -> String {
-    format!("{:>5} {:>2} {:>4} {:>3}", f.n, f.m, f.q, f.b)
+/// Construction B's rows. Burst lengths: the largest power of two that fits.
+pub fn long_rows() -> Vec<Figures> {
+    let mut rows = Vec::new();
+    for n in [64, 256, 1024, 4096] {
+        for q in [2, 16, 256] {
+            let mut lengths = (0..12).rev().map(|power| 1 << power);
+            rows.extend(lengths.find_map(|b| Figures::construction_b(n, q, b).ok()));
+        }
+    }
+    rows
 }
 
-/// Prints a line for each row: its number and its figures.
+pub fn name(f: &Figures) -> String {
+    format!("{:>5} {:>2} {:>4} {:>4}", f.n, f.m, f.q, f.b)
+}
+
+/// Prints a line for each of Construction A's rows: its number and its figures.
 pub fn list() {
     for (i, f) in rows().iter().enumerate() {
         println!("{i} {}", name(f));
+    }
+}
+
+/// The same for Construction B's rows, whose numbers go on behind those.
+pub fn list_long() {
+    let before = rows().len();
+    for (i, f) in long_rows().iter().enumerate() {
+        println!("{} {}", before + i, name(f));
     }
 }
 
@@ -145,7 +165,7 @@ pub fn asked(side: &str, call: &str, row: &str) -> Option<(Measured, Work)> {
         "silent" => Measured::Silent(side),
         _ => return None,
     };
-    let rows = rows();
+    let rows = [rows(), long_rows()].concat();
     let f = rows.get(row.parse::<usize>().ok()?)?;
     Some((measured, Work::new(f)))
 }

@@ -3,8 +3,9 @@
 use std::time::Instant;
 
 use agree::sides::{PROVED, SECOND};
+use second::Figures;
 
-use crate::rows::{asked, name, rows, Measured, Work};
+use crate::rows::{asked, name, Measured, Work};
 
 pub const ROUNDS: usize = 101;
 /// How long one measurement of a round is to take, about: short enough to be rarely interrupted.
@@ -65,15 +66,15 @@ fn columns(rounds: &[[f64; CALLS.len()]], ours: usize, second: usize) -> String 
     format!("{a:>8.3} {b:>7.3} {to_second:>6.2} {to_copy:>5.0}")
 }
 
-pub fn table() {
+/// Prints the times of these rows.
+pub fn table(rows: &[Figures]) {
     println!("nanoseconds a symbol, and the ratios ours/second and ours/copy; medians of {ROUNDS} rounds");
     println!(
-        "                           encode                          decode                copy"
+        "                            encode                          decode                copy"
     );
     println!(
-        "    n  m    q   b     ours  second    o/s   o/c      ours  second    o/s   o/c       ns"
+        "    n  m    q    b     ours  second    o/s   o/c      ours  second    o/s   o/c       ns"
     );
-    let rows = rows();
     for (i, f) in rows.iter().enumerate() {
         eprint!("\rtimes: row {} of {}", i + 1, rows.len());
         let mut work = Work::new(f);

@@ -47,7 +47,7 @@ pub fn table(ours: &str, second: &str) {
     println!(
         "records a second, W and R in turn, {RECORDS} of them; median of {ROUNDS} runs in turn"
     );
-    println!("    n  m    q   b        ours      second   ours/second");
+    println!("    n  m    q    b        ours      second   ours/second");
     let stream = std::env::temp_dir().join(format!("bench-stream-{}", std::process::id()));
     for (n, q, m, b) in FIGURES {
         let Ok(f) = Figures::new(n, q, m, b) else {

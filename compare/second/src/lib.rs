@@ -10,7 +10,7 @@ pub mod cover;
 mod digits;
 mod fbi;
 pub mod figures;
-mod index;
+pub mod index;
 pub mod job;
 pub mod lanes;
 mod larsson;

@@ -19,11 +19,27 @@ pub const NO_LENGTH: u32 = u32::MAX;
 /// What `verify` answers for a word that doesn't agree.
 pub const DIFFERS: u8 = 255;
 
-/// The four figures as numbers.
-pub type Numbers = (u32, u32, u32, u32);
+/// The figures of a strip as numbers, yet to be judged.
+pub trait Numbers: TryInto<Figures, Error = u8> {}
 
-fn figures((n, q, m, b): Numbers) -> Result<Figures, u8> {
-    Figures::new(n, q, m, b)
+impl<N: TryInto<Figures, Error = u8>> Numbers for N {}
+
+/// n, q, m and b of Construction A.
+impl TryFrom<(u32, u32, u32, u32)> for Figures {
+    type Error = u8;
+
+    fn try_from((n, q, m, b): (u32, u32, u32, u32)) -> Result<Figures, u8> {
+        Figures::new(n, q, m, b)
+    }
+}
+
+/// n, q and b of Construction B.
+impl TryFrom<(u32, u32, u32)> for Figures {
+    type Error = u8;
+
+    fn try_from((n, q, b): (u32, u32, u32)) -> Result<Figures, u8> {
+        Figures::construction_b(n, q, b)
+    }
 }
 
 /// The starts held in 2 * m bytes.
@@ -77,16 +93,18 @@ fn put_book(book: &Book, table: &mut [u8]) {
     }
 }
 
-pub fn message_len(numbers: Numbers) -> u32 {
-    figures(numbers).map_or(NO_LENGTH, |f| f.k as u32)
+pub fn message_len(numbers: impl Numbers) -> u32 {
+    numbers.try_into().map_or(NO_LENGTH, |f| f.k as u32)
 }
 
-pub fn payload_len(numbers: Numbers) -> u32 {
-    figures(numbers).map_or(NO_LENGTH, |f| job::payload_len(&f) as u32)
+pub fn payload_len(numbers: impl Numbers) -> u32 {
+    numbers
+        .try_into()
+        .map_or(NO_LENGTH, |f| job::payload_len(&f) as u32)
 }
 
-pub fn encode(numbers: Numbers, starts: &[u8], message: &[u8], word: &mut [u8]) -> u8 {
-    let f = match figures(numbers) {
+pub fn encode(numbers: impl Numbers, starts: &[u8], message: &[u8], word: &mut [u8]) -> u8 {
+    let f = match numbers.try_into() {
         Ok(f) => f,
         Err(refusal) => return refusal,
     };
@@ -96,8 +114,8 @@ pub fn encode(numbers: Numbers, starts: &[u8], message: &[u8], word: &mut [u8]) 
     codec::encode(&f, &starts_of(starts)[..f.m], message, word)
 }
 
-pub fn decode(numbers: Numbers, word: &[u8], message: &mut [u8], starts: &mut [u8]) -> u8 {
-    let f = match figures(numbers) {
+pub fn decode(numbers: impl Numbers, word: &[u8], message: &mut [u8], starts: &mut [u8]) -> u8 {
+    let f = match numbers.try_into() {
         Ok(f) => f,
         Err(refusal) => return refusal,
     };
@@ -112,8 +130,8 @@ pub fn decode(numbers: Numbers, word: &[u8], message: &mut [u8], starts: &mut [u
     answer
 }
 
-pub fn verify(numbers: Numbers, starts: &[u8], message: &[u8], word: &[u8]) -> u8 {
-    let f = match figures(numbers) {
+pub fn verify(numbers: impl Numbers, starts: &[u8], message: &[u8], word: &[u8]) -> u8 {
+    let f = match numbers.try_into() {
         Ok(f) => f,
         Err(refusal) => return refusal,
     };
@@ -127,8 +145,8 @@ pub fn verify(numbers: Numbers, starts: &[u8], message: &[u8], word: &[u8]) -> u
     }
 }
 
-pub fn cover(numbers: Numbers, map: &[u8], starts: &mut [u8]) -> u8 {
-    let f = match figures(numbers) {
+pub fn cover(numbers: impl Numbers, map: &[u8], starts: &mut [u8]) -> u8 {
+    let f = match numbers.try_into() {
         Ok(f) => f,
         Err(refusal) => return refusal,
     };
@@ -144,15 +162,15 @@ pub fn cover(numbers: Numbers, map: &[u8], starts: &mut [u8]) -> u8 {
     }
 }
 
-pub fn interleave(numbers: Numbers, depth: u32, words: &[u8], strip: &mut [u8]) -> u8 {
-    match figures(numbers) {
+pub fn interleave(numbers: impl Numbers, depth: u32, words: &[u8], strip: &mut [u8]) -> u8 {
+    match numbers.try_into() {
         Ok(f) => lanes::interleave(&f, depth, words, strip),
         Err(refusal) => refusal,
     }
 }
 
-pub fn deinterleave(numbers: Numbers, depth: u32, strip: &[u8], words: &mut [u8]) -> u8 {
-    match figures(numbers) {
+pub fn deinterleave(numbers: impl Numbers, depth: u32, strip: &[u8], words: &mut [u8]) -> u8 {
+    match numbers.try_into() {
         Ok(f) => lanes::deinterleave(&f, depth, strip, words),
         Err(refusal) => refusal,
     }
@@ -186,13 +204,13 @@ pub fn call(table: &mut [u8], letter: u8, number: u32) -> u8 {
 
 /// What both job calls begin with: refusal 1 for the table, then 1 and 2 for the figures. A table of another length
 /// comes back as none, for it is judged with the other lengths.
-fn job_inputs(numbers: Numbers, table: &[u8]) -> Result<(Figures, Option<Book>), u8> {
+fn job_inputs(numbers: impl Numbers, table: &[u8]) -> Result<(Figures, Option<Book>), u8> {
     let book = book_of(table).transpose()?;
-    Ok((figures(numbers)?, book))
+    Ok((numbers.try_into()?, book))
 }
 
 pub fn job_write(
-    numbers: Numbers,
+    numbers: impl Numbers,
     table: &[u8],
     starts: &[u8],
     payload: &[u8],
@@ -212,7 +230,7 @@ pub fn job_write(
     }
 }
 
-pub fn job_read(numbers: Numbers, table: &[u8], word: &[u8], payload: &mut [u8]) -> u8 {
+pub fn job_read(numbers: impl Numbers, table: &[u8], word: &[u8], payload: &mut [u8]) -> u8 {
     let (f, book) = match job_inputs(numbers, table) {
         Ok(inputs) => inputs,
         Err(refusal) => return refusal,

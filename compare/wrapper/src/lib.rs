@@ -19,6 +19,23 @@
 //! assert_eq!(burgzemi::job_read(&strip, &jobs, &word, &mut payload), Err(Refusal::CANCELLED));
 //! # Ok::<(), Refusal>(())
 //! ```
+//!
+//! A strip with one run that is longer than this takes has the figures of Construction B. They are taken by every call but `verify`.
+//!
+//! ```
+//! use burgzemi::{Figures, Refusal};
+//!
+//! assert_eq!(Figures::new(20, 2, 1, 5), Err(Refusal::UNFIT));
+//! let strip = Figures::long(20, 2, 5)?;
+//! let mut word = [0; 20];
+//! burgzemi::encode(&strip, &[9], &[1; 10], &mut word)?;
+//! word[9..14].fill(2); // cells without a reading, inside the run
+//!
+//! let mut message = [0; 10];
+//! assert_eq!(burgzemi::decode(&strip, &word, &mut message)?[..], [9]);
+//! assert_eq!(message, [1; 10]);
+//! # Ok::<(), Refusal>(())
+//! ```
 
 mod prescription;
 pub mod raw;
@@ -28,6 +45,7 @@ mod table;
 use std::ops::Deref;
 
 pub use prescription::{prescription_read, prescription_write, Eye, Prescription};
+pub use raw::{Long, Numbers, Ranked};
 pub use refusal::Refusal;
 pub use table::Table;
 
@@ -38,17 +56,35 @@ pub const MAX_RUNS: usize = 8;
 /// The most words that a strip has side by side.
 pub const MAX_DEPTH: u32 = 16;
 
-/// Figures that fit, with the lengths that follow from them.
+/// Figures that fit, with the lengths that follow from them: Construction A's, `Figures`, or Construction B's, `Figures<Long>`.
 #[derive(Clone, Copy, PartialEq, Eq, Debug)]
-pub struct Figures {
-    numbers: raw::Numbers,
+pub struct Figures<N = Ranked> {
+    numbers: N,
     message_len: usize,
 }
+
+/// The numbers that figures of one construction are.
+pub trait Construction: Copy + Into<Numbers> {}
+
+impl Construction for Ranked {}
+impl Construction for Long {}
 
 impl Figures {
     /// n symbols of a word, each below q, and m runs of b positions.
     pub fn new(n: u32, q: u32, m: u32, b: u32) -> Result<Figures, Refusal> {
-        let numbers = (n, q, m, b);
+        Figures::judged((n, q, m, b))
+    }
+}
+
+impl Figures<Long> {
+    /// n symbols of a word, each below q, and one run of b positions, up to a third of the word.
+    pub fn long(n: u32, q: u32, b: u32) -> Result<Figures<Long>, Refusal> {
+        Figures::judged((n, q, b))
+    }
+}
+
+impl<N: Construction> Figures<N> {
+    fn judged(numbers: N) -> Result<Figures<N>, Refusal> {
         let k = raw::message_len(numbers);
         if k == raw::NO_LENGTH {
             // The reader looks at the figures first, so it tells which refusal it is.
@@ -62,12 +98,17 @@ impl Figures {
 
     /// n.
     pub fn word_len(&self) -> usize {
-        self.numbers.0 as usize
+        match self.numbers.into() {
+            Numbers::Ranked((n, ..)) | Numbers::Long((n, ..)) => n as usize,
+        }
     }
 
-    /// m.
+    /// m, which is 1 for Construction B.
     pub fn runs(&self) -> usize {
-        self.numbers.2 as usize
+        match self.numbers.into() {
+            Numbers::Ranked((_, _, m, _)) => m as usize,
+            Numbers::Long(_) => 1,
+        }
     }
 
     /// k.
@@ -133,7 +174,12 @@ impl StartBytes {
 }
 
 /// Writes the word of a placement and a message.
-pub fn encode(f: &Figures, starts: &[u16], message: &[u8], word: &mut [u8]) -> Result<(), Refusal> {
+pub fn encode<N: Construction>(
+    f: &Figures<N>,
+    starts: &[u16],
+    message: &[u8],
+    word: &mut [u8],
+) -> Result<(), Refusal> {
     Refusal::of(raw::encode(
         f.numbers,
         StartBytes::of(starts).get(),
@@ -143,7 +189,11 @@ pub fn encode(f: &Figures, starts: &[u16], message: &[u8], word: &mut [u8]) -> R
 }
 
 /// Reads a found word: its message, and the placement as the answer. A value q, for q up to 255, is a cell without a reading, which the runs may have.
-pub fn decode(f: &Figures, word: &[u8], message: &mut [u8]) -> Result<Placement, Refusal> {
+pub fn decode<N: Construction>(
+    f: &Figures<N>,
+    word: &[u8],
+    message: &mut [u8],
+) -> Result<Placement, Refusal> {
     let mut starts = [0; 2 * MAX_RUNS];
     let starts = &mut starts[..2 * f.runs()];
     Refusal::of(raw::decode(f.numbers, word, message, starts))?;
@@ -161,7 +211,7 @@ pub fn verify(f: &Figures, starts: &[u16], message: &[u8], word: &[u8]) -> Resul
 }
 
 /// The placement of least rank that covers every cell that is 1 in the map.
-pub fn cover(f: &Figures, map: &[u8]) -> Result<Placement, Refusal> {
+pub fn cover<N: Construction>(f: &Figures<N>, map: &[u8]) -> Result<Placement, Refusal> {
     let mut starts = [0; 2 * MAX_RUNS];
     let starts = &mut starts[..2 * f.runs()];
     Refusal::of(raw::cover(f.numbers, map, starts))?;
@@ -170,13 +220,18 @@ pub fn cover(f: &Figures, map: &[u8]) -> Result<Placement, Refusal> {
 
 /// Lays `depth` words, which stand one after another, side by side: cell t of the strip is symbol t / depth of word t mod depth. Where at most m
 /// stretches of the strip are worn, each at most depth * b cells, each word's map can be covered.
-pub fn interleave(f: &Figures, depth: u32, words: &[u8], strip: &mut [u8]) -> Result<(), Refusal> {
+pub fn interleave<N: Construction>(
+    f: &Figures<N>,
+    depth: u32,
+    words: &[u8],
+    strip: &mut [u8],
+) -> Result<(), Refusal> {
     Refusal::of(raw::interleave(f.numbers, depth, words, strip))
 }
 
 /// Takes a found strip of words side by side apart, into words that stand one after another. A value q is a cell without a reading, as in `decode`.
-pub fn deinterleave(
-    f: &Figures,
+pub fn deinterleave<N: Construction>(
+    f: &Figures<N>,
     depth: u32,
     strip: &[u8],
     words: &mut [u8],
@@ -185,8 +240,8 @@ pub fn deinterleave(
 }
 
 /// Writes the word of an open job; the payload is its number, high byte first and never 0, and its text.
-pub fn job_write(
-    f: &Figures,
+pub fn job_write<N: Construction>(
+    f: &Figures<N>,
     table: &Table,
     starts: &[u16],
     payload: &[u8],
@@ -203,8 +258,8 @@ pub fn job_write(
 }
 
 /// Reads the found word of an open job into its payload. A value q is a cell without a reading, as in `decode`.
-pub fn job_read(
-    f: &Figures,
+pub fn job_read<N: Construction>(
+    f: &Figures<N>,
     table: &Table,
     word: &[u8],
     payload: &mut [u8],

@@ -1,8 +1,30 @@
 //! The C calls on slices, each answering 0 or the refusal number. The only module with unsafe code.
 //! Starts are 2 bytes each, high byte first; a table is 64 slots of 5 bytes, a state and a number.
 
-/// n, q, m and b.
-pub type Numbers = (u32, u32, u32, u32);
+/// Construction A's figures n, q, m and b.
+pub type Ranked = (u32, u32, u32, u32);
+
+/// Construction B's, of one long run: n, q and b.
+pub type Long = (u32, u32, u32);
+
+/// The figures of either construction.
+#[derive(Clone, Copy, PartialEq, Eq, Debug)]
+pub enum Numbers {
+    Ranked(Ranked),
+    Long(Long),
+}
+
+impl From<Ranked> for Numbers {
+    fn from(numbers: Ranked) -> Numbers {
+        Numbers::Ranked(numbers)
+    }
+}
+
+impl From<Long> for Numbers {
+    fn from(numbers: Long) -> Numbers {
+        Numbers::Long(numbers)
+    }
+}
 
 /// An eye: kind (0 plano, 1 sphere, 2 toric), sphere, cylinder and axis, in dioptres and degrees. Those that the kind doesn't use are 0.
 pub type EyeNumbers = (u8, f64, f64, u8);
@@ -18,56 +40,85 @@ pub const DIFFERS: u8 = 255;
 
 #[rustfmt::skip]
 mod c {
-    extern "C" {
-        pub fn burgzemi_message_len(n: u32, q: u32, m: u32, b: u32) -> u32;
-        pub fn burgzemi_payload_len(n: u32, q: u32, m: u32, b: u32) -> u32;
-        pub fn burgzemi_encode(
-            n: u32, q: u32, m: u32, b: u32,
+    use super::Numbers;
+
+    /// Declares the call of each construction, and the function that makes the one of given figures.
+    macro_rules! of_either {
+        ($($name:ident: $ranked:ident, $long:ident($($argument:ident: $kind:ty),*) -> $answer:ty;)*) => {
+            extern "C" {
+                $(fn $ranked(n: u32, q: u32, m: u32, b: u32, $($argument: $kind),*) -> $answer;
+                fn $long(n: u32, q: u32, b: u32, $($argument: $kind),*) -> $answer;)*
+            }
+            $(pub unsafe fn $name(f: Numbers, $($argument: $kind),*) -> $answer {
+                match f {
+                    Numbers::Ranked((n, q, m, b)) => $ranked(n, q, m, b, $($argument),*),
+                    Numbers::Long((n, q, b)) => $long(n, q, b, $($argument),*),
+                }
+            })*
+        };
+    }
+
+    of_either! {
+        message_len: burgzemi_message_len, burgzemi_long_message_len() -> u32;
+        payload_len: burgzemi_payload_len, burgzemi_long_payload_len() -> u32;
+        encode: burgzemi_encode, burgzemi_long_encode(
             starts: *const u8, starts_len: usize,
             message: *const u8, message_len: usize,
-            word: *mut u8, word_len: usize,
+            word: *mut u8, word_len: usize
         ) -> u8;
-        pub fn burgzemi_decode(
-            n: u32, q: u32, m: u32, b: u32,
+        decode: burgzemi_decode, burgzemi_long_decode(
             word: *const u8, word_len: usize,
             message: *mut u8, message_len: usize,
-            starts: *mut u8, starts_len: usize,
+            starts: *mut u8, starts_len: usize
         ) -> u8;
-        pub fn burgzemi_cover(
-            n: u32, q: u32, m: u32, b: u32,
+        cover: burgzemi_cover, burgzemi_long_cover(
             map: *const u8, map_len: usize,
-            starts: *mut u8, starts_len: usize,
+            starts: *mut u8, starts_len: usize
         ) -> u8;
+        interleave: burgzemi_interleave, burgzemi_long_interleave(
+            depth: u32,
+            words: *const u8, words_len: usize,
+            strip: *mut u8, strip_len: usize
+        ) -> u8;
+        deinterleave: burgzemi_deinterleave, burgzemi_long_deinterleave(
+            depth: u32,
+            strip: *const u8, strip_len: usize,
+            words: *mut u8, words_len: usize
+        ) -> u8;
+        job_write: burgzemi_job_write, burgzemi_long_job_write(
+            table: *const u8, table_len: usize,
+            starts: *const u8, starts_len: usize,
+            payload: *const u8, payload_len: usize,
+            word: *mut u8, word_len: usize
+        ) -> u8;
+        job_read: burgzemi_job_read, burgzemi_long_job_read(
+            table: *const u8, table_len: usize,
+            word: *const u8, word_len: usize,
+            payload: *mut u8, payload_len: usize
+        ) -> u8;
+        prescription_write: burgzemi_prescription_write, burgzemi_long_prescription_write(
+            table: *const u8, table_len: usize,
+            starts: *const u8, starts_len: usize, number: u32,
+            right_kind: u8, right_sphere: f64, right_cylinder: f64, right_axis: u8,
+            left_kind: u8, left_sphere: f64, left_cylinder: f64, left_axis: u8, distance: f64,
+            word: *mut u8, word_len: usize
+        ) -> u8;
+        prescription_read: burgzemi_prescription_read, burgzemi_long_prescription_read(
+            table: *const u8, table_len: usize,
+            word: *const u8, word_len: usize,
+            marks: *mut u8, marks_len: usize,
+            powers: *mut f64, powers_len: usize
+        ) -> u8;
+    }
+
+    extern "C" {
         pub fn burgzemi_verify(
             n: u32, q: u32, m: u32, b: u32,
             starts: *const u8, starts_len: usize,
             message: *const u8, message_len: usize,
             word: *const u8, word_len: usize,
         ) -> u8;
-        pub fn burgzemi_interleave(
-            n: u32, q: u32, m: u32, b: u32, depth: u32,
-            words: *const u8, words_len: usize,
-            strip: *mut u8, strip_len: usize,
-        ) -> u8;
-        pub fn burgzemi_deinterleave(
-            n: u32, q: u32, m: u32, b: u32, depth: u32,
-            strip: *const u8, strip_len: usize,
-            words: *mut u8, words_len: usize,
-        ) -> u8;
         pub fn burgzemi_call(table: *mut u8, table_len: usize, letter: u8, number: u32) -> u8;
-        pub fn burgzemi_job_write(
-            n: u32, q: u32, m: u32, b: u32,
-            table: *const u8, table_len: usize,
-            starts: *const u8, starts_len: usize,
-            payload: *const u8, payload_len: usize,
-            word: *mut u8, word_len: usize,
-        ) -> u8;
-        pub fn burgzemi_job_read(
-            n: u32, q: u32, m: u32, b: u32,
-            table: *const u8, table_len: usize,
-            word: *const u8, word_len: usize,
-            payload: *mut u8, payload_len: usize,
-        ) -> u8;
         pub fn burgzemi_transpose(
             kind: u8, sphere: f64, cylinder: f64, axis: u8,
             marks: *mut u8, marks_len: usize,
@@ -77,62 +128,47 @@ mod c {
             kind: u8, sphere: f64, cylinder: f64, axis: u8,
             power: *mut f64, power_len: usize,
         ) -> u8;
-        pub fn burgzemi_prescription_write(
-            n: u32, q: u32, m: u32, b: u32,
-            table: *const u8, table_len: usize,
-            starts: *const u8, starts_len: usize, number: u32,
-            right_kind: u8, right_sphere: f64, right_cylinder: f64, right_axis: u8,
-            left_kind: u8, left_sphere: f64, left_cylinder: f64, left_axis: u8, distance: f64,
-            word: *mut u8, word_len: usize,
-        ) -> u8;
-        pub fn burgzemi_prescription_read(
-            n: u32, q: u32, m: u32, b: u32,
-            table: *const u8, table_len: usize,
-            word: *const u8, word_len: usize,
-            marks: *mut u8, marks_len: usize,
-            powers: *mut f64, powers_len: usize,
-        ) -> u8;
     }
 }
 
 /// k, or `NO_LENGTH` where the figures are refused.
-pub fn message_len((n, q, m, b): Numbers) -> u32 {
+pub fn message_len(f: impl Into<Numbers>) -> u32 {
     // SAFETY: takes and returns numbers only, and touches no memory.
-    unsafe { c::burgzemi_message_len(n, q, m, b) }
+    unsafe { c::message_len(f.into()) }
 }
 
 /// K, or `NO_LENGTH` where the figures are refused.
-pub fn payload_len((n, q, m, b): Numbers) -> u32 {
+pub fn payload_len(f: impl Into<Numbers>) -> u32 {
     // SAFETY: takes and returns numbers only, and touches no memory.
-    unsafe { c::burgzemi_payload_len(n, q, m, b) }
+    unsafe { c::payload_len(f.into()) }
 }
 
 /// Writes a word.
-pub fn encode((n, q, m, b): Numbers, starts: &[u8], message: &[u8], word: &mut [u8]) -> u8 {
+pub fn encode(f: impl Into<Numbers>, starts: &[u8], message: &[u8], word: &mut [u8]) -> u8 {
     let (s, t) = (starts.as_ptr(), starts.len());
     let (from, len) = (message.as_ptr(), message.len());
     // SAFETY: each pointer is a slice's own, never null, with its length; the one written to is lent alone.
-    unsafe { c::burgzemi_encode(n, q, m, b, s, t, from, len, word.as_mut_ptr(), word.len()) }
+    unsafe { c::encode(f.into(), s, t, from, len, word.as_mut_ptr(), word.len()) }
 }
 
 /// Reads a word into the message and starts.
-pub fn decode((n, q, m, b): Numbers, word: &[u8], message: &mut [u8], starts: &mut [u8]) -> u8 {
+pub fn decode(f: impl Into<Numbers>, word: &[u8], message: &mut [u8], starts: &mut [u8]) -> u8 {
     let (from, len) = (word.as_ptr(), word.len());
     let (to, room) = (message.as_mut_ptr(), message.len());
     let (s, t) = (starts.as_mut_ptr(), starts.len());
     // SAFETY: each pointer is a slice's own, never null, with its length; the two written to are lent alone.
-    unsafe { c::burgzemi_decode(n, q, m, b, from, len, to, room, s, t) }
+    unsafe { c::decode(f.into(), from, len, to, room, s, t) }
 }
 
 /// Finds the starts that cover a map.
-pub fn cover((n, q, m, b): Numbers, map: &[u8], starts: &mut [u8]) -> u8 {
+pub fn cover(f: impl Into<Numbers>, map: &[u8], starts: &mut [u8]) -> u8 {
     let (s, t) = (starts.as_mut_ptr(), starts.len());
     // SAFETY: each pointer is a slice's own, never null, with its length; the one written to is lent alone.
-    unsafe { c::burgzemi_cover(n, q, m, b, map.as_ptr(), map.len(), s, t) }
+    unsafe { c::cover(f.into(), map.as_ptr(), map.len(), s, t) }
 }
 
 /// Checks a word against starts and a message: 0 where it agrees, `DIFFERS` where it doesn't, or the refusal.
-pub fn verify((n, q, m, b): Numbers, starts: &[u8], message: &[u8], word: &[u8]) -> u8 {
+pub fn verify((n, q, m, b): Ranked, starts: &[u8], message: &[u8], word: &[u8]) -> u8 {
     let (s, t) = (starts.as_ptr(), starts.len());
     let (listed, size) = (message.as_ptr(), message.len());
     let (from, len) = (word.as_ptr(), word.len());
@@ -141,19 +177,19 @@ pub fn verify((n, q, m, b): Numbers, starts: &[u8], message: &[u8], word: &[u8])
 }
 
 /// Lays words side by side.
-pub fn interleave((n, q, m, b): Numbers, depth: u32, words: &[u8], strip: &mut [u8]) -> u8 {
+pub fn interleave(f: impl Into<Numbers>, depth: u32, words: &[u8], strip: &mut [u8]) -> u8 {
     let (from, len) = (words.as_ptr(), words.len());
     let (to, room) = (strip.as_mut_ptr(), strip.len());
     // SAFETY: each pointer is a slice's own, never null, with its length; the one written to is lent alone.
-    unsafe { c::burgzemi_interleave(n, q, m, b, depth, from, len, to, room) }
+    unsafe { c::interleave(f.into(), depth, from, len, to, room) }
 }
 
 /// Takes a strip apart into its words.
-pub fn deinterleave((n, q, m, b): Numbers, depth: u32, strip: &[u8], words: &mut [u8]) -> u8 {
+pub fn deinterleave(f: impl Into<Numbers>, depth: u32, strip: &[u8], words: &mut [u8]) -> u8 {
     let (from, len) = (strip.as_ptr(), strip.len());
     let (to, room) = (words.as_mut_ptr(), words.len());
     // SAFETY: each pointer is a slice's own, never null, with its length; the one written to is lent alone.
-    unsafe { c::burgzemi_deinterleave(n, q, m, b, depth, from, len, to, room) }
+    unsafe { c::deinterleave(f.into(), depth, from, len, to, room) }
 }
 
 /// Opens (O), cancels (C), finishes (F), reinstates (I), holds (H) or releases (U) a number in a table.
@@ -164,7 +200,7 @@ pub fn call(table: &mut [u8], letter: u8, number: u32) -> u8 {
 
 /// Writes the word of an open job.
 pub fn job_write(
-    (n, q, m, b): Numbers,
+    f: impl Into<Numbers>,
     table: &[u8],
     starts: &[u8],
     payload: &[u8],
@@ -175,16 +211,16 @@ pub fn job_write(
     let (from, len) = (payload.as_ptr(), payload.len());
     let (to, room) = (word.as_mut_ptr(), word.len());
     // SAFETY: each pointer is a slice's own, never null, with its length; the one written to is lent alone.
-    unsafe { c::burgzemi_job_write(n, q, m, b, at, size, s, t, from, len, to, room) }
+    unsafe { c::job_write(f.into(), at, size, s, t, from, len, to, room) }
 }
 
 /// Reads the word of an open job into its payload.
-pub fn job_read((n, q, m, b): Numbers, table: &[u8], word: &[u8], payload: &mut [u8]) -> u8 {
+pub fn job_read(f: impl Into<Numbers>, table: &[u8], word: &[u8], payload: &mut [u8]) -> u8 {
     let (at, size) = (table.as_ptr(), table.len());
     let (from, len) = (word.as_ptr(), word.len());
     let (to, room) = (payload.as_mut_ptr(), payload.len());
     // SAFETY: each pointer is a slice's own, never null, with its length; the one written to is lent alone.
-    unsafe { c::burgzemi_job_read(n, q, m, b, at, size, from, len, to, room) }
+    unsafe { c::job_read(f.into(), at, size, from, len, to, room) }
 }
 
 /// Transposes an eye: kind and axis come as `marks`, sphere and cylinder as `powers`.
@@ -209,7 +245,7 @@ pub fn spherical_equivalent((kind, sphere, cylinder, axis): EyeNumbers, power: &
 /// Writes the word of an open job whose text is a prescription.
 #[rustfmt::skip]
 pub fn prescription_write(
-    (n, q, m, b): Numbers,
+    f: impl Into<Numbers>,
     table: &[u8],
     starts: &[u8],
     number: u32,
@@ -221,8 +257,8 @@ pub fn prescription_write(
     let (to, room) = (word.as_mut_ptr(), word.len());
     // SAFETY: each pointer is a slice's own, never null, with its length; the one written to is lent alone.
     unsafe {
-        c::burgzemi_prescription_write(
-            n, q, m, b, at, size, s, t, number,
+        c::prescription_write(
+            f.into(), at, size, s, t, number,
             right.0, right.1, right.2, right.3, left.0, left.1, left.2, left.3, distance,
             to, room,
         )
@@ -232,7 +268,7 @@ pub fn prescription_write(
 /// Reads the word of an open job whose text is a prescription. As `marks` come the job number, high byte first, and kind and axis of the right and
 /// of the left eye; as `powers` sphere and cylinder of the right and of the left eye, and the pupil distance.
 pub fn prescription_read(
-    (n, q, m, b): Numbers,
+    f: impl Into<Numbers>,
     table: &[u8],
     word: &[u8],
     marks: &mut [u8],
@@ -243,5 +279,5 @@ pub fn prescription_read(
     let (to, room) = (marks.as_mut_ptr(), marks.len());
     let (also, count) = (powers.as_mut_ptr(), powers.len());
     // SAFETY: each pointer is a slice's own, never null, with its length; the two written to are lent alone.
-    unsafe { c::burgzemi_prescription_read(n, q, m, b, at, size, from, len, to, room, also, count) }
+    unsafe { c::prescription_read(f.into(), at, size, from, len, to, room, also, count) }
 }

@@ -23,8 +23,14 @@ const TEXTS: [(u8, &str); 22] = [
     (5, "starts too close, descending, or past the end"),
     (6, "no placement covers the map"),
     (7, "the blocks' first symbols are in no listed pattern"),
-    (8, "the value at the heads of the index blocks is no rank"),
-    (9, "the placement disagrees with the index or fixed blocks"),
+    (
+        8,
+        "the value at the heads of the index blocks is too large",
+    ),
+    (
+        9,
+        "the placement disagrees with the index or fixed blocks, or begins before the word",
+    ),
     (10, "no room for a job, or the message spells no payload"),
     (11, "a record is unreadable, or one too many"),
     (12, "the job number is cancelled"),

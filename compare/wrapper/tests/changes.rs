@@ -251,3 +251,122 @@ fn what_a_slip_can_spoil() {
         assert_eq!((&placement[..], read), (&[6][..], message));
     }
 }
+
+/// Change request 1.
+#[test]
+fn one_long_run() {
+    let strip = Figures::long(20, 2, 5).expect("these figures fit");
+    let lens = (strip.word_len(), strip.runs(), strip.message_len());
+    assert_eq!((lens, strip.payload_len()), ((20, 1, 10), 1));
+    let mut word = [0xEE; 20];
+    for (starts, refusal) in [
+        (&[][..], Refusal::LENGTH),
+        (&[9, 9], Refusal::LENGTH),
+        (&[16], Refusal::STARTS),
+    ] {
+        assert_eq!(encode(&strip, starts, &[1; 10], &mut word), Err(refusal));
+    }
+    assert_eq!(word, [0xEE; 20]);
+    assert_eq!(encode(&strip, &[12], &[1; 10], &mut word), Ok(()));
+    assert_eq!(word, b"10111101111100000111".map(|digit| digit - b'0'));
+    // Any values up to q inside the run.
+    word[12..17].copy_from_slice(&[1, 2, 0, 2, 1]);
+    let mut message = [0; 10];
+    let placement = decode(&strip, &word, &mut message).expect("a written word is read");
+    assert_eq!((&placement[..], message), (&[12][..], [1; 10]));
+    // Every cell of the run is worn, or one more.
+    let mut map = [0; 20];
+    map[12..17].fill(1);
+    assert_eq!(cover(&strip, &map).map(|covered| covered[0]), Ok(12));
+    map[11] = 1;
+    assert_eq!(cover(&strip, &map), Err(Refusal::UNCOVERED));
+}
+
+#[test]
+fn figures_of_one_long_run() {
+    let fits = |n, q, b| Figures::long(n, q, b).map(|f| f.message_len());
+    assert_eq!(fits(20, 2, 6), Ok(9));
+    assert_eq!(fits(20, 2, 7), Err(Refusal::UNFIT));
+    assert_eq!(fits(20, 2, 0), Err(Refusal::INVALID));
+    assert_eq!(fits(3, 2, 1), Ok(0));
+    assert_eq!(fits(4, 2, 1), Err(Refusal::UNFIT));
+    assert_eq!(fits(4096, 256, 1365), Ok(2728));
+    assert_eq!(fits(4097, 256, 1365), Err(Refusal::INVALID));
+}
+
+#[test]
+fn refused_words_of_one_long_run() {
+    let strip = Figures::long(20, 2, 5).expect("these figures fit");
+    let mut message = [0xEE; 10];
+    for (word, refusal) in [
+        (b"11111111111111111111", Refusal::PATTERN),
+        (b"10121101122222111111", Refusal::SILENT),
+        (b"11111101100000111111", Refusal::VALUE),
+        (b"11111110111110111111", Refusal::DISAGREES),
+        (b"10001101100000111112", Refusal::SILENT),
+        (b"10001101130000111111", Refusal::SYMBOL),
+    ] {
+        let word = word.map(|digit| digit - b'0');
+        assert_eq!(decode(&strip, &word, &mut message), Err(refusal));
+    }
+    assert_eq!(message, [0xEE; 10]);
+}
+
+/// A stretch of depth * b cells is worn, at every place.
+#[test]
+fn side_by_side_with_one_long_run() {
+    let strip = Figures::long(20, 2, 5).expect("these figures fit");
+    for depth in 1..=MAX_DEPTH as usize {
+        let (mut words, mut cells) = (vec![0; depth * 20], vec![0; depth * 20]);
+        for worn in 0..=depth * 15 {
+            let mut map = vec![0; depth * 20];
+            map[worn..worn + 5 * depth].fill(1);
+            let mut maps = vec![0; depth * 20];
+            let taken = deinterleave(&strip, depth as u32, &map, &mut maps);
+            assert_eq!(taken, Ok(()));
+            for (word, map) in words.chunks_exact_mut(20).zip(maps.chunks_exact(20)) {
+                let starts = cover(&strip, map).expect("the map can be covered");
+                assert_eq!(encode(&strip, &starts, &[1; 10], word), Ok(()));
+            }
+            assert_eq!(interleave(&strip, depth as u32, &words, &mut cells), Ok(()));
+            // Cells without a reading.
+            cells[worn..worn + 5 * depth].fill(2);
+            let taken = deinterleave(&strip, depth as u32, &cells, &mut words);
+            assert_eq!(taken, Ok(()));
+            for word in words.chunks_exact(20) {
+                let mut message = [0; 10];
+                assert!(decode(&strip, word, &mut message).is_ok());
+                assert_eq!(message, [1; 10]);
+            }
+        }
+    }
+    let mut cells = [0xEE; 40];
+    for (depth, words, refusal) in [
+        (0, &[2; 39][..], Refusal::DEPTH),
+        (17, &[2; 39], Refusal::DEPTH),
+        (2, &[2; 39], Refusal::LENGTH),
+        (2, &[2; 40], Refusal::SYMBOL),
+    ] {
+        let laid = interleave(&strip, depth, words, &mut cells);
+        assert_eq!((laid, cells), (Err(refusal), [0xEE; 40]));
+    }
+}
+
+#[test]
+fn jobs_with_one_long_run() {
+    let strip = Figures::long(15, 256, 5).expect("these figures fit");
+    let mut table = Table::new();
+    let (mut word, mut payload) = ([0xEE; 15], [0xEE; 8]);
+    let job = b"\0\0\0\x07ABCD";
+    let unopened = job_write(&strip, &table, &[6], job, &mut word);
+    assert_eq!((unopened, word), (Err(Refusal::NOT_OPEN), [0xEE; 15]));
+    assert_eq!(table.open(7), Ok(()));
+    assert_eq!(job_write(&strip, &table, &[6], job, &mut word), Ok(()));
+    assert_eq!(word, *b"\x01\0\0\0\x07\0\0\0\0\0\0ABCD");
+    word[6..11].fill(0xFF);
+    assert_eq!(job_read(&strip, &table, &word, &mut payload), Ok(()));
+    assert_eq!(payload, *job);
+    assert_eq!(table.cancel(7), Ok(()));
+    let cancelled = job_read(&strip, &table, &word, &mut payload);
+    assert_eq!(cancelled, Err(Refusal::CANCELLED));
+}

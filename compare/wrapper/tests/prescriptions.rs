@@ -57,6 +57,22 @@ fn there_and_back() {
 }
 
 #[test]
+fn with_one_long_run() {
+    let table = open(7);
+    let write = |n, b, word: &mut [u8]| {
+        let f = Figures::long(n, 256, b).expect("these figures fit");
+        prescription_write(&f, &table, &[8], 7, &ORDER, word)
+    };
+    let mut word = [0; 30];
+    assert_eq!(write(30, 10, &mut word), Ok(()));
+    word[8..18].fill(0xFF);
+    let f = Figures::long(30, 256, 10).expect("these figures fit");
+    assert_eq!(prescription_read(&f, &table, &word), Ok((7, ORDER)));
+    let short = write(27, 9, &mut word[..27]);
+    assert_eq!(short, Err(Refusal::PRESCRIPTION));
+}
+
+#[test]
 fn lenses() {
     let lens = toric(-2.5, 0.75, 175);
     assert_eq!(lens.transpose(), Ok(toric(-1.75, -0.75, 85)));

@@ -4,3 +4,4 @@ pub mod Reading
 pub mod DemandTwo
 pub mod Outcomes
 pub mod Ranking
+pub mod Examples

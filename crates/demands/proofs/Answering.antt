@@ -3,17 +3,25 @@ use mathlib.Core.Path.{_≡_, refl}
 use mathlib.Core.Bool.{Bool, true, false, not, _&&_, _||_}
 use mathlib.Core.List.{List, _∷_}
 use mathlib.Core.Option.{Option, none, some}
-use Prim.Native.Nat.{ℕ}
-use lib.Dec.{eqb, ltb}
+use Prim.Native.Nat.{ℕ, _-_}
+use lib.Dec.{eqb, leb, ltb}
 use Rattle.refusals.specs.Refusals.{must, served, invalid, unfit, wrongLength, noPattern, valueTooLarge, disagrees, erased, badPayload, jobCancelled, jobHeld, notOpen}
 use Rattle.combinatorics.specs.Lists.{all, any}
 use Rattle.cells.specs.Cells.{message, pick}
 use Rattle.cells.specs.Codec.{Reading, accepted, refused}
+use Rattle.cells.specs.Outcomes.{Coding, Encoded}
 use Rattle.cells.specs.Erasures.{hasErasure}
-use Rattle.construction_a.specs.Figures.{Params, inRange, fits, parts, placementCount, messageLen}
+use Rattle.construction_a.specs.Figures.{Params, parts, placementCount}
 use Rattle.construction_a.specs.Writing.{plan, placementOf}
 use Rattle.construction_a.specs.Reading.{looksFixed, indexFound, heads, written, agrees, readRank, readFrom, read}
-use Rattle.construction_a.specs.Outcomes.{Encoded}
+use Rattle.construction_b.specs.Figures.{LongParams, partLen}
+use Rattle.construction_b.specs.Writing.{plan as planB}
+use Rattle.construction_b.specs.Reading as B
+use Rattle.construction_a.specs.Outcomes.{coding}
+use Rattle.construction_b.specs.Outcomes.{coding as codingB}
+use Rattle.params.specs.declared.Figures.{Figures}
+use Rattle.params.specs.declared.Figures.the-variants.{Ranked, Long}
+use Rattle.params.specs.Bridge.{given, givenLong, codingOf}
 use Rattle.jobs.specs.Jobs.{Status, unknown, opened, onHold, cancelled}
 use Rattle.payloads.specs.Payload.{carriesJob}
 use Rattle.jobcodec.specs.DemandThree.{isRefusal}
@@ -46,29 +54,63 @@ module _ {O : Type 0} (P : O → Type 0) where
   where-open refuse opened p h q r = r
 
 -- a word is refused with 7, 19, 8 or 9, or accepted
-module _ (f : Params) (w : List ℕ) (P : Reading → Type 0) (seven : P (refused noPattern)) (nineteen : P (refused erased)) (eight : P (refused valueTooLarge))
-    (nine : P (refused disagrees)) (taken : (ss ms : List ℕ) → P (accepted ss ms)) where
-  by-found : (found : Option (List ℕ)) → P (readFrom f w found)
-  unfolding readRank
-  by-found none = seven
-  by-found (some ks) =
-      let v = written f w ks in
-      tested P (not (hasErasure (f .q) (heads f w ks))) nineteen
-      (tested P (ltb v (placementCount f)) eight
-      (tested P (agrees f w ks (placementOf f v)) nine
-      (tested P (not (hasErasure (f .q) (pick message (plan f (placementOf f v)) w))) nineteen (taken _ _))))
+pub data Judged : Reading → Type 0 where
+  seven : Judged (refused noPattern)
+  nineteen : Judged (refused erased)
+  eight : Judged (refused valueTooLarge)
+  nine : Judged (refused disagrees)
+  taken : (ss ms : List ℕ) → Judged (accepted ss ms)
 
-  pub by-read : P (read f w)
-  unfolding read
-  by-read = by-found (indexFound (parts f) (f .m) (looksFixed f w))
+abbrev pub Judges : Coding → Type 0
+Judges d = (w : List ℕ) → Judged (d .codec .decode w)
+
+pub by-read : (P : Reading → Type 0) → P (refused noPattern) → P (refused erased) → P (refused valueTooLarge) → P (refused disagrees)
+    → ((ss ms : List ℕ) → P (accepted ss ms)) → (r : Reading) → Judged r → P r
+by-read P p₇ p₁₉ p₈ p₉ t (refused _) seven = p₇
+by-read P p₇ p₁₉ p₈ p₉ t (refused _) nineteen = p₁₉
+by-read P p₇ p₁₉ p₈ p₉ t (refused _) eight = p₈
+by-read P p₇ p₁₉ p₈ p₉ t (refused _) nine = p₉
+by-read P p₇ p₁₉ p₈ p₉ t (accepted _ _) (taken ss ms) = t ss ms
+
+judges-a : (f : Params) → Judges (coding f)
+unfolding read readRank
+judges-a f w = go (indexFound (parts f) (f .m) (looksFixed f w))
+  where
+    go : (found : Option (List ℕ)) → Judged (readFrom f w found)
+    go none = seven
+    go (some ks) =
+        let v = written f w ks in
+        tested Judged (not (hasErasure (f .q) (heads f w ks))) nineteen
+        (tested Judged (ltb v (placementCount f)) eight
+        (tested Judged (agrees f w ks (placementOf f v)) nine
+        (tested Judged (not (hasErasure (f .q) (pick message (plan f (placementOf f v)) w))) nineteen (taken _ _))))
+
+judges-b : (f : LongParams) → Judges (codingB f)
+unfolding B.read B.readPart
+judges-b f w = go (B.indexFound (B.looksFixed f w))
+  where
+    go : (found : Option ℕ) → Judged (B.readFrom f w found)
+    go none = seven
+    go (some i) =
+        let e = B.before i in
+        let v = B.written f w i in
+        tested Judged (not (hasErasure (f .q) (B.firstSymbols f w i))) nineteen
+        (tested Judged (ltb v (partLen f e)) eight
+        (tested Judged (leb (f .b) (B.endAt f e v)) nine
+        (tested Judged (not (hasErasure (f .q) (pick message (planB f (B.endAt f e v - f .b)) w))) nineteen (taken _ _))))
+
+-- under the figures of either construction
+pub judges : (f : Figures) → Judges (codingOf f)
+judges (Ranked p) = judges-a (given p)
+judges (Long p) = judges-b (givenLong p)
 
 -- "1 2 10 3" before a job's own
-pub with-table : {O : Type 0} (P : O → Type 0) (f : Params) (table : List ℕ) (lengths : Bool) (refuse : ℕ → O) {rest : O}
-    → P (refuse invalid) → P (refuse unfit) → P (refuse badPayload) → P (refuse wrongLength) → P rest → P (withTable f table lengths refuse rest)
-with-table P f table lengths refuse p₁ p₂ p₁₀ p₃ r =
-    tested P (inRange f && slotsFit table) p₁
-    (tested P (fits f) p₂
-    (tested P (carriesJob (f .q) (messageLen f)) p₁₀
+pub with-table : {O : Type 0} (P : O → Type 0) (d : Coding) (table : List ℕ) (lengths : Bool) (refuse : ℕ → O) {rest : O}
+    → P (refuse invalid) → P (refuse unfit) → P (refuse badPayload) → P (refuse wrongLength) → P rest → P (withTable d table lengths refuse rest)
+with-table P d table lengths refuse p₁ p₂ p₁₀ p₃ r =
+    tested P (d .inRange && slotsFit table) p₁
+    (tested P (d .fits) p₂
+    (tested P (carriesJob (d .codec .alphabet) (d .codec .messageLen)) p₁₀
     (tested P (isWhole table && lengths) p₃ r)))
 
 -- a word is lent

@@ -16,13 +16,17 @@ use Rattle.combinatorics.proofs.Lists.{both}
 use Rattle.cells.specs.Bytes.{payloadLen}
 use Rattle.cells.specs.Cells.{message}
 use Rattle.cells.specs.Erasures.{foundBound}
-use Rattle.construction_a.specs.DemandTwo.{constructionA}
-use Rattle.construction_a.specs.Figures.{Params, inRange, fits, placementCount, indexTail, messageLen}
-use Rattle.construction_a.specs.Outcomes.{coding, Held, held, inUse, FiguresOut, figuresNumber, figuresOut, unwritten, encodeOut, worn, Covered, coverOut, WordAnswer, rankIs, refusal, answerNumber, Decoded, decodeAs, decodeOut}
+use Rattle.cells.specs.Ranking.{CoversLeast}
+use Rattle.construction_a.specs.Figures.{Params, inRange, fits, placementCount, messageLen}
+use Rattle.cells.specs.Outcomes.{Coding, Held, held, inUse, FiguresOut, figuresNumber, figuresUnder, unwritten, encodeUnder, worn, Covered, coverUnder, WordAnswer, rankIs, refusal, answerNumber, Decoded, decodedFrom, decodeUnder}
+use Rattle.params.specs.declared.Figures.{Figures}
+use Rattle.params.specs.declared.Figures.the-variants.{Ranked, Long}
+use Rattle.params.specs.Bridge.{given, givenLong, codingOf}
 use Rattle.construction_a.specs.DemandTwo.{constructionA}
 use Rattle.construction_a.proofs.DemandTwo.{demand-two}
-use Rattle.construction_a.proofs.Figures.{serve}
-use Rattle.construction_a.proofs.Ranking.{covers-least}
+use Rattle.construction_b.proofs.DemandTwo.{demand-two as demand-two-b}
+use Rattle.construction_a.proofs.Ranking.{faithful}
+use Rattle.construction_b.proofs.Ranking.{faithful as faithful-b}
 use Rattle.ledger.proofs.Simulates.{simulation}
 use Rattle.jobs.specs.declared.Entry.{Entry}
 use Rattle.jobs.specs.declared.Entry.the-variants.{Free, Open, OnHold, Cancelled}
@@ -31,74 +35,79 @@ use Rattle.jobs.specs.Letters.{kindOf, listKind, known, callBy, isLetter, isLis
 use Rattle.ledger.specs.Replay.{lengthsFit, ReplayOut, replayOut}
 use Rattle.jobs.specs.Table.{isFree, lookup, TableOut, put, twice, decide, openJob, openAt, cancelAt, finishAt, reinstateAt, holdAt, releaseAt, openOut, cancelOut, finishOut, reinstateOut, holdOut, releaseOut, callAs}
 use Rattle.payloads.specs.Payload.{carriesJob, payloadIn, spellsPayload, jobNumber}
-use Rattle.decoder.specs.Exported.{Exported, answered, exportedOut}
+use Rattle.decoder.specs.Exported.{Exported, answered, exportedUnder}
 use Rattle.jobcodec.specs.DemandThree.{isRefusal}
-use Rattle.jobcodec.specs.JobWrite.{jobStatus, jobWriteOut}
-use Rattle.jobcodec.specs.JobRead.{JobRead, withhold, jobIn, jobReading, jobReadOut}
+use Rattle.jobcodec.specs.JobWrite.{jobStatus, jobWriteUnder}
+use Rattle.jobcodec.specs.JobRead.{JobRead, withhold, jobIn, jobReading, jobReadUnder}
 use Rattle.jobcodec.specs.ListRead.{ListOut, listOut}
 use Rattle.lanes.specs.Interleaving.{inDepth, interleaved, deinterleaved}
-use Rattle.lanes.specs.Outcomes.{Rearranged, rearranged, interleaveOut, deinterleaveOut}
+use Rattle.lanes.specs.Outcomes.{Rearranged, rearranged, interleaveUnder, deinterleaveUnder}
 use Rattle.verifier.specs.Verify.{agreesOutside, agreeing, differing, unchecked, verifyOut}
-use Rattle.lent.specs.Covering.{CoverLent, coverBytesOut}
+use Rattle.lent.specs.Covering.{CoverLent, coverBytesUnder}
+use Rattle.lent.specs.Jobs.{jobWriteBytesUnder, jobReadBytesUnder}
+use Rattle.lent.specs.Words.{encodeBytesUnder}
 use Rattle.lent.specs.Table.{tableLen, statesKnown, tableIn}
-use Rattle.exports.specs.Words.{encodeBytesOut, differs, verifyBytesOut}
-use Rattle.exports.specs.Jobs.{CallLent, called, calledAs, callBytesOut, jobWriteBytesOut, jobReadBytesOut}
+use Rattle.exports.specs.Words.{differs, verifyBytesOut}
+use Rattle.exports.specs.Jobs.{CallLent, called, calledAs, callBytesOut}
 use Rattle.text.specs.Text.{decimal, hex}
 use Rattle.records.specs.Session.{Session, maxRecords, after}
-use Rattle.lines.specs.Lines.{refusalLine, servedLine}
-use Rattle.lines.specs.Lines.{letterS, letterW, letterR}
-use Rattle.records.specs.Records.{headLen, letterOf, isEmpty, current, figuresIn, startsIn, payloadOf, readable}
+use Rattle.lines.specs.Lines.{refusalLine, servedLine, letterS, letterL, letterW, letterR}
+use Rattle.records.specs.Records.{headLen, letterOf, isEmpty, current, payloadLenOf, figuresIn, longFiguresIn, startsIn, payloadOf, readable}
 use Rattle.transfer.specs.Steps.{Step, stopped, ended, goesOn, figuresStep, callStep, jobStep, writeOut, readOut, serveOut, stepOut}
 use Rattle.demands.specs.Orders.{figuresAlone, wordWrite, covering, wordRead, rearrangement, jobWrite, jobRead, call, callByLetter, callOnBytes, listOfCalls}
-use Rattle.demands.proofs.Answering.{keep, done, tested, where-open, by-read, with-table, one-more, Writes}
+use Rattle.demands.proofs.Answering.{keep, done, tested, where-open, Judges, by-read, judges, with-table, one-more, Writes}
 use Rattle.demands.proofs.Prescriptions.{transpose, spherical-equivalent, read-text, write-text, prescription-write, prescription-read, transpose-lent, equivalent-lent, prescription-write-bytes, prescription-read-bytes}
 use Rattle.demands.specs.DemandOne.{AnswersBy, ChecksBy, ListAnswers, StepAnswers, at-end, stops, refuses, serves, DemandOne}
 
 -- ---- Words
 
-figures-alone : (f : Params) → AnswersBy {A = Unit {0}} figuresAlone (figuresNumber (figuresOut f)) tt tt
-unfolding figuresOut isRefusal all any
-figures-alone f = tested P (inRange f) (keep refl refl) (tested P (fits f) (keep refl refl) (done refl))
+figures-alone : (d : Coding) → AnswersBy {A = Unit {0}} figuresAlone (figuresNumber (figuresUnder d)) tt tt
+unfolding isRefusal all any
+figures-alone d = tested P (d .inRange) (keep refl refl) (tested P (d .fits) (keep refl refl) (done refl))
   where
     P : FiguresOut → Type 0
     P o = AnswersBy {A = Unit {0}} figuresAlone (figuresNumber o) tt tt
 
-word-write : (f : Params) (at : Held) (ms out : List ℕ) → Writes wordWrite out (encodeOut f at ms out)
-unfolding encodeOut isRefusal all any
-word-write f at ms out =
+word-write : (d : Coding) (at : Held) (ms out : List ℕ) → Writes wordWrite out (encodeUnder d at ms out)
+unfolding isRefusal all any
+word-write d at ms out =
     let P = Writes wordWrite out in
-    tested P (inRange f) (keep refl refl)
-    (tested P (fits f) (keep refl refl)
-    (tested P (eqb (at .count) (f .m) && eqb (length ms) (messageLen f) && eqb (length out) (f .n)) (keep refl refl)
-    (tested P (apart (f .b) (f .n) 0 (inUse at)) (keep refl refl)
-    (tested P (allBelow (f .q) ms) (keep refl refl)
+    let c = d .codec in
+    tested P (d .inRange) (keep refl refl)
+    (tested P (d .fits) (keep refl refl)
+    (tested P (eqb (at .count) (d .bursts) && eqb (length ms) (c .messageLen) && eqb (length out) (c .wordLen)) (keep refl refl)
+    (tested P (apart (d .burstLen) (c .wordLen) 0 (inUse at)) (keep refl refl)
+    (tested P (allBelow (c .alphabet) ms) (keep refl refl)
     (done refl)))))
 
 abbrev Covers : Covered → Type 0
 Covers o = AnswersBy covering (o .answer) (held []) (o .placement)
 
-cover : (f : Params) (map : List ℕ) → Covers (coverOut f map)
-unfolding coverOut isRefusal all any
-cover f map =
-    tested Covers (inRange f) (keep refl refl)
-    (tested Covers (fits f) (keep refl refl)
-    (tested Covers (eqb (length map) (f .n)) (keep refl refl)
+cover : (d : Coding) (map : List ℕ) → Covers (coverUnder d map)
+unfolding isRefusal all any
+cover d map =
+    let n = d .codec .wordLen in
+    tested Covers (d .inRange) (keep refl refl)
+    (tested Covers (d .fits) (keep refl refl)
+    (tested Covers (eqb (length map) n) (keep refl refl)
     (tested Covers (allBelow 2 map) (keep refl refl)
-    (tested Covers (ltb (coverRank (f .n) (f .m) (f .b) (worn map)) (placementCount f)) (keep refl refl)
+    (tested Covers (ltb (coverRank n (d .bursts) (d .burstLen) (worn map)) (d .placementCount)) (keep refl refl)
     (done refl)))))
 
 abbrev Reads : List ℕ → Decoded → Type 0
 Reads out o = AnswersBy {A = Held × List ℕ} wordRead (answerNumber (o .answer)) (held [], out) (o .placement, o .message)
 
-word-read : (f : Params) (w out : List ℕ) → Reads out (decodeOut f w out)
-unfolding decodeOut isRefusal all any
-word-read f w out =
+word-read : (d : Coding) → Judges d → (w out : List ℕ) → Reads out (decodeUnder d w out)
+unfolding isRefusal all any
+word-read d judge w out =
     let P = Reads out in
-    tested P (inRange f) (keep refl refl)
-    (tested P (fits f) (keep refl refl)
-    (tested P (eqb (length w) (f .n) && eqb (length out) (messageLen f)) (keep refl refl)
-    (tested P (allBelow (foundBound (f .q)) w) (keep refl refl)
-    (by-read f w (λ d. P (decodeAs f out d)) (keep refl refl) (keep refl refl) (keep refl refl) (keep refl refl) (λ ss ms. done refl)))))
+    let c = d .codec in
+    tested P (d .inRange) (keep refl refl)
+    (tested P (d .fits) (keep refl refl)
+    (tested P (eqb (length w) (c .wordLen) && eqb (length out) (c .messageLen)) (keep refl refl)
+    (tested P (allBelow (c .foundBound) w) (keep refl refl)
+    (by-read (λ r. P (decodedFrom (d .burstLen) out r)) (keep refl refl) (keep refl refl) (keep refl refl) (keep refl refl) (λ ss ms. done refl)
+    (c .decode w) (judge w)))))
 
 -- a refusal of the check: its number is not 0
 turned-away : (a : ℕ) → any (eqb (suc a)) (served ∷ wordWrite) ≡ true → any (eqb (suc a)) (served ∷ differs ∷ wordWrite) ≡ true → ChecksBy (unchecked (suc a))
@@ -122,26 +131,25 @@ verify f at ms w =
 
 -- ---- Words side by side
 
-module _ (f : Params) (d : ℕ) where
+module _ (c : Coding) (d : ℕ) where
   rearranges : (bound : ℕ) (from out filled : List ℕ)
-      → AnswersBy rearrangement (rearranged f d bound from out filled .answer) out (rearranged f d bound from out filled .buffer)
+      → AnswersBy rearrangement (rearranged c d bound from out filled .answer) out (rearranged c d bound from out filled .buffer)
   unfolding isRefusal all any
   rearranges bound from out filled =
       let P : Rearranged → Type 0 = λ o. AnswersBy rearrangement (o .answer) out (o .buffer) in
-      tested P (inRange f) (keep refl refl)
-      (tested P (fits f) (keep refl refl)
+      let n = c .codec .wordLen in
+      tested P (c .inRange) (keep refl refl)
+      (tested P (c .fits) (keep refl refl)
       (tested P (inDepth d) (keep refl refl)
-      (tested P (eqb (length from) (d * f .n) && eqb (length out) (d * f .n)) (keep refl refl)
+      (tested P (eqb (length from) (d * n) && eqb (length out) (d * n)) (keep refl refl)
       (tested P (allBelow bound from) (keep refl refl)
       (done refl)))))
 
-  interleave : (words out : List ℕ) → AnswersBy rearrangement (interleaveOut f d words out .answer) out (interleaveOut f d words out .buffer)
-  unfolding interleaveOut
-  interleave words out = rearranges (f .q) words out (interleaved d (f .n) words)
+  interleave : (words out : List ℕ) → AnswersBy rearrangement (interleaveUnder c d words out .answer) out (interleaveUnder c d words out .buffer)
+  interleave words out = rearranges (c .codec .alphabet) words out (interleaved d (c .codec .wordLen) words)
 
-  deinterleave : (strip out : List ℕ) → AnswersBy rearrangement (deinterleaveOut f d strip out .answer) out (deinterleaveOut f d strip out .buffer)
-  unfolding deinterleaveOut
-  deinterleave strip out = rearranges (constructionA f .foundBound) strip out (deinterleaved d (f .n) strip)
+  deinterleave : (strip out : List ℕ) → AnswersBy rearrangement (deinterleaveUnder c d strip out .answer) out (deinterleaveUnder c d strip out .buffer)
+  deinterleave strip out = rearranges (c .codec .foundBound) strip out (deinterleaved d (c .codec .wordLen) strip)
 
 -- ---- The job table
 
@@ -246,57 +254,61 @@ replay es letters numbers answers =
 
 -- ---- Jobs
 
-job-write : (f : Params) (es : List Entry) (at : Held) (payload out : List ℕ) → Writes jobWrite out (jobWriteOut f es at payload out)
-unfolding jobWriteOut isRefusal all any
-job-write f es at payload out =
+job-write : (d : Coding) (es : List Entry) (at : Held) (payload out : List ℕ) → Writes jobWrite out (jobWriteUnder d es at payload out)
+unfolding isRefusal all any
+job-write d es at payload out =
     let P = Writes jobWrite out in
-    let k = messageLen f in
-    tested P (inRange f && not (twice es)) (keep refl refl)
-    (tested P (fits f) (keep refl refl)
-    (tested P (carriesJob (f .q) k) (keep refl refl)
-    (tested P (eqb (at .count) (f .m) && eqb (length payload) (payloadLen (f .q) k) && eqb (length out) (f .n)) (keep refl refl)
-    (tested P (apart (f .b) (f .n) 0 (inUse at)) (keep refl refl)
+    let c = d .codec in
+    let q = c .alphabet in
+    let k = c .messageLen in
+    tested P (d .inRange && not (twice es)) (keep refl refl)
+    (tested P (d .fits) (keep refl refl)
+    (tested P (carriesJob q k) (keep refl refl)
+    (tested P (eqb (at .count) (d .bursts) && eqb (length payload) (payloadLen q k) && eqb (length out) (c .wordLen)) (keep refl refl)
+    (tested P (apart (d .burstLen) (c .wordLen) 0 (inUse at)) (keep refl refl)
     (tested P (isJob (jobNumber payload)) (keep refl refl)
     (where-open P (unwritten out) (jobStatus es payload) (keep refl refl) (keep refl refl) (keep refl refl) (done refl)))))))
 
 abbrev ReadsJob : List ℕ → JobRead → Type 0
 ReadsJob out o = AnswersBy jobRead (o .answer) out (o .payload)
 
-job-read : (f : Params) (es : List Entry) (w out : List ℕ) → ReadsJob out (jobReadOut f es w out)
-unfolding jobReadOut jobReading isRefusal all any
-job-read f es w out =
+job-read : (d : Coding) → Judges d → (es : List Entry) (w out : List ℕ) → ReadsJob out (jobReadUnder d es w out)
+unfolding jobReading isRefusal all any
+job-read d judge es w out =
     let P = ReadsJob out in
-    let q = f .q in
-    let k = messageLen f in
-    tested P (inRange f && not (twice es)) (keep refl refl)
-    (tested P (fits f) (keep refl refl)
+    let c = d .codec in
+    let q = c .alphabet in
+    let k = c .messageLen in
+    tested P (d .inRange && not (twice es)) (keep refl refl)
+    (tested P (d .fits) (keep refl refl)
     (tested P (carriesJob q k) (keep refl refl)
-    (tested P (eqb (length w) (f .n) && eqb (length out) (payloadLen q k)) (keep refl refl)
-    (tested P (allBelow (foundBound q) w) (keep refl refl)
-    (by-read f w (λ d. P (jobIn q k es out d)) (keep refl refl) (keep refl refl) (keep refl refl) (keep refl refl)
+    (tested P (eqb (length w) (c .wordLen) && eqb (length out) (payloadLen q k)) (keep refl refl)
+    (tested P (allBelow (c .foundBound) w) (keep refl refl)
+    (by-read (λ r. P (jobIn q k es out r)) (keep refl refl) (keep refl refl) (keep refl refl) (keep refl refl)
     (λ ss ms. tested P (spellsPayload q k ms) (keep refl refl)
-    (where-open P (withhold out) (jobStatus es (payloadIn q k ms)) (keep refl refl) (keep refl refl) (keep refl refl) (done refl))))))))
+    (where-open P (withhold out) (jobStatus es (payloadIn q k ms)) (keep refl refl) (keep refl refl) (keep refl refl) (done refl)))
+    (c .decode w) (judge w))))))
 
-list-and-read : (f : Params) (es : List Entry) (letters numbers answers w out : List ℕ)
-    → ListAnswers (listOut (coding f) es letters numbers answers w out .answer) answers out (listOut (coding f) es letters numbers answers w out)
-unfolding listOut jobReadOut
-list-and-read f es letters numbers answers w out =
+list-and-read : (d : Coding) → Judges d → (es : List Entry) (letters numbers answers w out : List ℕ)
+    → ListAnswers (listOut d es letters numbers answers w out .answer) answers out (listOut d es letters numbers answers w out)
+unfolding listOut
+list-and-read d judge es letters numbers answers w out =
     let r = replayOut es letters numbers answers in
     let h = replay es letters numbers answers in
     tested (λ (o : ListOut). ListAnswers (o .answer) answers out o) (eqb (r .answer) served)
     (record { numbers = h .numbers; answer = h .answer; keeps = λ d. ap (λ (x : List Entry × List ℕ). (x .1, out)) (h .keeps d) })
-    (job-read f (r .table) w out)
+    (job-read d judge (r .table) w out)
 
 -- ---- For other languages
 
-word-write-bytes : (f : Params) (starts ms out : List ℕ) → Writes wordWrite out (encodeBytesOut f starts ms out)
-unfolding encodeBytesOut isRefusal all any
-word-write-bytes f starts ms out =
+word-write-bytes : (d : Coding) (starts ms out : List ℕ) → Writes wordWrite out (encodeBytesUnder d starts ms out)
+unfolding encodeBytesUnder isRefusal all any
+word-write-bytes d starts ms out =
     let P = Writes wordWrite out in
-    tested P (inRange f) (keep refl refl)
-    (tested P (fits f) (keep refl refl)
-    (tested P (eqb (length starts) (2 * f .m)) (keep refl refl)
-    (word-write f _ ms out)))
+    tested P (d .inRange) (keep refl refl)
+    (tested P (d .fits) (keep refl refl)
+    (tested P (eqb (length starts) (2 * d .bursts)) (keep refl refl)
+    (word-write d _ ms out)))
 
 verify-bytes : (f : Params) (starts ms w : List ℕ) → ChecksBy (verifyBytesOut f starts ms w)
 unfolding verifyBytesOut any
@@ -310,14 +322,14 @@ module _ (starts : List ℕ) where
   abbrev CoversIn : CoverLent → Type 0
   CoversIn o = AnswersBy covering (o .answer) starts (o .starts)
 
-  cover-bytes : (f : Params) (map : List ℕ) → CoversIn (coverBytesOut f map starts)
-  unfolding coverBytesOut isRefusal all any
-  cover-bytes f map =
-      let h = cover f map in
-      tested CoversIn (inRange f) (keep refl refl)
-      (tested CoversIn (fits f) (keep refl refl)
-      (tested CoversIn (eqb (length starts) (2 * f .m)) (keep refl refl)
-      (tested CoversIn (eqb (coverOut f map .answer) served) (keep (h .numbers) (h .answer)) (done (h .numbers)))))
+  cover-bytes : (d : Coding) (map : List ℕ) → CoversIn (coverBytesUnder d map starts)
+  unfolding isRefusal all any
+  cover-bytes d map =
+      let h = cover d map in
+      tested CoversIn (d .inRange) (keep refl refl)
+      (tested CoversIn (d .fits) (keep refl refl)
+      (tested CoversIn (eqb (length starts) (2 * d .bursts)) (keep refl refl)
+      (tested CoversIn (eqb (coverUnder d map .answer) served) (keep (h .numbers) (h .answer)) (done (h .numbers)))))
 
 module _ (out starts : List ℕ) where
   abbrev ReadsIn : Exported → Type 0
@@ -329,25 +341,26 @@ module _ (out starts : List ℕ) where
   read-in (refusal a) at ms h =
       record { numbers = h .numbers; answer = h .answer; keeps = λ d. ap (λ (x : Held × List ℕ). (x .1, starts)) (h .keeps d) }
 
-  word-read-bytes : (f : Params) (w : List ℕ) → ReadsIn (exportedOut f w out starts)
-  unfolding exportedOut decodeOut isRefusal all any
-  word-read-bytes f w =
-      let d = decodeOut f w out in
-      tested ReadsIn (inRange f) (keep refl refl)
-      (tested ReadsIn (fits f) (keep refl refl)
-      (tested ReadsIn (eqb (length starts) (2 * f .m)) (keep refl refl)
-      (read-in (d .answer) (d .placement) (d .message) (word-read f w out))))
+  word-read-bytes : (d : Coding) → Judges d → (w : List ℕ) → ReadsIn (exportedUnder d w out starts)
+  unfolding isRefusal all any
+  word-read-bytes d judge w =
+      let r = decodeUnder d w out in
+      tested ReadsIn (d .inRange) (keep refl refl)
+      (tested ReadsIn (d .fits) (keep refl refl)
+      (tested ReadsIn (eqb (length starts) (2 * d .bursts)) (keep refl refl)
+      (read-in (r .answer) (r .placement) (r .message) (word-read d judge w out))))
 
-job-write-bytes : (f : Params) (table starts payload out : List ℕ) → Writes jobWrite out (jobWriteBytesOut f table starts payload out)
-unfolding jobWriteBytesOut isRefusal all any
-job-write-bytes f table starts payload out =
-    with-table (Writes jobWrite out) f table (eqb (length starts) (2 * f .m)) (unwritten out) (keep refl refl) (keep refl refl) (keep refl refl) (keep refl refl)
-    (job-write f (tableIn table) _ payload out)
+job-write-bytes : (d : Coding) (table starts payload out : List ℕ) → Writes jobWrite out (jobWriteBytesUnder d table starts payload out)
+unfolding jobWriteBytesUnder isRefusal all any
+job-write-bytes d table starts payload out =
+    with-table (Writes jobWrite out) d table (eqb (length starts) (2 * d .bursts)) (unwritten out) (keep refl refl) (keep refl refl) (keep refl refl)
+    (keep refl refl) (job-write d (tableIn table) _ payload out)
 
-job-read-bytes : (f : Params) (table w out : List ℕ) → ReadsJob out (jobReadBytesOut f table w out)
-unfolding jobReadBytesOut isRefusal all any
-job-read-bytes f table w out =
-    with-table (ReadsJob out) f table true (withhold out) (keep refl refl) (keep refl refl) (keep refl refl) (keep refl refl) (job-read f (tableIn table) w out)
+job-read-bytes : (d : Coding) → Judges d → (table w out : List ℕ) → ReadsJob out (jobReadBytesUnder d table w out)
+unfolding jobReadBytesUnder isRefusal all any
+job-read-bytes d judge table w out =
+    with-table (ReadsJob out) d table true (withhold out) (keep refl refl) (keep refl refl) (keep refl refl) (keep refl refl)
+    (job-read d judge (tableIn table) w out)
 
 module _ (table : List ℕ) where
   abbrev CallsIn : Option Kind → CallLent → Type 0
@@ -412,14 +425,14 @@ module _ (s : Session) (letter : ℕ) (bytes : List ℕ) where
   abbrev Answers : Step → Type 0
   Answers = StepAnswers s letter
 
-  figures-step : (f : Params) → letter ≡ letterS → Answers (figuresStep s f (figuresOut f))
-  unfolding figuresOut isRefusal any
-  figures-step f e =
-      let P : FiguresOut → Type 0 = λ o. StepAnswers s letterS (figuresStep s f o) in
-      rw e
-      (tested P (inRange f) (refuses invalid refl)
-      (tested P (fits f) (refuses unfit refl)
-      (serves (some f) (s .table) (decimal (placementCount f) ∷ decimal (indexTail f) ∷ decimal (messageLen f) ∷ []))))
+  figures-step : (f : Figures) → Answers (figuresStep s letter f (figuresUnder (codingOf f)))
+  unfolding isRefusal any
+  figures-step f =
+      let P : FiguresOut → Type 0 = λ o. Answers (figuresStep s letter f o) in
+      let d = codingOf f in
+      tested P (d .inRange) (refuses invalid refl)
+      (tested P (d .fits) (refuses unfit refl)
+      (serves (some f) (s .table) (decimal (d .placementCount) ∷ decimal (d .indexTail) ∷ decimal (d .codec .messageLen) ∷ [])))
 
   call-step : (k : Option Kind) (n : ℕ) → Answers (callStep s letter (callBy k (s .table) n))
   call-step k n =
@@ -435,34 +448,40 @@ module _ (s : Session) (letter : ℕ) (bytes : List ℕ) where
       (λ _. serves (s .figures) (s .table) fields)
       (λ d. refuses a (listed order a h d))
 
-  write-step : (f : Option Params) → letter ≡ letterW → Answers (writeOut s bytes f)
+  write-step : (f : Option Figures) → letter ≡ letterW → Answers (writeOut s bytes f)
   write-step none e = stops
   write-step (some f) e =
-      let o = jobWriteOut f (s .table) (startsIn f bytes) (payloadOf f bytes) (replicate (f .n) 0) in
-      rw (← e) (job-step jobWrite (o .answer) (hex (o .word) ∷ []) (job-write f (s .table) (startsIn f bytes) (payloadOf f bytes) (replicate (f .n) 0)))
+      let d = codingOf f in
+      let zeros : List ℕ = replicate (d .codec .wordLen) 0 in
+      let o = jobWriteUnder d (s .table) (startsIn f bytes) (payloadOf f bytes) zeros in
+      rw (← e) (job-step jobWrite (o .answer) (hex (o .word) ∷ []) (job-write d (s .table) (startsIn f bytes) (payloadOf f bytes) zeros))
 
-  read-step : (f : Option Params) → letter ≡ letterR → Answers (readOut s bytes f)
+  read-step : (f : Option Figures) → letter ≡ letterR → Answers (readOut s bytes f)
   read-step none e = stops
   read-step (some f) e =
-      let o = jobReadOut f (s .table) (drop headLen bytes) (replicate (payloadLen (f .q) (messageLen f)) 0) in
+      let d = codingOf f in
+      let zeros : List ℕ = replicate (payloadLenOf f) 0 in
+      let o = jobReadUnder d (s .table) (drop headLen bytes) zeros in
       rw (← e) (job-step jobRead (o .answer) (hex (take 4 (o .payload)) ∷ hex (drop 4 (o .payload)) ∷ [])
-      (job-read f (s .table) (drop headLen bytes) (replicate (payloadLen (f .q) (messageLen f)) 0)))
+      (job-read d (judges f) (s .table) (drop headLen bytes) zeros))
 
   served-step : Answers (serveOut s letter bytes)
   unfolding serveOut
   served-step =
-      go (eqb letter letterS) (isLetter letter) (eqb letter letterW) (eqb letter letterR)
-      (eqb-true letter letterS) (eqb-true letter letterW) (eqb-true letter letterR)
+      go (eqb letter letterS) (eqb letter letterL) (isLetter letter) (eqb letter letterW) (eqb letter letterR)
+      (eqb-true letter letterW) (eqb-true letter letterR)
     where
-      go : (a b c d : Bool) → (a ≡ true → letter ≡ letterS) → (c ≡ true → letter ≡ letterW) → (d ≡ true → letter ≡ letterR)
-          → Answers (cond a (figuresStep s (figuresIn bytes) (figuresOut (figuresIn bytes)))
+      go : (a l b c d : Bool) → (c ≡ true → letter ≡ letterW) → (d ≡ true → letter ≡ letterR)
+          → Answers (cond a (figuresStep s letter (figuresIn bytes) (figuresUnder (codingOf (figuresIn bytes))))
+          (cond l (figuresStep s letter (longFiguresIn bytes) (figuresUnder (codingOf (longFiguresIn bytes))))
           (cond b (callStep s letter (callBy (kindOf letter) (s .table) (jobNumber (drop headLen bytes))))
-          (cond c (writeOut s bytes (current (s .figures))) (cond d (readOut s bytes (current (s .figures))) (stopped s)))))
-      go true b c d x y z = figures-step (figuresIn bytes) (x refl)
-      go false true c d x y z = call-step (kindOf letter) (jobNumber (drop headLen bytes))
-      go false false true d x y z = write-step (current (s .figures)) (y refl)
-      go false false false true x y z = read-step (current (s .figures)) (z refl)
-      go false false false false x y z = stops
+          (cond c (writeOut s bytes (current (s .figures))) (cond d (readOut s bytes (current (s .figures))) (stopped s))))))
+      go true l b c d y z = figures-step (figuresIn bytes)
+      go false true b c d y z = figures-step (longFiguresIn bytes)
+      go false false true c d y z = call-step (kindOf letter) (jobNumber (drop headLen bytes))
+      go false false false true d y z = write-step (current (s .figures)) (y refl)
+      go false false false false true y z = read-step (current (s .figures)) (z refl)
+      go false false false false false y z = stops
 
 step : (s : Session) (bytes : List ℕ) → StepAnswers s (letterOf bytes) (stepOut s bytes)
 unfolding stepOut
@@ -474,16 +493,20 @@ step s bytes = go (isEmpty bytes) (ltb (s .count) maxRecords) (readable s bytes)
     go false true false = stops
     go false true true = served-step s (letterOf bytes) bytes
 
+cover-conditions : (f : Figures) → codingOf f .inRange ≡ true → codingOf f .fits ≡ true → (map : List ℕ) → CoversLeast (codingOf f) (worn map)
+cover-conditions (Ranked p) i h map = faithful (given p) i h .covers (worn map)
+cover-conditions (Long p) i h map = faithful-b (givenLong p) i h .covers (worn map)
+
 pub demand-one : DemandOne
 demand-one =
     record {
-      figures-alone = figures-alone;
-      word-write = word-write;
-      cover = cover;
-      word-read = word-read;
+      figures-alone = λ f. figures-alone (codingOf f);
+      word-write = λ f. word-write (codingOf f);
+      cover = λ f. cover (codingOf f);
+      word-read = λ f. word-read (codingOf f) (judges f);
+      interleave = λ f. interleave (codingOf f);
+      deinterleave = λ f. deinterleave (codingOf f);
       verify = verify;
-      interleave = interleave;
-      deinterleave = deinterleave;
       open-job = open-job;
       cancel-job = cancel-job;
       finish-job = finish-job;
@@ -492,28 +515,29 @@ demand-one =
       release-job = release-job;
       call-by = λ k es n. call-by es k n;
       replay = replay;
-      job-write = job-write;
-      job-read = job-read;
-      list-and-read = list-and-read;
+      job-write = λ f. job-write (codingOf f);
+      job-read = λ f. job-read (codingOf f) (judges f);
+      list-and-read = λ f. list-and-read (codingOf f) (judges f);
       transpose = transpose;
       spherical-equivalent = spherical-equivalent;
       read-text = read-text;
       write-text = λ p text. write-text text p;
-      prescription-write = λ f es at n p out. prescription-write f es at n out p;
-      prescription-read = prescription-read;
-      word-read-bytes = λ f w out starts. word-read-bytes out starts f w;
-      word-write-bytes = word-write-bytes;
+      prescription-write = λ f es at n p out. prescription-write (codingOf f) es at n out p;
+      prescription-read = λ f. prescription-read (codingOf f) (judges f);
+      word-read-bytes = λ f w out starts. word-read-bytes out starts (codingOf f) (judges f) w;
+      word-write-bytes = λ f. word-write-bytes (codingOf f);
       verify-bytes = verify-bytes;
-      cover-bytes = λ f map starts. cover-bytes starts f map;
+      cover-bytes = λ f map starts. cover-bytes starts (codingOf f) map;
       call-bytes = call-bytes;
-      job-write-bytes = job-write-bytes;
-      job-read-bytes = job-read-bytes;
+      job-write-bytes = λ f. job-write-bytes (codingOf f);
+      job-read-bytes = λ f. job-read-bytes (codingOf f) (judges f);
       transpose-lent = λ e marks powers. transpose-lent marks powers e;
       equivalent-lent = λ e power. equivalent-lent power e;
-      prescription-write-bytes = prescription-write-bytes;
-      prescription-read-bytes = λ f table w marks powers. prescription-read-bytes marks powers f table w;
+      prescription-write-bytes = λ f. prescription-write-bytes (codingOf f);
+      prescription-read-bytes = λ f table w marks powers. prescription-read-bytes marks powers (codingOf f) (judges f) table w;
       step = step;
       table-conditions = simulation;
-      cover-conditions = λ f i h map. covers-least f (serve f i h) (worn map);
+      cover-conditions = cover-conditions;
       read-conditions = demand-two;
+      long-read-conditions = demand-two-b;
     }

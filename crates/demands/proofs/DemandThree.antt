@@ -1,21 +1,20 @@
 -- Demand 3 holds of calls on a table in bytes, and of a session of the transfer program. Assumes nothing.
 use mathlib.Core.Path.{_≡_, refl, sym, ap, subst, _∙_}
-use mathlib.Core.Logic.{_≢_}
-use mathlib.Core.Bool.{Bool, true, false, _&&_, false≢true}
+use mathlib.Core.Logic.{_≢_, _⊎_, inl, inr}
+use mathlib.Core.Bool.{Bool, true, false, _&&_, _||_, false≢true}
 use mathlib.Core.List.{List, [], _∷_}
 use mathlib.Core.Option.{Option, none, some}
 use Prim.Native.Nat.{ℕ, _+_, _≤_, _<_}
 use native.Mathlib.Omega.{arith}
 use lib.Dec.{eqb}
 use lib.ListN.{length, drop, replicate}
-use Rattle.refusals.specs.Refusals.{served, invalid, unfit}
+use Rattle.refusals.specs.Refusals.{must, served, invalid, unfit}
 use Rattle.combinatorics.specs.Lists.{all}
 use Rattle.combinatorics.proofs.Cases.{by-bool, eqb-true, eqb-other}
 use Rattle.combinatorics.proofs.Lists.{both}
-use Rattle.cells.specs.Bytes.{payloadLen}
-use Rattle.construction_a.specs.Figures.{Params, inRange, fits, placementCount, indexTail, messageLen}
-use Rattle.construction_a.specs.Outcomes.{figured, figuresNumber, figuresOut}
-use Rattle.construction_a.proofs.Outcomes.{figures-invalid, figures-unfit, figures-served}
+use Rattle.cells.specs.Outcomes.{Coding, FiguresOut, figured, unserved, figuresNumber, figuresUnder}
+use Rattle.params.specs.declared.Figures.{Figures}
+use Rattle.params.specs.Bridge.{codingOf}
 use Rattle.jobs.specs.declared.Entry.{Entry}
 use Rattle.jobs.specs.Jobs.{Kind, Call}
 use Rattle.jobs.specs.Letters.{kindOf, known, callBy, isLetter}
@@ -23,21 +22,21 @@ use Rattle.ledger.specs.Replay.{callBefore}
 use Rattle.ledger.specs.Simulation.{empty}
 use Rattle.jobs.specs.Table.{emptyTable}
 use Rattle.ledger.specs.Calls.{answersFrom, tableFrom}
+use Rattle.ledger.proofs.Simulates.{simulation-from-start}
 use Rattle.payloads.specs.Payload.{jobNumber}
-use Rattle.jobcodec.specs.DemandThree.{ClaimA}
-use Rattle.jobcodec.specs.JobRead.{JobRead, jobReadOut}
-use Rattle.jobcodec.proofs.DemandThree.{follows-claim, demand-three}
+use Rattle.jobcodec.specs.DemandThree.{Claim}
+use Rattle.jobcodec.specs.JobRead.{JobRead, jobReadUnder}
+use Rattle.jobcodec.proofs.DemandThree.{follows-either}
 use Rattle.exports.specs.Follows.{answersOn, bytesAfter}
 use Rattle.lent.specs.Table.{tableIn}
 use Rattle.exports.proofs.Follows.{bytes-left, bytes-follow}
-use Rattle.exports.proofs.JobLaws.{read-whole}
+use Rattle.lent.proofs.JobLaws.{read-whole}
 use Rattle.records.specs.Session.{Session, atStart, maxRecords, after}
-use Rattle.lines.specs.Lines.{refusalLine}
-use Rattle.lines.specs.Lines.{letterS, letterR}
-use Rattle.records.specs.Records.{headLen, isMarked, letterOf, current, recordLen, readable, figuresIn}
+use Rattle.lines.specs.Lines.{refusalLine, letterS, letterL, letterR}
+use Rattle.records.specs.Records.{headLen, isMarked, letterOf, current, payloadLenOf, recordLen, readable, figuresIn, longFiguresIn}
 use Rattle.transfer.specs.Steps.{Step, figuresStep, callStep, readStep, readOut, stepOut}
-use Rattle.transfer.proofs.Serving.{step-serves, serve-S, serve-R, serve-call-is}
-use Rattle.demands.specs.DemandThree.{BytesClaimed, sessionAfter, linesOf, isCall, callsIn, answerLines, IsSession, SessionClaimed}
+use Rattle.transfer.proofs.Serving.{step-serves, serve-S, serve-L, serve-R, serve-call-is}
+use Rattle.demands.specs.DemandThree.{BytesClaimed, sessionAfter, linesOf, isRecord, isCall, figuresCarried, callsIn, answerLines, IsSession, SessionClaimed}
 
 -- ---- A program in C
 
@@ -45,8 +44,8 @@ pub bytes-claimed : BytesClaimed
 bytes-claimed f bytes es before b s calls w out h =
     let last = bytesAfter bytes calls in
     let left = bytes-left bytes es before b s calls h in
-    subst (λ (r : JobRead). ClaimA f before calls w out (answersOn bytes calls) r) (read-whole f last w out (left .size) (left .known))
-    (follows-claim f before calls (answersOn bytes calls) (tableIn last) w out (bytes-follow bytes es before b s calls h))
+    subst (λ (r : JobRead). Claim (codingOf f) before calls w out (answersOn bytes calls) r) (read-whole (codingOf f) last w out (left .size) (left .known))
+    (follows-either f before calls (answersOn bytes calls) (tableIn last) w out (bytes-follow bytes es before b s calls h))
 
 -- ---- A session of the transfer program
 
@@ -54,10 +53,14 @@ bytes-claimed f bytes es before b s calls w out h =
 some-bytes : (r : List ℕ) (len : ℕ) → eqb (length r) len ≡ true → 0 < len → length r ≢ 0
 some-bytes r len e h z = omega (arith, eqb-true (length r) len e, h, z)
 
--- S, W and R are no calls
+-- S and L are no calls
 not-S : (letter : ℕ) → isLetter letter ≡ true → letter ≢ letterS
 unfolding kindOf
 not-S letter l e = false≢true (rw e at l)
+
+not-L : (letter : ℕ) → isLetter letter ≡ true → letter ≢ letterL
+unfolding kindOf
+not-L letter l e = false≢true (rw e at l)
 
 -- the call of a letter, and those behind it
 module _ (es : List Entry) (n : ℕ) (cs : List Call) where
@@ -88,9 +91,12 @@ one-made : (s : Session) (r : List ℕ) → isCall r ≡ true → s .count < max
 unfolding readable recordLen
 one-made s r h few =
     let p = parts r (isLetter (letterOf r)) (headLen + 4) h in
-    let other = not-S (letterOf r) (p .lettered) in
-    step-serves s r (some-bytes r (headLen + 4) (p .whole) (omega arith)) few (rw (p .marked, eqb-other (letterOf r) letterS other, p .lettered, p .whole))
-    ∙ serve-call-is s (letterOf r) r other (p .lettered)
+    let l = letterOf r in
+    let other = not-S l (p .lettered) in
+    let long = not-L l (p .lettered) in
+    step-serves s r (some-bytes r (headLen + 4) (p .whole) (omega arith)) few
+    (rw (p .marked, eqb-other l letterS other, eqb-other l letterL long, p .lettered, p .whole))
+    ∙ serve-call-is s l r other long (p .lettered)
 
 record Made (s : Session) (rs : List (List ℕ)) : Type 0 where
   lines : linesOf s rs ≡ answerLines rs (answersFrom (s .table) (callsIn rs))
@@ -117,33 +123,55 @@ all-made (r ∷ rs) s h few =
       count = ap (λ (s : Session). s .count) to ∙ m .count ∙ omega arith;
     }
 
--- an S that is accepted
-module _ (f : Params) where
-  accepted-fits : figuresNumber (figuresOut f) ≡ served → (inRange f ≡ true) × (fits f ≡ true)
-  accepted-fits e =
-      by-bool (inRange f)
-      (λ i. by-bool (fits f) (λ d. (i, d)) (λ d. absurd (let x : unfit ≡ served = sym (ap figuresNumber (figures-unfit f i d)) ∙ e in omega (arith, x))))
-      (λ i. absurd (let x : invalid ≡ served = sym (ap figuresNumber (figures-invalid f i)) ∙ e in omega (arith, x)))
+-- figures that are accepted
+figures-are : (d : Coding) → figuresNumber (figuresUnder d) ≡ served → figuresUnder d ≡ figured (d .placementCount) (d .indexTail) (d .codec .messageLen)
+figures-are d = go (d .inRange) (d .fits)
+  where
+    is : FiguresOut
+    is = figured (d .placementCount) (d .indexTail) (d .codec .messageLen)
 
-  figures-are : figuresNumber (figuresOut f) ≡ served → figuresOut f ≡ figured (placementCount f) (indexTail f) (messageLen f)
-  figures-are e = let b = accepted-fits e in figures-served f (b .0) (b .1)
+    go : (a b : Bool) → figuresNumber (must a (unserved invalid) (must b (unserved unfit) is)) ≡ served
+        → must a (unserved invalid) (must b (unserved unfit) is) ≡ is
+    go false b e = absurd (omega (arith, e))
+    go true false e = absurd (omega (arith, e))
+    go true true e = refl
+
+-- an S or an L: what it is made of
+carried : (r : List ℕ) → (isRecord letterS (headLen + 6) r || isRecord letterL (headLen + 5) r) ≡ true
+    → Parts r (eqb (letterOf r) letterS) (headLen + 6) ⊎ Parts r (eqb (letterOf r) letterL) (headLen + 5)
+carried r h =
+    by-bool (isRecord letterS (headLen + 6) r)
+    (λ e. inl (parts r (eqb (letterOf r) letterS) (headLen + 6) e))
+    (λ e. inr (parts r (eqb (letterOf r) letterL) (headLen + 5) (rw e at h)))
 
 module _ (figures reading : List ℕ) (calls : List (List ℕ)) (h : IsSession figures calls reading) where
-  abbrev f : Params
-  f = figuresIn figures
+  abbrev f : Figures
+  f = figuresCarried figures
 
   abbrev begun : Session
   begun = stepOut atStart figures .next
 
-  is-begun : begun ≡ after atStart (some f) emptyTable
+  step-begun : stepOut atStart figures ≡ figuresStep atStart (letterOf figures) f (figuresUnder (codingOf f))
   unfolding readable recordLen
-  is-begun =
-      let p = parts figures (eqb (letterOf figures) letterS) (headLen + 6) (h .is-S) in
-      let s = eqb-true (letterOf figures) letterS (p .lettered) in
-      let e = step-serves atStart figures (some-bytes figures (headLen + 6) (p .whole) (omega arith)) (omega arith) (rw (p .marked, p .lettered, p .whole))
-      ∙ serve-S atStart (letterOf figures) figures s
-      ∙ ap (figuresStep atStart f) (figures-are f (h .accepted)) in
-      ap (λ (o : Step). o .next) e
+  step-begun = go (carried figures (h .carries))
+    where
+      l : ℕ
+      l = letterOf figures
+
+      go : Parts figures (eqb l letterS) (headLen + 6) ⊎ Parts figures (eqb l letterL) (headLen + 5)
+          → stepOut atStart figures ≡ figuresStep atStart l f (figuresUnder (codingOf f))
+      go (inl p) =
+          step-serves atStart figures (some-bytes figures (headLen + 6) (p .whole) (omega arith)) (omega arith) (rw (p .marked, p .lettered, p .whole))
+          ∙ serve-S atStart l figures (eqb-true l letterS (p .lettered))
+          ∙ rw (p .lettered)
+      go (inr p) =
+          let e = eqb-true l letterL (p .lettered) in
+          step-serves atStart figures (some-bytes figures (headLen + 5) (p .whole) (omega arith)) (omega arith) (rw (p .marked, e, p .whole))
+          ∙ serve-L atStart l figures e
+          ∙ rw e
+
+  is-begun : begun ≡ after atStart (some f) emptyTable
+  is-begun = ap (λ (o : Step). o .next) (step-begun ∙ ap (figuresStep atStart (letterOf figures) f) (figures-are (codingOf f) (h .accepted)))
 
   abbrev ended : Session
   ended = sessionAfter begun calls
@@ -152,21 +180,24 @@ module _ (figures reading : List ℕ) (calls : List (List ℕ)) (h : IsSession f
   made = all-made calls begun (h .are-calls) (rw is-begun (omega (arith, h .few)))
 
   figures-held : current (ended .figures) ≡ some f
-  figures-held = rw (made .figures, is-begun, figures-are f (h .accepted))
+  figures-held = rw (made .figures, is-begun, figures-are (codingOf f) (h .accepted))
 
   abbrev buffer : List ℕ
-  buffer = replicate (payloadLen (f .q) (messageLen f)) 0
+  buffer = replicate (payloadLenOf f) 0
 
-  read-last : stepOut ended reading ≡ readStep ended (jobReadOut f (tableFrom emptyTable (callsIn calls)) (drop headLen reading) buffer)
+  abbrev len : ℕ
+  len = headLen + codingOf f .codec .wordLen
+
+  read-last : stepOut ended reading ≡ readStep ended (jobReadUnder (codingOf f) (tableFrom emptyTable (callsIn calls)) (drop headLen reading) buffer)
   unfolding readable recordLen kindOf
   read-last =
-      let p = parts reading (eqb (letterOf reading) letterR) (headLen + f .n) (h .is-R) in
+      let p = parts reading (eqb (letterOf reading) letterR) len (h .is-R) in
       let s = eqb-true (letterOf reading) letterR (p .lettered) in
-      step-serves ended reading (some-bytes reading (headLen + f .n) (p .whole) (omega arith)) (rw (made .count, is-begun) (omega (arith, h .few)))
+      step-serves ended reading (some-bytes reading len (p .whole) (omega arith)) (rw (made .count, is-begun) (omega (arith, h .few)))
       (rw (p .marked, s, figures-held, p .whole))
       ∙ serve-R ended (letterOf reading) reading s
       ∙ ap (readOut ended reading) figures-held
-      ∙ ap (λ (es : List Entry). readStep ended (jobReadOut f es (drop headLen reading) buffer))
+      ∙ ap (λ (es : List Entry). readStep ended (jobReadUnder (codingOf f) es (drop headLen reading) buffer))
       (made .table ∙ ap (λ (s : Session). tableFrom (s .table) (callsIn calls)) is-begun)
 
   lines-are : linesOf begun calls ≡ answerLines calls (answersFrom emptyTable (callsIn calls))
@@ -175,12 +206,13 @@ module _ (figures reading : List ℕ) (calls : List (List ℕ)) (h : IsSession f
 pub session-claimed : SessionClaimed
 session-claimed figures calls reading h =
     let cs = callsIn calls in
-    let g = figuresIn figures in
-    let out : List ℕ = replicate (payloadLen (g .q) (messageLen g)) 0 in (
+    let g = figuresCarried figures in
+    let out : List ℕ = replicate (payloadLenOf g) 0 in (
       answersFrom emptyTable cs,
-      jobReadOut g (tableFrom emptyTable cs) (drop headLen reading) out,
+      jobReadUnder (codingOf g) (tableFrom emptyTable cs) (drop headLen reading) out,
       record {
-        claim = demand-three g emptyTable [] empty cs (drop headLen reading) out;
+        claim =
+            follows-either g [] cs (answersFrom emptyTable cs) (tableFrom emptyTable cs) (drop headLen reading) out (simulation-from-start emptyTable [] empty cs);
         answered = lines-are figures reading calls h;
         printed = read-last figures reading calls h;
       },

@@ -13,8 +13,7 @@ use Rattle.combinatorics.specs.Bursts.{apart}
 use Rattle.combinatorics.specs.Lists.{all, any, allBelow}
 use Rattle.cells.specs.Bytes.{payloadLen}
 use Rattle.cells.specs.Erasures.{foundBound}
-use Rattle.construction_a.specs.Figures.{Params, inRange, fits, messageLen}
-use Rattle.construction_a.specs.Outcomes.{coding, Held, inUse, unwritten}
+use Rattle.cells.specs.Outcomes.{Coding, Held, inUse, unwritten}
 use Rattle.jobs.specs.declared.Entry.{Entry}
 use Rattle.jobs.specs.Jobs.{isJob}
 use Rattle.jobs.specs.Table.{twice}
@@ -28,14 +27,14 @@ use Rattle.prescription.specs.Lens.{transposed, equivalent}
 use Rattle.prescription.specs.Eyes.{lensOf, eyeOf, Prescribed, prescribedOf, prescriptionOf}
 use Rattle.prescription.specs.Stored.{storedLen, prescribedIn}
 use Rattle.prescription.specs.Outcomes.{Answered, refused, orRefused, transposeOut, equivalentOut, readOut, Written, writtenOr, writeOut}
-use Rattle.prescriptioncodec.specs.PrescriptionWrite.{numberLen, prescriptionPayload, minPayload, writePrescribed, prescriptionWriteOut}
-use Rattle.prescriptioncodec.specs.PrescriptionRead.{HandedOut, handPrescription, prescriptionIn, prescriptionReading, prescriptionReadOut}
+use Rattle.prescriptioncodec.specs.PrescriptionWrite.{numberLen, prescriptionPayload, minPayload, writePrescribed, prescriptionWriteUnder}
+use Rattle.prescriptioncodec.specs.PrescriptionRead.{HandedOut, handPrescription, prescriptionIn, prescriptionReading, prescriptionReadUnder}
 use Rattle.lent_prescriptions.specs.Eyes.{marksOf, powersOf, powersLent, answerLent, transposeLent, PowerLent, equivalentLentAs, equivalentLent}
-use Rattle.lent_prescriptions.specs.Prescriptions.{handedMarks, handedPowers, haveRoom, prescriptionWriteBytesOut, prescriptionReadLent, prescriptionReadBytesOut}
+use Rattle.lent_prescriptions.specs.Prescriptions.{handedMarks, handedPowers, haveRoom, prescriptionWriteBytesUnder, prescriptionReadLent, prescriptionReadBytesUnder}
 use Rattle.lent.specs.Table.{tableIn}
 use Rattle.demands.specs.Orders.{prescriptionAlone, prescriptionWrite, prescriptionRead, prescriptionLent}
 use Rattle.demands.specs.DemandOne.{AnswersBy, AnswersLent}
-use Rattle.demands.proofs.Answering.{keep, done, tested, where-open, by-read, with-table, one-more, Writes}
+use Rattle.demands.proofs.Answering.{keep, done, tested, where-open, Judges, by-read, with-table, one-more, Writes}
 
 -- ---- In memory and as a text: 16, or a value
 
@@ -74,26 +73,28 @@ module _ (text : List ℕ) where
 
 -- ---- On a strip
 
-module _ (f : Params) (es : List Entry) (at : Held) (n : ℕ) (out : List ℕ) where
-  write-prescribed : (o : Option Prescribed) → Writes prescriptionWrite out (writePrescribed (coding f) es at n o out)
+module _ (d : Coding) (es : List Entry) (at : Held) (n : ℕ) (out : List ℕ) where
+  write-prescribed : (o : Option Prescribed) → Writes prescriptionWrite out (writePrescribed d es at n o out)
   unfolding isRefusal all any
   write-prescribed none = keep refl refl
   write-prescribed (some x) =
-      let y = prescriptionPayload (payloadLen (f .q) (messageLen f)) n x in
+      let y = prescriptionPayload (payloadLen (d .codec .alphabet) (d .codec .messageLen)) n x in
       tested (Writes prescriptionWrite out) (isJob (jobNumber y)) (keep refl refl)
       (where-open (Writes prescriptionWrite out) (unwritten out) (jobStatus es y) (keep refl refl) (keep refl refl) (keep refl refl) (done refl))
 
-  pub prescription-write : (p : Prescription) → Writes prescriptionWrite out (prescriptionWriteOut f es at n p out)
-  unfolding prescriptionWriteOut isRefusal all any
+  pub prescription-write : (p : Prescription) → Writes prescriptionWrite out (prescriptionWriteUnder d es at n p out)
+  unfolding isRefusal all any
   prescription-write p =
       let P = Writes prescriptionWrite out in
-      let k = messageLen f in
-      tested P (inRange f && not (twice es)) (keep refl refl)
-      (tested P (fits f) (keep refl refl)
-      (tested P (carriesJob (f .q) k) (keep refl refl)
-      (tested P (eqb (at .count) (f .m) && eqb (length out) (f .n)) (keep refl refl)
-      (tested P (apart (f .b) (f .n) 0 (inUse at)) (keep refl refl)
-      (tested P (leb minPayload (payloadLen (f .q) k)) (keep refl refl)
+      let c = d .codec in
+      let q = c .alphabet in
+      let k = c .messageLen in
+      tested P (d .inRange && not (twice es)) (keep refl refl)
+      (tested P (d .fits) (keep refl refl)
+      (tested P (carriesJob q k) (keep refl refl)
+      (tested P (eqb (at .count) (d .bursts) && eqb (length out) (c .wordLen)) (keep refl refl)
+      (tested P (apart (d .burstLen) (c .wordLen) 0 (inUse at)) (keep refl refl)
+      (tested P (leb minPayload (payloadLen q k)) (keep refl refl)
       (write-prescribed (prescribedOf p)))))))
 
 hand-prescription : (es : List Entry) (payload : List ℕ) (o : Option Prescribed) → Answers prescriptionRead (handPrescription es payload o)
@@ -102,19 +103,21 @@ hand-prescription es payload none = keep refl refl
 hand-prescription es payload (some x) =
     where-open (λ (o : Answered HandedOut). Answers prescriptionRead o) refused (jobStatus es payload) (keep refl refl) (keep refl refl) (keep refl refl) (done refl)
 
-pub prescription-read : (f : Params) (es : List Entry) (w : List ℕ) → Answers prescriptionRead (prescriptionReadOut f es w)
-unfolding prescriptionReadOut prescriptionReading isRefusal all any
-prescription-read f es w =
-    let q = f .q in
-    let k = messageLen f in
-    tested P (inRange f && not (twice es)) (keep refl refl)
-    (tested P (fits f) (keep refl refl)
+pub prescription-read : (d : Coding) → Judges d → (es : List Entry) (w : List ℕ) → Answers prescriptionRead (prescriptionReadUnder d es w)
+unfolding prescriptionReading isRefusal all any
+prescription-read d judge es w =
+    let c = d .codec in
+    let q = c .alphabet in
+    let k = c .messageLen in
+    tested P (d .inRange && not (twice es)) (keep refl refl)
+    (tested P (d .fits) (keep refl refl)
     (tested P (carriesJob q k) (keep refl refl)
-    (tested P (eqb (length w) (f .n)) (keep refl refl)
-    (tested P (allBelow (foundBound q) w) (keep refl refl)
-    (by-read f w (λ d. P (prescriptionIn q k es d)) (keep refl refl) (keep refl refl) (keep refl refl) (keep refl refl)
+    (tested P (eqb (length w) (c .wordLen)) (keep refl refl)
+    (tested P (allBelow (c .foundBound) w) (keep refl refl)
+    (by-read (λ r. P (prescriptionIn q k es r)) (keep refl refl) (keep refl refl) (keep refl refl) (keep refl refl)
     (λ ss ms. tested P (spellsPayload q k ms) (keep refl refl)
-    (hand-prescription es (payloadIn q k ms) (prescribedIn (drop numberLen (payloadIn q k ms))))))))))
+    (hand-prescription es (payloadIn q k ms) (prescribedIn (drop numberLen (payloadIn q k ms)))))
+    (c .decode w) (judge w))))))
   where
     P : Answered HandedOut → Type 0
     P o = Answers prescriptionRead o
@@ -142,18 +145,19 @@ module _ (marks : List ℕ) (powers : List Float) where
       tested (AnswersLent prescriptionLent marks powers) (eqb (length marks) 2 && eqb (length powers) 2) (keep refl refl)
       (as-lent marksOf powersOf (transposeOut e .number) (transposeOut e .value) (one-before (transpose e)))
 
-  pub prescription-read-bytes : (f : Params) (table w : List ℕ) → AnswersLent prescriptionRead marks powers (prescriptionReadBytesOut f table w marks powers)
-  unfolding prescriptionReadBytesOut prescriptionReadLent isRefusal all any
-  prescription-read-bytes f table w =
+  pub prescription-read-bytes : (d : Coding) → Judges d → (table w : List ℕ)
+      → AnswersLent prescriptionRead marks powers (prescriptionReadBytesUnder d table w marks powers)
+  unfolding prescriptionReadBytesUnder prescriptionReadLent isRefusal all any
+  prescription-read-bytes d judge table w =
       let P = AnswersLent prescriptionRead marks powers in
-      let o = prescriptionReadOut f (tableIn table) w in
-      with-table P f table true (powersLent marks powers) (keep refl refl) (keep refl refl) (keep refl refl) (keep refl refl)
-      (tested P (inRange f && not (twice (tableIn table))) (keep refl refl)
-      (tested P (fits f) (keep refl refl)
-      (tested P (carriesJob (f .q) (messageLen f)) (keep refl refl)
+      let o = prescriptionReadUnder d (tableIn table) w in
+      with-table P d table true (powersLent marks powers) (keep refl refl) (keep refl refl) (keep refl refl) (keep refl refl)
+      (tested P (d .inRange && not (twice (tableIn table))) (keep refl refl)
+      (tested P (d .fits) (keep refl refl)
+      (tested P (carriesJob (d .codec .alphabet) (d .codec .messageLen)) (keep refl refl)
       (tested P (haveRoom marks powers) (keep refl refl)
       (as-lent (λ (h : HandedOut). handedMarks (h .number) (h .prescription)) (λ (h : HandedOut). handedPowers (h .prescription)) (o .number) (o .value)
-      (prescription-read f (tableIn table) w))))))
+      (prescription-read d judge (tableIn table) w))))))
 
 module _ (power : List Float) where
   abbrev LendsPower : PowerLent → Type 0
@@ -169,9 +173,9 @@ module _ (power : List Float) where
       tested LendsPower (eqb (length power) 1) (keep refl refl)
       (power-lent (equivalentOut e .number) (equivalentOut e .value) (one-before (spherical-equivalent e)))
 
-pub prescription-write-bytes : (f : Params) (table starts : List ℕ) (n : ℕ) (p : Prescription) (out : List ℕ)
-    → Writes prescriptionWrite out (prescriptionWriteBytesOut f table starts n p out)
-unfolding prescriptionWriteBytesOut isRefusal all any
-prescription-write-bytes f table starts n p out =
-    with-table (Writes prescriptionWrite out) f table (eqb (length starts) (2 * f .m)) (unwritten out) (keep refl refl) (keep refl refl) (keep refl refl)
-    (keep refl refl) (prescription-write f (tableIn table) _ n out p)
+pub prescription-write-bytes : (d : Coding) (table starts : List ℕ) (n : ℕ) (p : Prescription) (out : List ℕ)
+    → Writes prescriptionWrite out (prescriptionWriteBytesUnder d table starts n p out)
+unfolding prescriptionWriteBytesUnder isRefusal all any
+prescription-write-bytes d table starts n p out =
+    with-table (Writes prescriptionWrite out) d table (eqb (length starts) (2 * d .bursts)) (unwritten out) (keep refl refl) (keep refl refl) (keep refl refl)
+    (keep refl refl) (prescription-write d (tableIn table) _ n out p)

@@ -12,33 +12,38 @@ use lib.Dec.{eqb}
 use lib.Ieee.{Float}
 use Rattle.refusals.specs.Refusals.{served}
 use Rattle.combinatorics.specs.Lists.{all, any}
-use Rattle.construction_a.specs.Figures.{Params, inRange, fits}
-use Rattle.construction_a.specs.Ranking.{CoversLeast}
-use Rattle.construction_a.specs.Outcomes.{coding, Held, held, figuresNumber, figuresOut, encodeOut, worn, coverOut, answerNumber, decodeOut}
+use Rattle.cells.specs.Outcomes.{Held, held, figuresNumber, figuresUnder, encodeUnder, worn, coverUnder, answerNumber, decodeUnder}
+use Rattle.cells.specs.Ranking.{CoversLeast}
+use Rattle.construction_a.specs.Figures.{Params}
 use Rattle.construction_a.specs.DemandTwo.{DemandTwo}
+use Rattle.construction_b.specs.DemandTwo as B
+use Rattle.params.specs.declared.Figures.{Figures}
+use Rattle.params.specs.Bridge.{codingOf}
 use Rattle.jobs.specs.declared.Entry.{Entry}
 use Rattle.jobs.specs.Jobs.{Kind, opening, cancelling, finishing, reinstating, holding, releasing}
 use Rattle.jobs.specs.Letters.{listKind, callBy}
 use Rattle.ledger.specs.Replay.{replayOut}
 use Rattle.ledger.specs.Simulation.{Simulation}
 use Rattle.jobs.specs.Table.{openOut, cancelOut, finishOut, reinstateOut, holdOut, releaseOut}
-use Rattle.decoder.specs.Exported.{exportedOut}
+use Rattle.decoder.specs.Exported.{exportedUnder}
 use Rattle.jobcodec.specs.DemandThree.{isRefusal}
-use Rattle.jobcodec.specs.JobWrite.{jobWriteOut}
-use Rattle.jobcodec.specs.JobRead.{jobReadOut}
+use Rattle.jobcodec.specs.JobWrite.{jobWriteUnder}
+use Rattle.jobcodec.specs.JobRead.{jobReadUnder}
 use Rattle.jobcodec.specs.ListRead.{ListSaid, listRefused, jobAnswer, ListOut, listOut}
 use Rattle.prescription.specs.declared.eyes.Eye.{Eye}
 use Rattle.prescription.specs.declared.texts.Prescription.{Prescription}
 use Rattle.prescription.specs.Outcomes.{transposeOut, equivalentOut, readOut, writeOut}
-use Rattle.prescriptioncodec.specs.PrescriptionWrite.{prescriptionWriteOut}
-use Rattle.prescriptioncodec.specs.PrescriptionRead.{prescriptionReadOut}
-use Rattle.lanes.specs.Outcomes.{interleaveOut, deinterleaveOut}
+use Rattle.prescriptioncodec.specs.PrescriptionWrite.{prescriptionWriteUnder}
+use Rattle.prescriptioncodec.specs.PrescriptionRead.{prescriptionReadUnder}
+use Rattle.lanes.specs.Outcomes.{interleaveUnder, deinterleaveUnder}
 use Rattle.verifier.specs.Verify.{Verdict, agreeing, verdictRefusal, verifyOut}
-use Rattle.lent.specs.Covering.{coverBytesOut}
+use Rattle.lent.specs.Covering.{coverBytesUnder}
+use Rattle.lent.specs.Jobs.{jobWriteBytesUnder, jobReadBytesUnder}
+use Rattle.lent.specs.Words.{encodeBytesUnder}
 use Rattle.lent_prescriptions.specs.Eyes.{PowersLent, transposeLent, equivalentLent}
-use Rattle.lent_prescriptions.specs.Prescriptions.{prescriptionWriteBytesOut, prescriptionReadBytesOut}
-use Rattle.exports.specs.Words.{encodeBytesOut, differs, verdictNumber, verifyBytesOut}
-use Rattle.exports.specs.Jobs.{callBytesOut, jobWriteBytesOut, jobReadBytesOut}
+use Rattle.lent_prescriptions.specs.Prescriptions.{prescriptionWriteBytesUnder, prescriptionReadBytesUnder}
+use Rattle.exports.specs.Words.{differs, verdictNumber, verifyBytesOut}
+use Rattle.exports.specs.Jobs.{callBytesOut}
 use Rattle.records.specs.Session.{Session, after}
 use Rattle.lines.specs.Lines.{refusalLine, servedLine}
 use Rattle.records.specs.Records.{letterOf}
@@ -80,23 +85,25 @@ pub data StepAnswers (s : Session) (letter : ℕ) : Step → Type 0 where
   -- "prints "stop 11" and ends"
   stops : StepAnswers s letter (stopped s)
   refuses : (a : ℕ) → isRefusal a ≡ true → StepAnswers s letter (goesOn (after s (s .figures) (s .table)) (refusalLine letter a))
-  serves : (f : Option Params) (es : List Entry) (fields : List (List ℕ)) → StepAnswers s letter (goesOn (after s f es) (servedLine letter fields))
+  serves : (f : Option Figures) (es : List Entry) (fields : List (List ℕ)) → StepAnswers s letter (goesOn (after s f es) (servedLine letter fields))
 
 pub record DemandOne : Type 0 where
-  -- ---- Words. Nothing is lent to "figures alone"; a refused covering or reading has no start beside it.
-  pub figures-alone : (f : Params) → AnswersBy {A = Unit {0}} figuresAlone (figuresNumber (figuresOut f)) tt tt
-  pub word-write : (f : Params) (at : Held) (ms out : List ℕ) → AnswersBy wordWrite (encodeOut f at ms out .answer) out (encodeOut f at ms out .word)
-  pub cover : (f : Params) (map : List ℕ) → AnswersBy covering (coverOut f map .answer) (held []) (coverOut f map .placement)
-  pub word-read : (f : Params) (w out : List ℕ)
-      → AnswersBy {A = Held × List ℕ} wordRead (answerNumber (decodeOut f w out .answer)) (held [], out)
-      (decodeOut f w out .placement, decodeOut f w out .message)
-  -- nothing that is lent to the check of a word is written
+  -- ---- Words, under the figures of either construction. Nothing is lent to "figures alone"; a refused covering or reading has no start beside it.
+  pub figures-alone : (f : Figures) → AnswersBy {A = Unit {0}} figuresAlone (figuresNumber (figuresUnder (codingOf f))) tt tt
+  pub word-write : (f : Figures) (at : Held) (ms out : List ℕ)
+      → AnswersBy wordWrite (encodeUnder (codingOf f) at ms out .answer) out (encodeUnder (codingOf f) at ms out .word)
+  pub cover : (f : Figures) (map : List ℕ)
+      → AnswersBy covering (coverUnder (codingOf f) map .answer) (held []) (coverUnder (codingOf f) map .placement)
+  pub word-read : (f : Figures) (w out : List ℕ)
+      → AnswersBy {A = Held × List ℕ} wordRead (answerNumber (decodeUnder (codingOf f) w out .answer)) (held [], out)
+      (decodeUnder (codingOf f) w out .placement, decodeUnder (codingOf f) w out .message)
+  -- words side by side; the functions for other languages have these outcomes too
+  pub interleave : (f : Figures) (d : ℕ) (words out : List ℕ)
+      → AnswersBy rearrangement (interleaveUnder (codingOf f) d words out .answer) out (interleaveUnder (codingOf f) d words out .buffer)
+  pub deinterleave : (f : Figures) (d : ℕ) (strip out : List ℕ)
+      → AnswersBy rearrangement (deinterleaveUnder (codingOf f) d strip out .answer) out (deinterleaveUnder (codingOf f) d strip out .buffer)
+  -- ---- The check of a word, under Construction A's figures; nothing that is lent to it is written
   pub verify : (f : Params) (at : Held) (ms w : List ℕ) → ChecksBy (verifyOut f at ms w)
-  -- ---- Words side by side; the functions for other languages have these outcomes too
-  pub interleave : (f : Params) (d : ℕ) (words out : List ℕ)
-      → AnswersBy rearrangement (interleaveOut f d words out .answer) out (interleaveOut f d words out .buffer)
-  pub deinterleave : (f : Params) (d : ℕ) (strip out : List ℕ)
-      → AnswersBy rearrangement (deinterleaveOut f d strip out .answer) out (deinterleaveOut f d strip out .buffer)
   -- ---- The job table
   pub open-job : (es : List Entry) (n : ℕ) → AnswersBy (call opening) (openOut es n .answer) es (openOut es n .table)
   pub cancel-job : (es : List Entry) (n : ℕ) → AnswersBy (call cancelling) (cancelOut es n .answer) es (cancelOut es n .table)
@@ -109,45 +116,50 @@ pub record DemandOne : Type 0 where
       → AnswersBy {A = List Entry × List ℕ} listOfCalls (replayOut es letters numbers answers .answer) (es, answers)
       (replayOut es letters numbers answers .table, replayOut es letters numbers answers .answers)
   -- ---- Jobs
-  pub job-write : (f : Params) (es : List Entry) (at : Held) (payload out : List ℕ)
-      → AnswersBy jobWrite (jobWriteOut f es at payload out .answer) out (jobWriteOut f es at payload out .word)
-  pub job-read : (f : Params) (es : List Entry) (w out : List ℕ) → AnswersBy jobRead (jobReadOut f es w out .answer) out (jobReadOut f es w out .payload)
-  pub list-and-read : (f : Params) (es : List Entry) (letters numbers answers w out : List ℕ)
-      → ListAnswers (listOut (coding f) es letters numbers answers w out .answer) answers out (listOut (coding f) es letters numbers answers w out)
+  pub job-write : (f : Figures) (es : List Entry) (at : Held) (payload out : List ℕ)
+      → AnswersBy jobWrite (jobWriteUnder (codingOf f) es at payload out .answer) out (jobWriteUnder (codingOf f) es at payload out .word)
+  pub job-read : (f : Figures) (es : List Entry) (w out : List ℕ)
+      → AnswersBy jobRead (jobReadUnder (codingOf f) es w out .answer) out (jobReadUnder (codingOf f) es w out .payload)
+  pub list-and-read : (f : Figures) (es : List Entry) (letters numbers answers w out : List ℕ)
+      → ListAnswers (listOut (codingOf f) es letters numbers answers w out .answer) answers out (listOut (codingOf f) es letters numbers answers w out)
   -- ---- Prescriptions. A refusal has no value beside it.
   pub transpose : (e : Eye) → AnswersBy prescriptionAlone (transposeOut e .number) none (transposeOut e .value)
   pub spherical-equivalent : (e : Eye) → AnswersBy prescriptionAlone (equivalentOut e .number) none (equivalentOut e .value)
   pub read-text : (text : List ℕ) → AnswersBy prescriptionAlone (readOut text .number) none (readOut text .value)
   pub write-text : (p : Prescription) (text : List ℕ) → AnswersBy prescriptionAlone (writeOut p text .answer) text (writeOut p text .text)
-  pub prescription-write : (f : Params) (es : List Entry) (at : Held) (n : ℕ) (p : Prescription) (out : List ℕ)
-      → AnswersBy prescriptionWrite (prescriptionWriteOut f es at n p out .answer) out (prescriptionWriteOut f es at n p out .word)
-  pub prescription-read : (f : Params) (es : List Entry) (w : List ℕ)
-      → AnswersBy prescriptionRead (prescriptionReadOut f es w .number) none (prescriptionReadOut f es w .value)
+  pub prescription-write : (f : Figures) (es : List Entry) (at : Held) (n : ℕ) (p : Prescription) (out : List ℕ)
+      → AnswersBy prescriptionWrite (prescriptionWriteUnder (codingOf f) es at n p out .answer) out (prescriptionWriteUnder (codingOf f) es at n p out .word)
+  pub prescription-read : (f : Figures) (es : List Entry) (w : List ℕ)
+      → AnswersBy prescriptionRead (prescriptionReadUnder (codingOf f) es w .number) none (prescriptionReadUnder (codingOf f) es w .value)
   -- ---- For other languages
-  pub word-read-bytes : (f : Params) (w out starts : List ℕ)
-      → AnswersBy {A = List ℕ × List ℕ} wordRead (exportedOut f w out starts .answer) (out, starts)
-      (exportedOut f w out starts .message, exportedOut f w out starts .starts)
-  pub word-write-bytes : (f : Params) (starts ms out : List ℕ)
-      → AnswersBy wordWrite (encodeBytesOut f starts ms out .answer) out (encodeBytesOut f starts ms out .word)
+  pub word-read-bytes : (f : Figures) (w out starts : List ℕ)
+      → AnswersBy {A = List ℕ × List ℕ} wordRead (exportedUnder (codingOf f) w out starts .answer) (out, starts)
+      (exportedUnder (codingOf f) w out starts .message, exportedUnder (codingOf f) w out starts .starts)
+  pub word-write-bytes : (f : Figures) (starts ms out : List ℕ)
+      → AnswersBy wordWrite (encodeBytesUnder (codingOf f) starts ms out .answer) out (encodeBytesUnder (codingOf f) starts ms out .word)
   pub verify-bytes : (f : Params) (starts ms w : List ℕ) → ChecksBy (verifyBytesOut f starts ms w)
-  pub cover-bytes : (f : Params) (map starts : List ℕ) → AnswersBy covering (coverBytesOut f map starts .answer) starts (coverBytesOut f map starts .starts)
+  pub cover-bytes : (f : Figures) (map starts : List ℕ)
+      → AnswersBy covering (coverBytesUnder (codingOf f) map starts .answer) starts (coverBytesUnder (codingOf f) map starts .starts)
   pub call-bytes : (table : List ℕ) (letter number : ℕ)
       → AnswersBy (callOnBytes (listKind letter)) (callBytesOut table letter number .answer) table (callBytesOut table letter number .table)
-  pub job-write-bytes : (f : Params) (table starts payload out : List ℕ)
-      → AnswersBy jobWrite (jobWriteBytesOut f table starts payload out .answer) out (jobWriteBytesOut f table starts payload out .word)
-  pub job-read-bytes : (f : Params) (table w out : List ℕ)
-      → AnswersBy jobRead (jobReadBytesOut f table w out .answer) out (jobReadBytesOut f table w out .payload)
+  pub job-write-bytes : (f : Figures) (table starts payload out : List ℕ)
+      → AnswersBy jobWrite (jobWriteBytesUnder (codingOf f) table starts payload out .answer) out
+      (jobWriteBytesUnder (codingOf f) table starts payload out .word)
+  pub job-read-bytes : (f : Figures) (table w out : List ℕ)
+      → AnswersBy jobRead (jobReadBytesUnder (codingOf f) table w out .answer) out (jobReadBytesUnder (codingOf f) table w out .payload)
   pub transpose-lent : (e : Eye) (marks : List ℕ) (powers : List Float) → AnswersLent prescriptionLent marks powers (transposeLent e marks powers)
   pub equivalent-lent : (e : Eye) (power : List Float)
       → AnswersBy prescriptionLent (equivalentLent e power .answer) power (equivalentLent e power .power)
-  pub prescription-write-bytes : (f : Params) (table starts : List ℕ) (n : ℕ) (p : Prescription) (out : List ℕ)
-      → AnswersBy prescriptionWrite (prescriptionWriteBytesOut f table starts n p out .answer) out (prescriptionWriteBytesOut f table starts n p out .word)
-  pub prescription-read-bytes : (f : Params) (table w marks : List ℕ) (powers : List Float)
-      → AnswersLent prescriptionRead marks powers (prescriptionReadBytesOut f table w marks powers)
+  pub prescription-write-bytes : (f : Figures) (table starts : List ℕ) (n : ℕ) (p : Prescription) (out : List ℕ)
+      → AnswersBy prescriptionWrite (prescriptionWriteBytesUnder (codingOf f) table starts n p out .answer) out
+      (prescriptionWriteBytesUnder (codingOf f) table starts n p out .word)
+  pub prescription-read-bytes : (f : Figures) (table w marks : List ℕ) (powers : List Float)
+      → AnswersLent prescriptionRead marks powers (prescriptionReadBytesUnder (codingOf f) table w marks powers)
   -- ---- The transfer program
   pub step : (s : Session) (bytes : List ℕ) → StepAnswers s (letterOf bytes) (stepOut s bytes)
   -- ---- "Each number comes under its condition and under no other": those of the table as the ledger has them, 6 where no placement covers the map,
   -- and 7, 8, 9 and 19 as the found word has them. The others' conditions are the tests in the outcomes themselves.
   pub table-conditions : Simulation
-  pub cover-conditions : (f : Params) → inRange f ≡ true → fits f ≡ true → (map : List ℕ) → CoversLeast f (worn map)
+  pub cover-conditions : (f : Figures) → codingOf f .inRange ≡ true → codingOf f .fits ≡ true → (map : List ℕ) → CoversLeast (codingOf f) (worn map)
   pub read-conditions : DemandTwo
+  pub long-read-conditions : B.DemandTwo

@@ -1,45 +1,44 @@
 -- Demand 3 in the terms of those who call: a program in C, and whoever sends records to the transfer program. The claim is that of
 -- jobcodec/specs/DemandThree. The proofs are `bytes-claimed` and `session-claimed` of proofs/DemandThree.antt. Assumes nothing.
 use mathlib.Core.Path.{_≡_}
-use mathlib.Core.Bool.{Bool, true, _&&_}
+use mathlib.Core.Bool.{Bool, true, cond, _&&_, _||_}
 use mathlib.Core.List.{List, [], _∷_}
 use Prim.Native.Nat.{ℕ, _+_, _≤_}
 use lib.Dec.{eqb}
 use lib.ListN.{length, drop, replicate}
 use Rattle.refusals.specs.Refusals.{served}
 use Rattle.combinatorics.specs.Lists.{all}
-use Rattle.cells.specs.Bytes.{payloadLen}
-use Rattle.construction_a.specs.Figures.{Params, messageLen}
-use Rattle.construction_a.specs.Outcomes.{figuresNumber, figuresOut}
+use Rattle.cells.specs.Outcomes.{figuresNumber, figuresUnder}
+use Rattle.params.specs.declared.Figures.{Figures}
+use Rattle.params.specs.Bridge.{codingOf}
 use Rattle.jobs.specs.declared.Entry.{Entry}
 use Rattle.jobs.specs.Jobs.{Call}
 use Rattle.jobs.specs.Letters.{kindOf, isLetter}
 use Rattle.ledger.specs.Replay.{callBefore}
 use Rattle.ledger.specs.Simulation.{Start}
 use Rattle.payloads.specs.Payload.{jobNumber}
-use Rattle.jobcodec.specs.DemandThree.{ClaimA}
+use Rattle.jobcodec.specs.DemandThree.{Claim}
 use Rattle.jobcodec.specs.JobRead.{JobRead}
 use Rattle.exports.specs.Follows.{answersOn, bytesAfter, numbered}
-use Rattle.exports.specs.Jobs.{jobReadBytesOut}
+use Rattle.lent.specs.Jobs.{jobReadBytesUnder}
 use Rattle.lent.specs.Table.{TableOf}
-use Rattle.lines.specs.Lines.{refusalLine}
-use Rattle.lines.specs.Lines.{letterS, letterR}
-use Rattle.records.specs.Records.{headLen, isMarked, letterOf, figuresIn}
+use Rattle.lines.specs.Lines.{refusalLine, letterS, letterL, letterR}
+use Rattle.records.specs.Records.{headLen, isMarked, letterOf, payloadLenOf, figuresIn, longFiguresIn}
 use Rattle.transfer.specs.Steps.{readStep, stepOut}
 use Rattle.records.specs.Session.{Session, atStart, maxRecords}
 
 -- ---- A program in C
 
--- Any list of `burgzemi_call` on the bytes of a table that a list may start from, each on the bytes that the one before left, then `burgzemi_job_read` on
--- the last ones: the claim of the answers, and of what the reading answers and leaves in the lent payload. 320 bytes of 0 are the empty table
--- (`EmptyBytes`).
+-- Any list of `burgzemi_call` on the bytes of a table that a list may start from, each on the bytes that the one before left, then `burgzemi_job_read` or
+-- `burgzemi_long_job_read` on the last ones: the claim of the answers, and of what the reading answers and leaves in the lent payload. 320 bytes of 0 are
+-- the empty table (`EmptyBytes`).
 abbrev pub BytesClaimed : Type 0
 BytesClaimed =
-    (f : Params) (bytes : List ℕ) (es : List Entry) (before : List Call) → TableOf bytes es → Start es before
+    (f : Figures) (bytes : List ℕ) (es : List Entry) (before : List Call) → TableOf bytes es → Start es before
     → (calls : List Call) (w out : List ℕ) → all numbered calls ≡ true
-    → ClaimA f before calls w out (answersOn bytes calls) (jobReadBytesOut f (bytesAfter bytes calls) w out)
+    → Claim (codingOf f) before calls w out (answersOn bytes calls) (jobReadBytesUnder (codingOf f) (bytesAfter bytes calls) w out)
 
--- ---- A session of the transfer program: an S, any O, C and F, then an R. "The book starts empty"
+-- ---- A session of the transfer program: an S or L, any calls, then an R. "The book starts empty"
 
 -- the steps of records, one after the other: the session after them, and the lines
 unfoldable pub sessionAfter : Session → List (List ℕ) → Session
@@ -58,17 +57,24 @@ isRecord letter len r = isMarked r && eqb (letterOf r) letter && eqb (length r) 
 abbrev pub isCall : List ℕ → Bool
 isCall r = isMarked r && isLetter (letterOf r) && eqb (length r) (headLen + 4)
 
+-- "S (figures) n (2 bytes), q−1 (1), m (1), b (2)"; document 02, ticket 1: "letter L carries n (2 bytes), q−1 (1) and b (2)"
+abbrev pub carriesFigures : List ℕ → Bool
+carriesFigures r = isRecord letterS (headLen + 6) r || isRecord letterL (headLen + 5) r
+
+abbrev pub figuresCarried : List ℕ → Figures
+figuresCarried r = cond (eqb (letterOf r) letterS) (figuresIn r) (longFiguresIn r)
+
 -- the calls that they are
 unfoldable pub callsIn : List (List ℕ) → List Call
 callsIn [] = []
 callsIn (r ∷ rs) = callBefore (kindOf (letterOf r)) (jobNumber (drop headLen r)) (callsIn rs)
 
 pub record IsSession (figures : List ℕ) (calls : List (List ℕ)) (reading : List ℕ) : Type 0 where
-  pub is-S : isRecord letterS (headLen + 6) figures ≡ true
-  -- "an accepted S"
-  pub accepted : figuresNumber (figuresOut (figuresIn figures)) ≡ served
+  pub carries : carriesFigures figures ≡ true
+  -- "an accepted S"; "an accepted L serves a W or R as an accepted S does"
+  pub accepted : figuresNumber (figuresUnder (codingOf (figuresCarried figures))) ≡ served
   pub are-calls : all isCall calls ≡ true
-  pub is-R : isRecord letterR (headLen + figuresIn figures .n) reading ≡ true
+  pub is-R : isRecord letterR (headLen + codingOf (figuresCarried figures) .codec .wordLen) reading ≡ true
   -- not "any record after the 4294967295th"
   pub few : length calls + 2 ≤ maxRecords
 
@@ -80,7 +86,7 @@ answerLines (r ∷ rs) (a ∷ answers) = refusalLine (letterOf r) a ∷ answerLi
 
 -- what is printed are the lines of answers and of a job reading that the claim is true of; the payload's buffer is the program's own and holds 0
 pub record SessionClaim (figures : List ℕ) (calls : List (List ℕ)) (reading answers : List ℕ) (r : JobRead) : Type 0 where
-  pub claim : let f = figuresIn figures in ClaimA f [] (callsIn calls) (drop headLen reading) (replicate (payloadLen (f .q) (messageLen f)) 0) answers r
+  pub claim : let f = figuresCarried figures in Claim (codingOf f) [] (callsIn calls) (drop headLen reading) (replicate (payloadLenOf f) 0) answers r
   pub answered : linesOf (stepOut atStart figures .next) calls ≡ answerLines calls answers
   pub printed : let s = sessionAfter (stepOut atStart figures .next) calls in stepOut s reading ≡ readStep s r
 

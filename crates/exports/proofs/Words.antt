@@ -1,51 +1,21 @@
--- Laws of word write and the check of a word on bytes. Assumes nothing.
+-- Laws of the check of a word on bytes. Assumes nothing.
 use mathlib.Core.Path.{_≡_}
-use mathlib.Core.Logic.{_≢_}
-use mathlib.Core.Bool.{true}
 use mathlib.Core.List.{List, []}
 use Prim.Native.Nat.{ℕ, _*_}
 use native.Mathlib.Omega.{arith}
 use lib.ListN.{length}
-use Rattle.refusals.specs.Refusals.{invalid, unfit, wrongLength}
+use Rattle.refusals.specs.Refusals.{invalid, unfit}
 use Rattle.combinatorics.proofs.Cases.{by-eq, by-bool, eqb-same, eqb-other, leb-holds}
 use Rattle.construction_a.specs.Figures.{Params, maxBursts, inRange, fits}
-use Rattle.construction_a.specs.Outcomes.{coding, Held, held, unserved, figuresOut, unwritten, encodeOut}
+use Rattle.construction_a.specs.Outcomes.{Held, held}
 use Rattle.construction_a.proofs.Figures.{ranged}
 use Rattle.construction_a.proofs.Outcomes.{figures-invalid, figures-unfit}
-use Rattle.encoder.proofs.Outcomes.{encode-unfit, encode-count}
 use Rattle.verifier.specs.Verify.{verifyOut}
 use Rattle.verifier.proofs.Calls.{verify-unfit, verify-count}
 use Rattle.lent.specs.Starts.{placementFrom}
-use Rattle.exports.specs.Words.{encodeBytesOut, verifyBytesOut}
+use Rattle.exports.specs.Words.{verifyBytesOut}
 
--- ---- "word write 1 2 3 5 4": a placement without starts is refused where the bytes of the starts are
-
--- what word write refuses, of Construction A's figures
-module _ (f : Params) (at : Held) (ms out : List ℕ) where
-  unfit-a : (a : ℕ) → figuresOut f ≡ unserved a → encodeOut f at ms out ≡ unwritten out a
-  unfolding encodeOut figuresOut
-  unfit-a = encode-unfit (coding f) at ms out
-
-  count-a : inRange f ≡ true → fits f ≡ true → at .count ≢ f .m → encodeOut f at ms out ≡ unwritten out wrongLength
-  unfolding encodeOut
-  count-a = encode-count (coding f) at ms out
-
-pub encode-bytes : (f : Params) (starts ms out : List ℕ) → encodeOut f (placementFrom (f .m) starts) ms out ≡ encodeBytesOut f starts ms out
-unfolding encodeBytesOut
-encode-bytes f starts ms out =
-    by-bool (inRange f)
-    (λ i. by-bool (fits f)
-    (λ d. by-eq (length starts) (2 * f .m) (λ _. encodeOut f at ms out ≡ encodeBytesOut f starts ms out)
-    (λ e. rw (i, d, leb-holds (f .m) maxBursts (ranged f i .m-most), eqb-same (length starts) (2 * f .m) e))
-    (λ e. rw (i, d, leb-holds (f .m) maxBursts (ranged f i .m-most), eqb-other (length starts) (2 * f .m) e)
-    (count-a f (held []) ms out i d (λ z. absurd (omega (arith, ranged f i .m-least, z))))))
-    (λ d. rw (i, d) (unfit-a f at ms out unfit (figures-unfit f i d))))
-    (λ i. rw i (unfit-a f at ms out invalid (figures-invalid f i)))
-  where
-    at : Held
-    at = placementFrom (f .m) starts
-
--- ---- The check of a word, likewise
+-- ---- "1 2 3 5 4": a placement without starts is refused where the bytes of the starts are
 
 pub verify-bytes : (f : Params) (starts ms w : List ℕ) → verifyOut f (placementFrom (f .m) starts) ms w ≡ verifyBytesOut f starts ms w
 unfolding verifyBytesOut

@@ -1,19 +1,12 @@
--- What a call on a job table in bytes, job write and job read answer a program in another language, and what their lent buffers hold afterwards, for
--- every input. Assumes nothing.
-use mathlib.Core.Bool.{true}
+-- What a call on a job table in bytes answers a program in another language, and what the lent table holds afterwards, for every input. Job write and
+-- job read have the outcomes of `lent`. Assumes nothing.
 use mathlib.Core.List.{List}
-use Prim.Native.Nat.{ℕ, _*_}
+use Prim.Native.Nat.{ℕ}
 use lib.Dec.{eqb}
 use lib.ListN.{length}
 use Rattle.refusals.specs.Refusals.{must, served, invalid, wrongLength, badRecord}
-use Rattle.construction_a.specs.Figures.{Params}
-use Rattle.construction_a.specs.Outcomes.{held, Encoded, unwritten}
 use Rattle.jobs.specs.Letters.{listKind, callBy, isListLetter}
 use Rattle.jobs.specs.Table.{TableOut}
-use Rattle.jobcodec.specs.JobWrite.{jobWriteOut}
-use Rattle.jobcodec.specs.JobRead.{JobRead, withhold, jobReadOut}
-use Rattle.lent.specs.Jobs.{withTable}
-use Rattle.lent.specs.Starts.{startsFrom}
 use Rattle.lent.specs.Table.{tableLen, statesKnown, tableIn, tableBytes}
 
 -- ---- A call: 3 for the table's length and 11 for the letter, before the table is looked at; then "open 1 12 13 15; cancel 1 12 15; finish 1 12 14", with
@@ -36,15 +29,3 @@ callBytesOut bytes letter number =
     (must (isListLetter letter) (called badRecord bytes)
     (must (statesKnown bytes) (called invalid bytes)
     (calledAs bytes (callBy (listKind letter) (tableIn bytes) number))))
-
--- ---- Jobs
-
--- "job write 1 2 10 3 5 12 14", with 17 before 12 and 23 before 14, where 3 stands for the bytes of the table and of the starts too
-unfoldable pub jobWriteBytesOut : Params → List ℕ → List ℕ → List ℕ → List ℕ → Encoded
-jobWriteBytesOut f table starts payload out =
-    withTable f table (eqb (length starts) (2 * f .m)) (unwritten out)
-    (jobWriteOut f (tableIn table) (held (startsFrom starts)) payload out)
-
--- "job read 1 2, 10 for K, 3 4 7 8 9, 10, 12 14", with 19 as in word read and 23 before 14, where 3 stands for the bytes of the table too
-unfoldable pub jobReadBytesOut : Params → List ℕ → List ℕ → List ℕ → JobRead
-jobReadBytesOut f table w out = withTable f table true (withhold out) (jobReadOut f (tableIn table) w out)

@@ -7,25 +7,25 @@ ghost use Rattle.decoder.specs.Exported.{lentAs, exportedOut, messageLenOut};
 ghost use Rattle.jobcodec.specs.Given.{seen};
 ghost use Rattle.lanes.specs.Outcomes.{unfilled, interleaveOut, deinterleaveOut};
 ghost use Rattle.lent.specs.Covering.{covers, coverBytesOut};
+ghost use Rattle.lent.specs.Jobs.{jobWriteBytesOut, jobReadBytesOut};
+ghost use Rattle.lent.specs.Words.{encodeBytesOut, payloadLenOut};
 ghost use Rattle.lent_prescriptions.specs.Eyes.{eyeFrom, powersLent, transposeLent, powerLent, equivalentLent};
 ghost use Rattle.lent_prescriptions.specs.Prescriptions.{prescriptionFrom, prescriptionWriteBytesOut, prescriptionReadBytesOut};
-ghost use Rattle.exports.specs.Words.{encodeBytesOut, verifyBytesOut, verdictNumber, payloadLenOut};
-ghost use Rattle.exports.specs.Jobs.{called, callBytesOut, jobWriteBytesOut, jobReadBytesOut};
-use decoder::starts::decode_bytes;
+ghost use Rattle.exports.specs.Words.{verifyBytesOut, verdictNumber};
+ghost use Rattle.exports.specs.Jobs.{called, callBytesOut};
+use lent::job;
 use lent::starts;
 use lent::table;
+use lent::words;
 use lent_prescriptions::eyes;
 use lent_prescriptions::prescriptions;
 use params::Figures;
 use params::LayoutAnswer;
 use params::Params;
-use params::bytes;
-use prescription::texts::Prescription;
 use refusals::Refusal;
 use verifier::VerifyAnswer;
 
-// A length that no message and no payload has.
-const NO_LENGTH: u32 = 4294967295;
+pub mod long;
 
 // What the check of a word answers for "no".
 const DIFFERS: u8 = 255;
@@ -43,36 +43,28 @@ pub extern "C" fn burgzemi_decode(
 ) -> u8
     ensures { λ r. ⌜ lentAs r (now (message .exit)) (now (starts .exit)) ≡ exportedOut (params n q m b) (now (word .entry)) (now (message .entry)) (now (starts .entry)) ⌝ }
 {
-    let figures = Figures::Ranked(Params { n, q, m, b });
-    let answer = figures.layout();
-    match answer {
-        LayoutAnswer::Refused(number) => number,
-        LayoutAnswer::Fit(layout) => decode_bytes(layout, word, message, starts),
-    }
+    words::decode(
+        Figures::Ranked(Params { n, q, m, b }),
+        word,
+        message,
+        starts,
+    )
 }
 
-// How many symbols a message has, so that a program can lend them; NO_LENGTH for figures that are refused.
+// How many symbols a message has, so that a program can lend them; 4294967295 for figures that are refused.
 #[no_mangle]
 pub extern "C" fn burgzemi_message_len(n: u32, q: u32, m: u32, b: u32) -> u32
     ensures { λ r. ⌜ r ≡ messageLenOut (params n q m b) ⌝ }
 {
-    let answer = Params::figures(n, q, m, b);
-    match answer {
-        LayoutAnswer::Refused(_) => NO_LENGTH,
-        LayoutAnswer::Fit(layout) => layout.message_len as u32,
-    }
+    words::message_len(Figures::Ranked(Params { n, q, m, b }))
 }
 
-// How many bytes a payload has, the job number's four included; NO_LENGTH for figures that are refused.
+// How many bytes a payload has, the job number's four included; 4294967295 for figures that are refused.
 #[no_mangle]
 pub extern "C" fn burgzemi_payload_len(n: u32, q: u32, m: u32, b: u32) -> u32
     ensures { λ r. ⌜ r ≡ payloadLenOut (params n q m b) ⌝ }
 {
-    let answer = Params::figures(n, q, m, b);
-    match answer {
-        LayoutAnswer::Refused(_) => NO_LENGTH,
-        LayoutAnswer::Fit(layout) => bytes::payload_len(layout.q, layout.message_len) as u32,
-    }
+    words::payload_len(Figures::Ranked(Params { n, q, m, b }))
 }
 
 // Word write: the word of a placement, whose starts are 2 bytes each and the high byte first, and of a message. Refusals: 1 2 3 5 4.
@@ -88,9 +80,12 @@ pub extern "C" fn burgzemi_encode(
 ) -> u8
     ensures { λ r. ⌜ unwritten (now (word .exit)) r ≡ encodeBytesOut (params n q m b) (now (starts .entry)) (now (message .entry)) (now (word .entry)) ⌝ }
 {
-    let figures = Params { n, q, m, b };
-    let at = starts::placement_from(starts, m);
-    encoder::encode(Figures::Ranked(figures), at, message, word)
+    words::encode(
+        Figures::Ranked(Params { n, q, m, b }),
+        starts,
+        message,
+        word,
+    )
 }
 
 // The check of a word against a placement and a message: 0 where it agrees outside the bursts with the word that they give, DIFFERS where it doesn't.
@@ -129,12 +124,7 @@ pub extern "C" fn burgzemi_cover(
 ) -> u8
     ensures { λ r. ⌜ covers r (now (starts .exit)) ≡ coverBytesOut (params n q m b) (now (map .entry)) (now (starts .entry)) ⌝ }
 {
-    let figures = Params { n, q, m, b };
-    let answer = Params::figures(n, q, m, b);
-    match answer {
-        LayoutAnswer::Refused(number) => number,
-        LayoutAnswer::Fit(_) => starts::cover_bytes(figures, map, starts),
-    }
+    starts::cover_bytes(Figures::Ranked(Params { n, q, m, b }), map, starts)
 }
 
 // A call on the job table: the letter O opens, C cancels, F finishes, I reinstates, H holds, U releases. Refusals: 3 for the table's length, 11 for another
@@ -176,16 +166,13 @@ pub extern "C" fn burgzemi_job_write(
 ) -> u8
     ensures { λ r. ⌜ unwritten (now (word .exit)) r ≡ jobWriteBytesOut (params n q m b) (now (table .entry)) (now (starts .entry)) (now (payload .entry)) (now (word .entry)) ⌝ }
 {
-    let figures = Params { n, q, m, b };
-    if table.len() != table::TABLE_LEN {
-        return table::without_table(figures);
-    }
-    if !table::states_known(table) {
-        return Refusal::INVALID;
-    }
-    let at = starts::placement_from(starts, m);
-    let held = table::table_in(table);
-    jobcodec::job_write(Figures::Ranked(figures), held, at, payload, word)
+    job::write(
+        Figures::Ranked(Params { n, q, m, b }),
+        table,
+        starts,
+        payload,
+        word,
+    )
 }
 
 // Job read: the payload of a found word whose job the table has open. Refusals: 1 2, 10 for K, 3 4 7 19 8 9 19, 10, 12 23 14.
@@ -201,15 +188,7 @@ pub extern "C" fn burgzemi_job_read(
 ) -> u8
     ensures { λ r. ⌜ seen r (now (payload .exit)) ≡ jobReadBytesOut (params n q m b) (now (table .entry)) (now (word .entry)) (now (payload .entry)) ⌝ }
 {
-    let figures = Params { n, q, m, b };
-    if table.len() != table::TABLE_LEN {
-        return table::without_table(figures);
-    }
-    if !table::states_known(table) {
-        return Refusal::INVALID;
-    }
-    let held = table::table_in(table);
-    jobcodec::job_read(Figures::Ranked(figures), held, word, payload)
+    job::read(Figures::Ranked(Params { n, q, m, b }), table, word, payload)
 }
 
 // Words to the strip: `depth` words of n symbols, one after another, side by side. Refusals: 1 2 18 3 4.
@@ -225,7 +204,7 @@ pub extern "C" fn burgzemi_interleave(
 ) -> u8
     ensures { λ r. ⌜ unfilled (now (strip .exit)) r ≡ interleaveOut (params n q m b) depth (now (words .entry)) (now (strip .entry)) ⌝ }
 {
-    lanes::interleave(Params { n, q, m, b }, depth, words, strip)
+    lanes::interleave(Figures::Ranked(Params { n, q, m, b }), depth, words, strip)
 }
 
 // The strip to words, one after another. Refusals: 1 2 18 3 4.
@@ -241,7 +220,7 @@ pub extern "C" fn burgzemi_deinterleave(
 ) -> u8
     ensures { λ r. ⌜ unfilled (now (words .exit)) r ≡ deinterleaveOut (params n q m b) depth (now (strip .entry)) (now (words .entry)) ⌝ }
 {
-    lanes::deinterleave(Params { n, q, m, b }, depth, strip, words)
+    lanes::deinterleave(Figures::Ranked(Params { n, q, m, b }), depth, strip, words)
 }
 
 // Transposing: the eye that four values are, with the other sign of its cylinder; kind and axis into `marks`, sphere and cylinder into `powers`.
@@ -300,15 +279,19 @@ pub extern "C" fn burgzemi_prescription_write(
 ) -> u8
     ensures { λ r. ⌜ unwritten (now (word .exit)) r ≡ prescriptionWriteBytesOut (params n q m b) (now (table .entry)) (now (starts .entry)) number (prescriptionFrom (eyeFrom «right_kind» «right_sphere» «right_cylinder» «right_axis») (eyeFrom «left_kind» «left_sphere» «left_cylinder» «left_axis») distance) (now (word .entry)) ⌝ }
 {
-    let right = eyes::eye_from(right_kind, right_sphere, right_cylinder, right_axis);
-    let left = eyes::eye_from(left_kind, left_sphere, left_cylinder, left_axis);
-    let prescription = Prescription {
-        right,
-        left,
-        pupil_distance: distance,
-    };
+    let prescription = prescriptions::prescription_from(
+        right_kind,
+        right_sphere,
+        right_cylinder,
+        right_axis,
+        left_kind,
+        left_sphere,
+        left_cylinder,
+        left_axis,
+        distance,
+    );
     prescriptions::write(
-        Params { n, q, m, b },
+        Figures::Ranked(Params { n, q, m, b }),
         table,
         starts,
         number,
@@ -332,5 +315,11 @@ pub extern "C" fn burgzemi_prescription_read(
 ) -> u8
     ensures { λ r. ⌜ powersLent (now (marks .exit)) (now (powers .exit)) r ≡ prescriptionReadBytesOut (params n q m b) (now (table .entry)) (now (word .entry)) (now (marks .entry)) (now (powers .entry)) ⌝ }
 {
-    prescriptions::read(Params { n, q, m, b }, table, word, marks, powers)
+    prescriptions::read(
+        Figures::Ranked(Params { n, q, m, b }),
+        table,
+        word,
+        marks,
+        powers,
+    )
 }

@@ -69,7 +69,7 @@ pub record HandsOut (c : Codec) (ledger : List Call) (w out : List ℕ) (r : Job
   pub hands : (starts payload : List ℕ) → BothFacts c ledger w starts payload → r ≡ handOut payload
   -- otherwise it is refused, and the lent buffer keeps what it held; the fields below say with which number
   pub otherwise : ((starts payload : List ℕ) → BothFacts c ledger w starts payload → ⊥) → (a : ℕ) × (isRefusal a ≡ true) × (r ≡ withhold out a)
-  -- where the first fact fails, with 7, 19, 8, 9 or 10; which of them, the word alone says (`jobReadOut`)
+  -- where the first fact fails, with 7, 19, 8, 9 or 10; which of them, the word alone says (`jobReadUnder`)
   pub no-pair : ((starts payload : List ℕ) → Gives c w starts payload → ⊥) → (a : ℕ) × (isWordRefusal a ≡ true) × (r ≡ withhold out a)
   -- "Where only the second fact fails, the refusal is 12 after a cancellation, 14 after a finishing or no accepted call."
   pub after-cancelling : (starts payload : List ℕ) → OnlyPair c w starts payload → lastLeft ledger (jobNumber payload) ≡ some cancelling

@@ -18,15 +18,22 @@ use Rattle.combinatorics.proofs.Lists.{both, at-below}
 use Rattle.combinatorics.proofs.ShortSets.{Short, Shorts, short-covered}
 use Rattle.combinatorics.proofs.Stretch.{bit-le, length-tabulate, tabulate-at}
 use Rattle.cells.specs.Codec.{Codec, accepted, Word, WritesWords, Exact}
+use Rattle.cells.specs.Outcomes.{Coding, worn}
 use Rattle.construction_a.specs.DemandTwo.{constructionA}
-use Rattle.construction_a.specs.Figures.{Params, isPlacement, placementCount, messageLen}
-use Rattle.construction_a.specs.Outcomes.{worn, coverOut, decodeAs, decodeOut}
-use Rattle.construction_a.specs.Writing.{word}
-use Rattle.construction_a.proofs.Figures.{Served, serve, le-of, starts-placed}
+use Rattle.construction_a.specs.Figures.{Params, isPlacement}
+use Rattle.construction_a.specs.Outcomes.{coding}
+use Rattle.construction_a.proofs.Figures.{Served, serve, le-of}
 use Rattle.construction_a.proofs.DemandTwo.{demand-two}
+use Rattle.construction_b.specs.Figures.{LongParams}
+use Rattle.construction_b.specs.Figures as B
+use Rattle.construction_b.specs.DemandTwo.{constructionB}
+use Rattle.construction_b.specs.Outcomes.{coding as codingB}
+use Rattle.construction_b.proofs.Figures.{Served as ServedB, serve as serve-b, count-is}
+use Rattle.construction_b.proofs.DemandTwo.{demand-two as demand-two-b}
+use Rattle.params.specs.declared.Figures.the-variants.{Ranked, Long}
+use Rattle.params.specs.Bridge.{given, givenLong}
 use Rattle.lanes.specs.Interleaving.{interleaved, deinterleaved, lane}
-use Rattle.lanes.specs.Lanes.{Wear, within, isWorn, isShort, Worn, stripMap, wordMap, HasBursts, coverOf, Messages, coverAt, writtenWords, FoundStrip, LanesHold, LawOfLanes, LanesReadA}
-use Rattle.lanes.specs.Outcomes.{interleaveOut, deinterleaveOut}
+use Rattle.lanes.specs.Lanes.{Wear, within, isWorn, isShort, Worn, stripMap, wordMap, HasBursts, coverOf, Messages, coverAt, writtenWords, FoundStrip, LanesHold, LawOfLanes, LanesReadUnder, LanesRead}
 use Rattle.lanes.proofs.Interleaving.{length-transposed, transposed-below, lane-at, length-lane, lane-below, words-at, length-words, words-below, strip-cell, word-cell}
 use Rattle.lanes.proofs.Outcomes.{Passes, passes}
 
@@ -131,17 +138,7 @@ lanes-hold c m b d ss bursts writes exact wear =
       reads = λ messages strip ms found. reads c m b d ss bursts writes exact wear messages strip ms found;
     }
 
--- ---- Under Construction A
-
-has-bursts : (f : Params) → Served f → HasBursts (constructionA f) (f .m) (f .b)
-unfolding isPlacement
-has-bursts f ok =
-    record {
-      some = ok .long;
-      room = ok .total;
-      placed = λ starts e h. rw (eqb-same (length starts) (f .m) e, h);
-      spoilt = λ starts x t. t;
-    }
+-- ---- What each call answers
 
 -- a word's map is one that the planner takes
 module _ (d n : ℕ) (ss : List Wear) where
@@ -163,49 +160,86 @@ module _ (d n : ℕ) (ss : List Wear) where
   unfolding wordMap
   map-bits j = lane-below 2 n j (deinterleaved d n (stripMap d n ss)) (transposed-below 2 n d (stripMap d n ss) (length-strip-map ∙ mul-comm d n) strip-map-bits)
 
-pub lanes-read : LanesReadA
-unfolding coverOut decodeOut coverOf interleaveOut deinterleaveOut
-lanes-read f d ss i h wear =
-    let ok = serve f i h in
-    let two = demand-two f i h in
-    let c = constructionA f in
-    let b = has-bursts f ok in
-    let law = lanes-hold c (f .m) (f .b) d ss b (two .written) (two .exactly) wear in
+module _ (k : Coding) (range : k .inRange ≡ true) (fit : k .fits ≡ true)
+    (counts : k .placementCount ≡ placements (k .codec .wordLen) (k .bursts) (k .burstLen)) (bursts : HasBursts (k .codec) (k .bursts) (k .burstLen))
+    (writes : WritesWords (k .codec)) (exact : Exact (k .codec)) (d : ℕ) (ss : List Wear) (wear : Worn (k .bursts) (k .burstLen) d ss) where
+  read-under : LanesReadUnder k d ss
+  unfolding coverOf
+  read-under =
+      let c = k .codec in
+      let n = c .wordLen in
+      let m = k .bursts in
+      let b = k .burstLen in
+      let law = lanes-hold c m b d ss bursts writes exact wear in
+      record {
+        covered = λ j hj.
+            let map = wordMap d n ss j in
+            rw (
+              range,
+              fit,
+              eqb-same (length map) n (length-map d n ss j hj),
+              map-bits d n ss j,
+              counts,
+              leb-holds (suc (coverRank n m b (worn map))) (placements n m b) (law .coverable j hj),
+            );
+        laid = λ messages out ms depth room.
+            let each = written-word c m b d ss bursts writes exact wear messages ms in
+            let g : ℕ → List ℕ = λ j. c .encode (coverAt c m b d ss j) (messages j) in
+            let words = writtenWords c m b d ss messages in
+            passes k d (c .alphabet) words out (interleaved d n words)
+            (record {
+              range = range;
+              fit = fit;
+              depth = depth;
+              lent = length-words n d 0 g (λ j _ l. each j (omega arith) .0);
+              room = room;
+              symbols = words-below (c .alphabet) d 0 g (λ j _ l. each j (omega arith) .1);
+            });
+        taken = λ messages strip out found depth room.
+            passes k d (c .foundBound) strip out (deinterleaved d n strip)
+            (record { range = range; fit = fit; depth = depth; lent = found .complete; room = room; symbols = found .symbols });
+        read = λ messages strip out ms found long j hj.
+            let w = lane n j (deinterleaved d n strip) in
+            let found-word = read-word c m b d ss bursts writes exact wear messages strip ms found j hj in
+            rw (
+              range,
+              fit,
+              eqb-same (length w) n (found-word .complete),
+              eqb-same (length out) (c .messageLen) long,
+              found-word .symbols,
+              law .reads messages strip ms found j hj,
+            );
+      }
+
+-- ---- Under the figures of either construction
+
+bursts-a : (f : Params) → Served f → HasBursts (constructionA f) (f .m) (f .b)
+unfolding isPlacement
+bursts-a f ok =
     record {
-      covered = λ j hj.
-          let map = wordMap d (f .n) ss j in
-          rw (
-            i,
-            h,
-            eqb-same (length map) (f .n) (length-map d (f .n) ss j hj),
-            map-bits d (f .n) ss j,
-            leb-holds (suc (coverRank (f .n) (f .m) (f .b) (worn map))) (placementCount f) (law .coverable j hj),
-          );
-      laid = λ messages out ms depth room.
-          let each = written-word c (f .m) (f .b) d ss b (two .written) (two .exactly) wear messages ms in
-          let g : ℕ → List ℕ = λ j. word f (coverAt c (f .m) (f .b) d ss j) (messages j) in
-          let words = writtenWords c (f .m) (f .b) d ss messages in
-          passes f d (f .q) words out (interleaved d (f .n) words)
-          (record {
-            range = i;
-            fit = h;
-            depth = depth;
-            lent = length-words (f .n) d 0 g (λ j _ l. each j (omega arith) .0);
-            room = room;
-            symbols = words-below (f .q) d 0 g (λ j _ l. each j (omega arith) .1);
-          });
-      taken = λ messages strip out found depth room.
-          passes f d (c .foundBound) strip out (deinterleaved d (f .n) strip)
-          (record { range = i; fit = h; depth = depth; lent = found .complete; room = room; symbols = found .symbols });
-      read = λ messages strip out ms found long j hj.
-          let w = lane (f .n) j (deinterleaved d (f .n) strip) in
-          let found-word = read-word c (f .m) (f .b) d ss b (two .written) (two .exactly) wear messages strip ms found j hj in
-          rw (
-            i,
-            h,
-            eqb-same (length w) (f .n) (found-word .complete),
-            eqb-same (length out) (messageLen f) long,
-            found-word .symbols,
-            law .reads messages strip ms found j hj,
-          );
+      some = ok .long;
+      room = ok .total;
+      placed = λ starts e h. rw (eqb-same (length starts) (f .m) e, h);
+      spoilt = λ starts x t. t;
     }
+
+bursts-b : (f : LongParams) → ServedB f → HasBursts (constructionB f) 1 (f .b)
+unfolding B.isPlacement
+bursts-b f ok =
+    record {
+      some = ok .range .b-least;
+      room = omega (arith, ok .short);
+      placed = λ starts e a. rw (eqb-same (length starts) 1 e, a);
+      spoilt = λ starts x t. t;
+    }
+
+pub lanes-read : LanesRead
+lanes-read (Ranked p) d ss i h wear =
+    let f = given p in
+    let two = demand-two f i h in
+    read-under (coding f) i h refl (bursts-a f (serve f i h)) (two .written) (two .exactly) d ss wear
+lanes-read (Long p) d ss i h wear =
+    let f = givenLong p in
+    let ok = serve-b f i h in
+    let two = demand-two-b f i h in
+    read-under (codingB f) i h (count-is f (omega (arith, ok .short))) (bursts-b f ok) (two .written) (two .exactly) d ss wear

@@ -1,5 +1,5 @@
 -- What the calls answer, test by test; what was laid side by side is taken apart again by them, and the other way round. Assumes nothing.
-use mathlib.Core.Path.{_≡_, sym, ap, _∙_}
+use mathlib.Core.Path.{_≡_, refl, sym, ap, _∙_}
 use mathlib.Core.Logic.{_≢_}
 use mathlib.Core.Bool.{Bool, true, false, _&&_}
 use mathlib.Core.List.{List, [], _∷_}
@@ -12,151 +12,194 @@ use Rattle.refusals.specs.Refusals.{must, served, invalid, unfit, wrongLength, 
 use Rattle.combinatorics.specs.Lists.{all, allBelow}
 use Rattle.combinatorics.proofs.Cases.{by-bool, eqb-same, eqb-other, eqb-true, leb-holds, leb-fails}
 use Rattle.combinatorics.proofs.Lists.{both, below-more}
+use Rattle.cells.specs.Erasures.{foundBound}
+use Rattle.cells.specs.Outcomes.{Coding, unserved, figuresUnder}
 use Rattle.cells.proofs.Erasures.{found-least}
-use Rattle.construction_a.specs.DemandTwo.{constructionA}
-use Rattle.construction_a.specs.Figures.{Params, inRange, fits}
-use Rattle.construction_a.specs.Outcomes.{unserved, figuresOut}
-use Rattle.construction_a.proofs.Figures.{le-of}
-use Rattle.construction_a.proofs.Outcomes.{refused-alike}
+use Rattle.cells.proofs.Outcomes.{refused-alike}
+use Rattle.params.specs.declared.Figures.{Figures}
+use Rattle.params.specs.declared.Figures.the-variants.{Ranked, Long}
+use Rattle.params.specs.declared.Layout.{Layout}
+use Rattle.params.specs.declared.Spells.{Spells}
+use Rattle.params.specs.declared.Spells.the-variants.{Rank, EndOffset}
+use Rattle.params.specs.Bridge.{codingOf}
+use Rattle.params.specs.Given.{figuresOf, codingWith, codingIn}
 use Rattle.lanes.specs.Interleaving.{inDepth, interleaved, deinterleaved}
-use Rattle.lanes.specs.Outcomes.{UndoEachOther, Rearranged, unfilled, rearranged, interleaveOut, deinterleaveOut}
+use Rattle.lanes.specs.Outcomes.{UndoEachOther, Rearranged, unfilled, rearranged, interleaveUnder, deinterleaveUnder}
 use Rattle.lanes.proofs.Interleaving.{length-transposed, transposed-below, apart-again, together-again}
 
 -- what passes every test, 1 2 18 3 4
-pub record Passes (f : Params) (d bound : ℕ) (from out : List ℕ) : Type 0 where
-  pub range : inRange f ≡ true
-  pub fit : fits f ≡ true
+pub record Passes (k : Coding) (d bound : ℕ) (from out : List ℕ) : Type 0 where
+  pub range : k .inRange ≡ true
+  pub fit : k .fits ≡ true
   pub depth : inDepth d ≡ true
-  pub lent : length from ≡ d * f .n
-  pub room : length out ≡ d * f .n
+  pub lent : length from ≡ d * k .codec .wordLen
+  pub room : length out ≡ d * k .codec .wordLen
   pub symbols : allBelow bound from ≡ true
 
-pub passes : (f : Params) (d bound : ℕ) (from out filled : List ℕ) → Passes f d bound from out
-    → rearranged f d bound from out filled ≡ record { answer = served; buffer = filled }
-passes f d bound from out filled p =
-    rw (p .range, p .fit, p .depth, eqb-same (length from) (d * f .n) (p .lent), eqb-same (length out) (d * f .n) (p .room), p .symbols)
+pub passes : (k : Coding) (d bound : ℕ) (from out filled : List ℕ) → Passes k d bound from out
+    → rearranged k d bound from out filled ≡ record { answer = served; buffer = filled }
+passes k d bound from out filled p =
+    rw (p .range, p .fit, p .depth, eqb-same (length from) (d * k .codec .wordLen) (p .lent), eqb-same (length out) (d * k .codec .wordLen) (p .room), p .symbols)
 
 refused : {P : Type 0} (r : Rearranged) (a : ℕ) (out : List ℕ) → r ≡ record { answer = suc a; buffer = out } → r .answer ≡ served → P
 refused r a out e h = absurd (let z : _≡_ {A = ℕ} (suc a) 0 = sym (ap (λ (x : Rearranged). x .answer) e) ∙ h in omega arith)
 
-pub passed : (f : Params) (d bound : ℕ) (from out filled : List ℕ) → rearranged f d bound from out filled .answer ≡ served → Passes f d bound from out
-passed f d bound from out filled h =
-    let r = rearranged f d bound from out filled in
-    by-bool (inRange f)
-    (λ i. by-bool (fits f)
+pub passed : (k : Coding) (d bound : ℕ) (from out filled : List ℕ) → rearranged k d bound from out filled .answer ≡ served → Passes k d bound from out
+passed k d bound from out filled h =
+    let r = rearranged k d bound from out filled in
+    by-bool (k .inRange)
+    (λ i. by-bool (k .fits)
     (λ j. by-bool (inDepth d)
-    (λ k. by-bool (eqb (length from) (d * f .n))
-    (λ l. by-bool (eqb (length out) (d * f .n))
+    (λ t. by-bool (eqb (length from) (d * k .codec .wordLen))
+    (λ l. by-bool (eqb (length out) (d * k .codec .wordLen))
     (λ m. by-bool (allBelow bound from)
-    (λ s. record { range = i; fit = j; depth = k; lent = eqb-true (length from) (d * f .n) l; room = eqb-true (length out) (d * f .n) m; symbols = s })
-    (λ s. refused r 3 out (rw (i, j, k, l, m, s)) h))
-    (λ m. refused r 2 out (rw (i, j, k, l, m)) h))
-    (λ l. refused r 2 out (rw (i, j, k, l)) h))
-    (λ k. refused r 17 out (rw (i, j, k)) h))
+    (λ s. record { range = i; fit = j; depth = t; lent = eqb-true (length from) (d * k .codec .wordLen) l; room = eqb-true (length out) (d * k .codec .wordLen) m; symbols = s })
+    (λ s. refused r 3 out (rw (i, j, t, l, m, s)) h))
+    (λ m. refused r 2 out (rw (i, j, t, l, m)) h))
+    (λ l. refused r 2 out (rw (i, j, t, l)) h))
+    (λ t. refused r 17 out (rw (i, j, t)) h))
     (λ j. refused r 1 out (rw (i, j)) h))
     (λ i. refused r 0 out (rw i) h)
 
 -- ---- As the code goes
 
-module _ (f : Params) (d bound : ℕ) (from out filled : List ℕ) where
+module _ (k : Coding) (d bound : ℕ) (from out filled : List ℕ) where
   -- 1 and 2, with the number that the figures have alone
-  pub unfit-alike : (a : ℕ) → figuresOut f ≡ unserved a → rearranged f d bound from out filled ≡ unfilled out a
+  pub unfit-alike : (a : ℕ) → figuresUnder k ≡ unserved a → rearranged k d bound from out filled ≡ unfilled out a
   unfit-alike a e =
-      refused-alike f a (unfilled out)
+      refused-alike k a (unfilled out)
       (must (inDepth d) (unfilled out badDepth)
-      (must (eqb (length from) (d * f .n) && eqb (length out) (d * f .n)) (unfilled out wrongLength)
+      (must (eqb (length from) (d * k .codec .wordLen) && eqb (length out) (d * k .codec .wordLen)) (unfilled out wrongLength)
       (must (allBelow bound from) (unfilled out badSymbol)
       (record { answer = served; buffer = filled })))) e
 
   -- "Every refusal returns its number only; output buffers .. keep their contents."
-  refusal-keeps : rearranged f d bound from out filled .answer ≢ served
-      → unfilled out (rearranged f d bound from out filled .answer) ≡ rearranged f d bound from out filled
+  refusal-keeps : rearranged k d bound from out filled .answer ≢ served
+      → unfilled out (rearranged k d bound from out filled .answer) ≡ rearranged k d bound from out filled
   refusal-keeps h =
-      by-bool (inRange f)
-      (λ i. by-bool (fits f)
+      by-bool (k .inRange)
+      (λ i. by-bool (k .fits)
       (λ j. by-bool (inDepth d)
-      (λ k. by-bool (eqb (length from) (d * f .n))
-      (λ l. by-bool (eqb (length out) (d * f .n))
+      (λ t. by-bool (eqb (length from) (d * k .codec .wordLen))
+      (λ l. by-bool (eqb (length out) (d * k .codec .wordLen))
       (λ m. by-bool (allBelow bound from)
-      (λ s. absurd (h (rw (i, j, k, l, m, s))))
-      (λ s. rw (i, j, k, l, m, s)))
-      (λ m. rw (i, j, k, l, m)))
-      (λ l. rw (i, j, k, l)))
-      (λ k. rw (i, j, k)))
+      (λ s. absurd (h (rw (i, j, t, l, m, s))))
+      (λ s. rw (i, j, t, l, m, s)))
+      (λ m. rw (i, j, t, l, m)))
+      (λ l. rw (i, j, t, l)))
+      (λ t. rw (i, j, t)))
       (λ j. rw (i, j)))
       (λ i. rw i)
 
   -- what a judgement says: the outcome of a refusal, or that every test is passed
-  module _ (r : ℕ) (judged : r ≡ rearranged f d bound from out filled .answer) where
-    pub judged-refused : r ≢ served → unfilled out r ≡ rearranged f d bound from out filled
+  module _ (r : ℕ) (judged : r ≡ rearranged k d bound from out filled .answer) where
+    pub judged-refused : r ≢ served → unfilled out r ≡ rearranged k d bound from out filled
     judged-refused h = ap (unfilled out) judged ∙ refusal-keeps (λ e. h (judged ∙ e))
 
-    pub judged-passed : r ≡ served → Passes f d bound from out
-    judged-passed e = passed f d bound from out filled (sym judged ∙ e)
+    pub judged-passed : r ≡ served → Passes k d bound from out
+    judged-passed e = passed k d bound from out filled (sym judged ∙ e)
 
-  -- 18 3 4, test by test, for figures that fit
-  module _ (range : inRange f ≡ true) (fit : fits f ≡ true) where
-    pub too-few : d < 1 → badDepth ≡ rearranged f d bound from out filled .answer
+  -- 18 3 4, test by test, for figures that fit and the n of their layout
+  module _ (range : k .inRange ≡ true) (fit : k .fits ≡ true) (n : ℕ) (word-is : n ≡ k .codec .wordLen) where
+    pub too-few : d < 1 → badDepth ≡ rearranged k d bound from out filled .answer
     too-few h = rw (range, fit, leb-fails 1 d h)
 
-    pub too-many : 1 ≤ d → 16 < d → badDepth ≡ rearranged f d bound from out filled .answer
+    pub too-many : 1 ≤ d → 16 < d → badDepth ≡ rearranged k d bound from out filled .answer
     too-many l h = rw (range, fit, leb-holds 1 d l, leb-fails d 16 h)
 
     module _ (least : 1 ≤ d) (most : d ≤ 16) where
-      pub words-length : length from ≢ d * f .n → wrongLength ≡ rearranged f d bound from out filled .answer
-      words-length h = rw (range, fit, leb-holds 1 d least, leb-holds d 16 most, eqb-other (length from) (d * f .n) h)
+      pub words-length : length from ≢ d * n → wrongLength ≡ rearranged k d bound from out filled .answer
+      words-length h = rw (range, fit, leb-holds 1 d least, leb-holds d 16 most, sym word-is, eqb-other (length from) (d * n) h)
 
-      pub room-length : length from ≡ d * f .n → length out ≢ d * f .n → wrongLength ≡ rearranged f d bound from out filled .answer
-      room-length e h = rw (range, fit, leb-holds 1 d least, leb-holds d 16 most, eqb-same (length from) (d * f .n) e, eqb-other (length out) (d * f .n) h)
+      pub room-length : length from ≡ d * n → length out ≢ d * n → wrongLength ≡ rearranged k d bound from out filled .answer
+      room-length e h =
+          rw (range, fit, leb-holds 1 d least, leb-holds d 16 most, sym word-is, eqb-same (length from) (d * n) e, eqb-other (length out) (d * n) h)
 
-      module _ (lent : length from ≡ d * f .n) (room : length out ≡ d * f .n) where
-        pub symbol-refused : allBelow bound from ≡ false → badSymbol ≡ rearranged f d bound from out filled .answer
+      module _ (lent : length from ≡ d * n) (room : length out ≡ d * n) where
+        pub symbol-refused : allBelow bound from ≡ false → badSymbol ≡ rearranged k d bound from out filled .answer
         symbol-refused h =
-            rw (range, fit, leb-holds 1 d least, leb-holds d 16 most, eqb-same (length from) (d * f .n) lent, eqb-same (length out) (d * f .n) room, h)
+            rw (range, fit, leb-holds 1 d least, leb-holds d 16 most, sym word-is, eqb-same (length from) (d * n) lent, eqb-same (length out) (d * n) room, h)
 
-        pub nothing-refused : allBelow bound from ≡ true → served ≡ rearranged f d bound from out filled .answer
+        pub nothing-refused : allBelow bound from ≡ true → served ≡ rearranged k d bound from out filled .answer
         nothing-refused h =
-            rw (range, fit, leb-holds 1 d least, leb-holds d 16 most, eqb-same (length from) (d * f .n) lent, eqb-same (length out) (d * f .n) room, h)
+            rw (range, fit, leb-holds 1 d least, leb-holds d 16 most, sym word-is, eqb-same (length from) (d * n) lent, eqb-same (length out) (d * n) room, h)
+
+-- ---- By the layout's own numbers, whichever construction laid it out
+
+module _ (l : Layout) (d : ℕ) where
+  pub length-in : d * codingIn l .codec .wordLen ≡ d * l .n
+  length-in = go (l .spells)
+    where
+      go : (s : Spells) → d * codingWith s (figuresOf l) .codec .wordLen ≡ d * l .n
+      go Rank = refl
+      go EndOffset = refl
+
+  pub interleave-in : (words out : List ℕ) → interleaveUnder (codingIn l) d words out ≡ rearranged (codingIn l) d (l .q) words out (interleaved d (l .n) words)
+  interleave-in words out = go (l .spells)
+    where
+      go : (s : Spells) → let k = codingWith s (figuresOf l) in interleaveUnder k d words out ≡ rearranged k d (l .q) words out (interleaved d (l .n) words)
+      go Rank = refl
+      go EndOffset = refl
+
+  pub deinterleave-in : (strip out : List ℕ)
+      → deinterleaveUnder (codingIn l) d strip out ≡ rearranged (codingIn l) d (foundBound (l .q)) strip out (deinterleaved d (l .n) strip)
+  deinterleave-in strip out = go (l .spells)
+    where
+      go : (s : Spells) → let k = codingWith s (figuresOf l) in
+          deinterleaveUnder k d strip out ≡ rearranged k d (foundBound (l .q)) strip out (deinterleaved d (l .n) strip)
+      go Rank = refl
+      go EndOffset = refl
 
 -- ---- Each other's inverse
 
+-- a symbol can be found, in whichever construction
+found-more : (f : Figures) → codingOf f .codec .alphabet ≤ codingOf f .codec .foundBound
+found-more (Ranked p) = found-least (p .q)
+found-more (Long p) = found-least (p .q)
+
 -- "the rearrangement and its inverse over two lent buffers"
-pub apart-back : (f : Params) (d : ℕ) (words strip out : List ℕ) → interleaveOut f d words strip .answer ≡ served → length out ≡ d * f .n
-    → deinterleaveOut f d (interleaveOut f d words strip .buffer) out ≡ record { answer = served; buffer = words }
-unfolding interleaveOut deinterleaveOut
+pub apart-back : (f : Figures) (d : ℕ) (words strip out : List ℕ) → interleaveUnder (codingOf f) d words strip .answer ≡ served
+    → length out ≡ d * codingOf f .codec .wordLen
+    → deinterleaveUnder (codingOf f) d (interleaveUnder (codingOf f) d words strip .buffer) out ≡ record { answer = served; buffer = words }
 apart-back f d words strip out h l =
-    let p = passed f d (f .q) words strip (interleaved d (f .n) words) h in
-    let laid = interleaved d (f .n) words in
-    rw (passes f d (f .q) words strip laid p)
-    (passes f d (constructionA f .foundBound) laid out (deinterleaved d (f .n) laid)
+    let k = codingOf f in
+    let n = k .codec .wordLen in
+    let q = k .codec .alphabet in
+    let laid = interleaved d n words in
+    let p = passed k d q words strip laid h in
+    rw (passes k d q words strip laid p)
+    (passes k d (k .codec .foundBound) laid out (deinterleaved d n laid)
     (record {
       range = p .range;
       fit = p .fit;
       depth = p .depth;
-      lent = length-transposed d (f .n) words;
+      lent = length-transposed d n words;
       room = l;
-      symbols = below-more (f .q) (constructionA f .foundBound) laid (found-least (f .q)) (transposed-below (f .q) d (f .n) words (p .lent) (p .symbols));
+      symbols = below-more q (k .codec .foundBound) laid (found-more f) (transposed-below q d n words (p .lent) (p .symbols));
     })
-    ∙ ap (λ (x : List ℕ). record { answer = served; buffer = x }) (apart-again d (f .n) words (p .lent)))
+    ∙ ap (λ (x : List ℕ). record { answer = served; buffer = x }) (apart-again d n words (p .lent)))
 
 -- of found symbols only those of the alphabet are laid side by side again
-pub together-back : (f : Params) (d : ℕ) (strip words out : List ℕ) → deinterleaveOut f d strip words .answer ≡ served → allBelow (f .q) strip ≡ true
-    → length out ≡ d * f .n → interleaveOut f d (deinterleaveOut f d strip words .buffer) out ≡ record { answer = served; buffer = strip }
-unfolding interleaveOut deinterleaveOut
+pub together-back : (f : Figures) (d : ℕ) (strip words out : List ℕ) → deinterleaveUnder (codingOf f) d strip words .answer ≡ served
+    → allBelow (codingOf f .codec .alphabet) strip ≡ true → length out ≡ d * codingOf f .codec .wordLen
+    → interleaveUnder (codingOf f) d (deinterleaveUnder (codingOf f) d strip words .buffer) out ≡ record { answer = served; buffer = strip }
 together-back f d strip words out h s l =
-    let p = passed f d (constructionA f .foundBound) strip words (deinterleaved d (f .n) strip) h in
-    let taken = deinterleaved d (f .n) strip in
-    rw (passes f d (constructionA f .foundBound) strip words taken p)
-    (passes f d (f .q) taken out (interleaved d (f .n) taken)
+    let k = codingOf f in
+    let n = k .codec .wordLen in
+    let q = k .codec .alphabet in
+    let taken = deinterleaved d n strip in
+    let p = passed k d (k .codec .foundBound) strip words taken h in
+    rw (passes k d (k .codec .foundBound) strip words taken p)
+    (passes k d q taken out (interleaved d n taken)
     (record {
       range = p .range;
       fit = p .fit;
       depth = p .depth;
-      lent = length-transposed (f .n) d strip ∙ mul-comm (f .n) d;
+      lent = length-transposed n d strip ∙ mul-comm n d;
       room = l;
-      symbols = transposed-below (f .q) (f .n) d strip (p .lent ∙ mul-comm d (f .n)) s;
+      symbols = transposed-below q n d strip (p .lent ∙ mul-comm d n) s;
     })
-    ∙ ap (λ (x : List ℕ). record { answer = served; buffer = x }) (together-again d (f .n) strip (p .lent)))
+    ∙ ap (λ (x : List ℕ). record { answer = served; buffer = x }) (together-again d n strip (p .lent)))
 
 pub inverse : UndoEachOther
 inverse = record { words-back = apart-again; strip-back = together-again; taken-apart = apart-back; laid-again = together-back }

@@ -11,11 +11,11 @@ use Rattle.combinatorics.specs.Bursts.{apart, inBurst, placements, startsOf, co
 use Rattle.combinatorics.specs.Lists.{all, any, allBelow}
 use Rattle.combinatorics.specs.Stretch.{bit, tabulate, stretch}
 use Rattle.cells.specs.Codec.{Codec, accepted, Word, WritesWords, Exact}
-use Rattle.construction_a.specs.DemandTwo.{constructionA}
-use Rattle.construction_a.specs.Figures.{Params, inRange, fits, messageLen}
-use Rattle.construction_a.specs.Outcomes.{worn, held, coverOut, decodeAs, decodeOut}
+use Rattle.cells.specs.Outcomes.{Coding, held, worn, coverUnder, decodedFrom, decodeUnder}
+use Rattle.params.specs.declared.Figures.{Figures}
+use Rattle.params.specs.Bridge.{codingOf}
 use Rattle.lanes.specs.Interleaving.{inDepth, interleaved, deinterleaved, lane}
-use Rattle.lanes.specs.Outcomes.{interleaveOut, deinterleaveOut}
+use Rattle.lanes.specs.Outcomes.{interleaveUnder, deinterleaveUnder}
 
 -- ---- Wear
 
@@ -89,20 +89,25 @@ module _ (c : Codec) (m b d : ℕ) (ss : List Wear) where
 abbrev pub LawOfLanes : Type 0
 LawOfLanes = (c : Codec) (m b d : ℕ) (ss : List Wear) → HasBursts c m b → WritesWords c → Exact c → Worn m b d ss → LanesHold c m b d ss
 
--- ---- Under Construction A: what each call answers
+-- ---- Under the figures of either construction: what each call answers
 
-pub record LanesRead (f : Params) (d : ℕ) (ss : List Wear) : Type 0 where
-  pub covered : (j : ℕ) → j < d → coverOut f (wordMap d (f .n) ss j)
-      ≡ record { answer = served; placement = held (coverAt (constructionA f) (f .m) (f .b) d ss j) }
-  pub laid : (messages : ℕ → List ℕ) (out : List ℕ) → Messages (constructionA f) d messages → inDepth d ≡ true → length out ≡ d * f .n
-      → interleaveOut f d (writtenWords (constructionA f) (f .m) (f .b) d ss messages) out
-      ≡ record { answer = served; buffer = writtenStrip (constructionA f) (f .m) (f .b) d ss messages }
-  pub taken : (messages : ℕ → List ℕ) (strip out : List ℕ) → FoundStrip (constructionA f) (f .m) (f .b) d ss messages strip → inDepth d ≡ true
-      → length out ≡ d * f .n → deinterleaveOut f d strip out ≡ record { answer = served; buffer = deinterleaved d (f .n) strip }
-  pub read : (messages : ℕ → List ℕ) (strip out : List ℕ) → Messages (constructionA f) d messages
-      → FoundStrip (constructionA f) (f .m) (f .b) d ss messages strip → length out ≡ messageLen f
-      → (j : ℕ) → j < d → decodeOut f (lane (f .n) j (deinterleaved d (f .n) strip)) out
-      ≡ decodeAs f out (accepted (coverAt (constructionA f) (f .m) (f .b) d ss j) (messages j))
+module _ (k : Coding) (d : ℕ) (ss : List Wear) where
+  abbrev pub coverIn : ℕ → List ℕ
+  coverIn j = coverAt (k .codec) (k .bursts) (k .burstLen) d ss j
 
-abbrev pub LanesReadA : Type 0
-LanesReadA = (f : Params) (d : ℕ) (ss : List Wear) → inRange f ≡ true → fits f ≡ true → Worn (f .m) (f .b) d ss → LanesRead f d ss
+  pub record LanesReadUnder : Type 0 where
+    pub covered : (j : ℕ) → j < d → coverUnder k (wordMap d (k .codec .wordLen) ss j) ≡ record { answer = served; placement = held (coverIn j) }
+    pub laid : (messages : ℕ → List ℕ) (out : List ℕ) → Messages (k .codec) d messages → inDepth d ≡ true → length out ≡ d * k .codec .wordLen
+        → interleaveUnder k d (writtenWords (k .codec) (k .bursts) (k .burstLen) d ss messages) out
+        ≡ record { answer = served; buffer = writtenStrip (k .codec) (k .bursts) (k .burstLen) d ss messages }
+    pub taken : (messages : ℕ → List ℕ) (strip out : List ℕ) → FoundStrip (k .codec) (k .bursts) (k .burstLen) d ss messages strip → inDepth d ≡ true
+        → length out ≡ d * k .codec .wordLen
+        → deinterleaveUnder k d strip out ≡ record { answer = served; buffer = deinterleaved d (k .codec .wordLen) strip }
+    pub read : (messages : ℕ → List ℕ) (strip out : List ℕ) → Messages (k .codec) d messages
+        → FoundStrip (k .codec) (k .bursts) (k .burstLen) d ss messages strip → length out ≡ k .codec .messageLen
+        → (j : ℕ) → j < d → decodeUnder k (lane (k .codec .wordLen) j (deinterleaved d (k .codec .wordLen) strip)) out
+        ≡ decodedFrom (k .burstLen) out (accepted (coverIn j) (messages j))
+
+abbrev pub LanesRead : Type 0
+LanesRead = (f : Figures) (d : ℕ) (ss : List Wear) → codingOf f .inRange ≡ true → codingOf f .fits ≡ true
+    → Worn (codingOf f .bursts) (codingOf f .burstLen) d ss → LanesReadUnder (codingOf f) d ss

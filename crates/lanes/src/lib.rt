@@ -3,12 +3,12 @@ ghost use mathlib.Core.Path.{_≡_};
 ghost use mathlib.Core.List.{List};
 ghost use Prim.Native.Nat.{ℕ};
 ghost use lib.ListN.{length};
-ghost use Rattle.params.specs.Bridge.{given};
-ghost use Rattle.params.specs.Given.{figuresOf, Fitting};
-ghost use Rattle.lanes.specs.Outcomes.{unfilled, rearranged, interleaveOut, deinterleaveOut};
+ghost use Rattle.params.specs.Bridge.{codingOf};
+ghost use Rattle.params.specs.Given.{codingIn, Serves};
+ghost use Rattle.lanes.specs.Outcomes.{unfilled, rearranged, interleaveUnder, deinterleaveUnder};
+use params::Figures;
 use params::Layout;
 use params::LayoutAnswer;
-use params::Params;
 use refusals::Refusal;
 
 mod tile;
@@ -20,10 +20,10 @@ pub const MIN_DEPTH: u32 = 1;
 pub const MAX_DEPTH: u32 = 16;
 
 // Words to the strip: `depth` words of n symbols, one after another, so that strip cell t holds symbol t / depth of word t mod depth. Refusals: 1 2 18 3 4.
-pub fn interleave(figures: Params, depth: u32, words: &[u8], strip: &mut [u8]) -> u8
-    ensures { λ r. ⌜ unfilled (now (strip .exit)) r ≡ interleaveOut (given figures) depth (now (words .entry)) (now (strip .entry)) ⌝ }
+pub fn interleave(figures: Figures, depth: u32, words: &[u8], strip: &mut [u8]) -> u8
+    ensures { λ r. ⌜ unfilled (now (strip .exit)) r ≡ interleaveUnder (codingOf figures) depth (now (words .entry)) (now (strip .entry)) ⌝ }
 {
-    let answer = Params::figures(figures.n, figures.q, figures.m, figures.b);
+    let answer = figures.layout();
     match answer {
         LayoutAnswer::Refused(number) => number,
         LayoutAnswer::Fit(layout) => interleave_fitting(layout, depth, words, strip),
@@ -32,8 +32,8 @@ pub fn interleave(figures: Params, depth: u32, words: &[u8], strip: &mut [u8]) -
 
 // The same for figures that fit. Refusals: 18 3 4.
 fn interleave_fitting(layout: Layout, depth: u32, words: &[u8], strip: &mut [u8]) -> u8
-    requires { ⌜ Fitting layout ⌝ }
-    ensures { λ r. ⌜ unfilled (now (strip .exit)) r ≡ interleaveOut (figuresOf layout) depth (now (words .entry)) (now (strip .entry)) ⌝ }
+    requires { ⌜ Serves layout ⌝ }
+    ensures { λ r. ⌜ unfilled (now (strip .exit)) r ≡ interleaveUnder (codingIn layout) depth (now (words .entry)) (now (strip .entry)) ⌝ }
 {
     let refusal = judged(layout, depth, layout.q, words, strip.len());
     if refusal != Refusal::NONE {
@@ -44,10 +44,10 @@ fn interleave_fitting(layout: Layout, depth: u32, words: &[u8], strip: &mut [u8]
 }
 
 // The strip to words: the same the other way round, of found symbols, which may be q. Refusals: 1 2 18 3 4.
-pub fn deinterleave(figures: Params, depth: u32, strip: &[u8], words: &mut [u8]) -> u8
-    ensures { λ r. ⌜ unfilled (now (words .exit)) r ≡ deinterleaveOut (given figures) depth (now (strip .entry)) (now (words .entry)) ⌝ }
+pub fn deinterleave(figures: Figures, depth: u32, strip: &[u8], words: &mut [u8]) -> u8
+    ensures { λ r. ⌜ unfilled (now (words .exit)) r ≡ deinterleaveUnder (codingOf figures) depth (now (strip .entry)) (now (words .entry)) ⌝ }
 {
-    let answer = Params::figures(figures.n, figures.q, figures.m, figures.b);
+    let answer = figures.layout();
     match answer {
         LayoutAnswer::Refused(number) => number,
         LayoutAnswer::Fit(layout) => deinterleave_fitting(layout, depth, strip, words),
@@ -56,8 +56,8 @@ pub fn deinterleave(figures: Params, depth: u32, strip: &[u8], words: &mut [u8])
 
 // The same for figures that fit. Refusals: 18 3 4.
 fn deinterleave_fitting(layout: Layout, depth: u32, strip: &[u8], words: &mut [u8]) -> u8
-    requires { ⌜ Fitting layout ⌝ }
-    ensures { λ r. ⌜ unfilled (now (words .exit)) r ≡ deinterleaveOut (figuresOf layout) depth (now (strip .entry)) (now (words .entry)) ⌝ }
+    requires { ⌜ Serves layout ⌝ }
+    ensures { λ r. ⌜ unfilled (now (words .exit)) r ≡ deinterleaveUnder (codingIn layout) depth (now (strip .entry)) (now (words .entry)) ⌝ }
 {
     let refusal = judged(layout, depth, layout.found_bound(), strip, words.len());
     if refusal != Refusal::NONE {
@@ -69,8 +69,8 @@ fn deinterleave_fitting(layout: Layout, depth: u32, strip: &[u8], words: &mut [u
 
 // What a depth, a lent buffer whose symbols are to be below a bound, and the room of the other are refused with: 18 3 4, or 0.
 fn judged(layout: Layout, depth: u32, bound: u64, from: &[u8], room: usize) -> u8
-    requires { ⌜ Fitting layout ⌝ }
-    ensures { λ r. ⌜ ((out filled : List ℕ) → length out ≡ room → r ≡ rearranged (figuresOf layout) depth bound (now (from .entry)) out filled .answer) ⌝ }
+    requires { ⌜ Serves layout ⌝ }
+    ensures { λ r. ⌜ ((out filled : List ℕ) → length out ≡ room → r ≡ rearranged (codingIn layout) depth bound (now (from .entry)) out filled .answer) ⌝ }
 {
     if depth < MIN_DEPTH {
         return Refusal::DEPTH;

@@ -9,20 +9,21 @@ use borrow.Author.Tests.{leb-true}
 use lib.Dec.{eqb}
 use lib.ListN.{length}
 use Rattle.refusals.specs.Refusals.{must, served, wrongLength}
-use Rattle.combinatorics.specs.Bursts.{coverRank}
+use Rattle.combinatorics.specs.Bursts.{placements, startsOf, coverRank}
 use Rattle.combinatorics.specs.Lists.{allBelow}
 use Rattle.combinatorics.proofs.Cases.{by-eq, by-bool, eqb-same, eqb-other, leb-holds, leb-fails}
-use Rattle.construction_a.specs.Figures.{Params, maxBursts, inRange, fits, placementCount}
-use Rattle.construction_a.specs.Outcomes.{held, inUse, worn, unserved, figuresOut, Covered, unplaced, coverOut}
-use Rattle.construction_a.specs.Writing.{placementOf}
-use Rattle.construction_a.proofs.Figures.{serve, placed-starts}
-use Rattle.construction_a.proofs.Outcomes.{refused-alike}
-use Rattle.construction_a.proofs.Ranking.{rank-bijection}
+use Rattle.combinatorics.proofs.Bursts.{rank-of-starts}
+use Rattle.cells.specs.Outcomes.{Coding, held, inUse, worn, unserved, figuresUnder, Covered, unplaced, coverUnder}
+use Rattle.cells.proofs.Outcomes.{refused-alike}
+use Rattle.construction_a.specs.Figures.{maxBursts}
+use Rattle.params.specs.declared.Layout.{Layout}
+use Rattle.params.specs.Given.{codingIn, Serves}
+use Rattle.params.proofs.Either.{in-order, numbers-in}
 use Rattle.placements.specs.Bridge.{coverable}
-use Rattle.placements.proofs.Calls.{cover-length, cover-symbol, cover-none, cover-some}
+use Rattle.placements.proofs.Calls.{room-in, cover-length, cover-symbol, cover-none, cover-some}
 use Rattle.decoder.specs.Exported.{startBytes}
 use Rattle.lent.specs.Starts.{startsFrom, placementFrom}
-use Rattle.lent.specs.Covering.{covers, coveredAs, coverBytesOut}
+use Rattle.lent.specs.Covering.{covers, coveredAs, coverBytesUnder}
 
 -- ---- The placement that is given
 
@@ -38,52 +39,52 @@ module _ (m : ℕ) (bytes : List ℕ) where
 
 -- ---- "covering 1 2 3 4 6"
 
-module _ (f : Params) (map bytes : List ℕ) where
-  -- 1 and 2, with the number that the figures have alone
-  pub cover-bytes-unfit : (a : ℕ) → figuresOut f ≡ unserved a → coverBytesOut f map bytes ≡ covers a bytes
-  unfolding coverBytesOut
-  cover-bytes-unfit a e =
-      refused-alike f a (λ x. covers x bytes)
-      (must (eqb (length bytes) (2 * f .m)) (covers wrongLength bytes)
-      (coveredAs bytes (coverOut f map))) e
-
-  module _ (range : inRange f ≡ true) (fit : fits f ≡ true) where
-    -- 3, for the starts
-    pub cover-bytes-length : length bytes ≢ 2 * f .m → coverBytesOut f map bytes ≡ covers wrongLength bytes
-    unfolding coverBytesOut
-    cover-bytes-length size = rw (range, fit, eqb-other (length bytes) (2 * f .m) size)
-
-    module _ (size : length bytes ≡ 2 * f .m) where
-      as-covered : coverBytesOut f map bytes ≡ coveredAs bytes (coverOut f map)
-      unfolding coverBytesOut
-      as-covered = rw (range, fit, eqb-same (length bytes) (2 * f .m) size)
-
-      -- 3, 4 and 6 of the map
-      pub cover-bytes-refused : (c : Covered) → c ≡ coverOut f map → c .answer ≢ served → covers (c .answer) bytes ≡ coverBytesOut f map bytes
-      cover-bytes-refused c e a = sym (as-covered ∙ ap (coveredAs bytes) (sym e) ∙ rw (eqb-other (c .answer) served a))
-
-      pub cover-bytes-served : (c : Covered) → c ≡ coverOut f map → c .answer ≡ served → covers served (startBytes (inUse (c .placement))) ≡ coverBytesOut f map bytes
-      cover-bytes-served c e a = sym (as-covered ∙ ap (coveredAs bytes) (sym e) ∙ rw (eqb-same (c .answer) served a))
+-- 1 and 2, with the number that the figures have alone
+pub cover-bytes-unfit : (d : Coding) (map bytes : List ℕ) (a : ℕ) → figuresUnder d ≡ unserved a → coverBytesUnder d map bytes ≡ covers a bytes
+cover-bytes-unfit d map bytes a e =
+    refused-alike d a (λ x. covers x bytes)
+    (must (eqb (length bytes) (2 * d .bursts)) (covers wrongLength bytes)
+    (coveredAs bytes (coverUnder d map))) e
 
 -- a map that is not refused has a placement of m starts
 refused-not : {P : Type 0} (c : Covered) (a : ℕ) → c ≡ unplaced (suc a) → c .answer ≡ served → P
 refused-not c a e r = absurd (let x : suc a ≡ served = sym (ap (λ (c : Covered). c .answer) e) ∙ r in omega arith)
 
-pub covered-count : (f : Params) (map : List ℕ) → inRange f ≡ true → fits f ≡ true → coverOut f map .answer ≡ served → coverOut f map .placement .count ≡ f .m
-covered-count f map range fit r =
-    by-eq (length map) (f .n) (λ _. c .placement .count ≡ f .m)
+module _ (l : Layout) (g : Serves l) (map bytes : List ℕ) where
+  -- 3, for the starts
+  pub cover-bytes-length : length bytes ≢ 2 * l .m → coverBytesUnder (codingIn l) map bytes ≡ covers wrongLength bytes
+  cover-bytes-length size =
+      let order = in-order l g in
+      rw (order .0, order .1, sym (numbers-in l g .bursts-is), eqb-other (length bytes) (2 * l .m) size)
+
+  module _ (size : length bytes ≡ 2 * l .m) where
+    as-covered : coverBytesUnder (codingIn l) map bytes ≡ coveredAs bytes (coverUnder (codingIn l) map)
+    as-covered =
+        let order = in-order l g in
+        rw (order .0, order .1, sym (numbers-in l g .bursts-is), eqb-same (length bytes) (2 * l .m) size)
+
+    -- 3, 4 and 6 of the map
+    pub cover-bytes-refused : (c : Covered) → c ≡ coverUnder (codingIn l) map → c .answer ≢ served → covers (c .answer) bytes ≡ coverBytesUnder (codingIn l) map bytes
+    cover-bytes-refused c e a = sym (as-covered ∙ ap (coveredAs bytes) (sym e) ∙ rw (eqb-other (c .answer) served a))
+
+    pub cover-bytes-served : (c : Covered) → c ≡ coverUnder (codingIn l) map → c .answer ≡ served
+        → covers served (startBytes (inUse (c .placement))) ≡ coverBytesUnder (codingIn l) map bytes
+    cover-bytes-served c e a = sym (as-covered ∙ ap (coveredAs bytes) (sym e) ∙ rw (eqb-same (c .answer) served a))
+
+pub covered-count : (l : Layout) → Serves l → (map : List ℕ) (c : Covered) → c ≡ coverUnder (codingIn l) map → c .answer ≡ served → c .placement .count ≡ l .m
+covered-count l g map c is r =
+    by-eq (length map) (l .n) (λ _. c .placement .count ≡ l .m)
     (λ size. by-bool (allBelow 2 map)
-    (λ low. by-bool (coverable (f .n) (f .m) (f .b) map)
-    (λ some. ap (λ (c : Covered). c .placement .count) (cover-some f map range fit size low some) ∙ rw some (count some))
-    (λ none. refused-not c 5 (cover-none f map range fit size low none) r))
-    (λ high. refused-not c 3 (cover-symbol f map range fit size high) r))
-    (λ other. refused-not c 2 (cover-length f map range fit other) r)
+    (λ low. by-bool (coverable (l .n) (l .m) (l .b) map)
+    (λ some. ap (λ (c : Covered). c .placement .count) (is ∙ cover-some l g map size low some) ∙ rw some (count some))
+    (λ none. refused-not c 5 (is ∙ cover-none l g map size low none) r))
+    (λ high. refused-not c 3 (is ∙ cover-symbol l g map size high) r))
+    (λ other. refused-not c 2 (is ∙ cover-length l g map other) r)
   where
-    c : Covered
-    c = coverOut f map
-
     v : ℕ
-    v = coverRank (f .n) (f .m) (f .b) (worn map)
+    v = coverRank (l .n) (l .m) (l .b) (worn map)
 
-    count : coverable (f .n) (f .m) (f .b) map ≡ true → length (placementOf f v) ≡ f .m
-    count some = placed-starts f (placementOf f v) (rank-bijection f (serve f range fit) .placed v (leb-true (suc v) (placementCount f) some)) .1
+    count : coverable (l .n) (l .m) (l .b) map ≡ true → length (startsOf (l .n) (l .m) (l .b) v) ≡ l .m
+    count some =
+        let room = room-in l g in
+        rank-of-starts (l .n) (l .m) (l .b) (room .some) (room .within) v (leb-true (suc v) (placements (l .n) (l .m) (l .b)) some) .count

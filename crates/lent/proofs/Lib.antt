@@ -3,3 +3,5 @@ pub mod Covering
 pub mod TableLaws
 pub mod TableBack
 pub mod WithTable
+pub mod WordLaws
+pub mod JobLaws

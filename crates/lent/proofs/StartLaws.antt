@@ -1,8 +1,8 @@
--- Laws of starts in bytes: written and read back they are the same, and how a loop reads them. Assumes nothing.
+-- Laws of starts in bytes: written and read back they are the same, and how a loop reads them; and how many there are. Assumes nothing.
 use mathlib.Core.Path.{_≡_, refl, sym, ap, _∙_}
 use mathlib.Core.Bool.{true, _&&_}
 use mathlib.Core.List.{List, [], _∷_, _++_}
-use Prim.Native.Nat.{ℕ, zero, suc, _+_, _-_, _*_, _/_, _%_, _<_}
+use Prim.Native.Nat.{ℕ, zero, suc, _+_, _-_, _*_, _/_, _%_, _≤_, _<_}
 use native.Mathlib.Numerals.{add-one}
 use native.Mathlib.Omega.{arith}
 use borrow.Author.Tests.{leb-true}
@@ -14,6 +14,10 @@ use Rattle.combinatorics.proofs.Lists.{both}
 use Rattle.cells.specs.Bytes.{byteValues}
 use Rattle.construction_a.specs.Figures.{maxBursts}
 use Rattle.construction_a.specs.Outcomes.{held}
+use Rattle.construction_a.proofs.Figures.{ranged}
+use Rattle.params.specs.declared.Figures.{Figures}
+use Rattle.params.specs.declared.Figures.the-variants.{Ranked, Long}
+use Rattle.params.specs.Bridge.{given, codingOf}
 use Rattle.decoder.specs.Exported.{startBytes}
 use Rattle.lent.specs.Starts.{startsFrom}
 
@@ -76,3 +80,9 @@ begun-next ss j h k =
 
 pub begun-all : (ss : List ℕ) (m : ℕ) → length ss ≡ m → record { starts = begun ss m; count = m } ≡ held ss
 begun-all ss m e = rw (e, take-all m ss (omega arith))
+
+-- ---- How many: figures in range have a burst, and no more than a placement holds
+
+pub some-bursts : (f : Figures) → codingOf f .inRange ≡ true → (1 ≤ codingOf f .bursts) × (codingOf f .bursts ≤ maxBursts)
+some-bursts (Ranked p) i = let r = ranged (given p) i in (r .m-least, r .m-most)
+some-bursts (Long p) i = (omega arith, omega arith)

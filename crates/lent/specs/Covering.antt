@@ -4,8 +4,9 @@ use Prim.Native.Nat.{ℕ, _*_}
 use lib.Dec.{eqb}
 use lib.ListN.{length}
 use Rattle.refusals.specs.Refusals.{must, served, invalid, unfit, wrongLength}
-use Rattle.construction_a.specs.Figures.{Params, inRange, fits}
-use Rattle.construction_a.specs.Outcomes.{inUse, Covered, coverOut}
+use Rattle.cells.specs.Outcomes.{Coding, inUse, Covered, coverUnder}
+use Rattle.construction_a.specs.Figures.{Params}
+use Rattle.construction_a.specs.Outcomes.{coding}
 use Rattle.decoder.specs.Exported.{startBytes}
 
 -- "covering 1 2 3 4 6", where 3 stands for the buffer of starts too
@@ -21,9 +22,13 @@ covers a bytes = record { answer = a; starts = bytes }
 abbrev pub coveredAs : List ℕ → Covered → CoverLent
 coveredAs bytes c = must (eqb (c .answer) served) (covers (c .answer) bytes) (covers served (startBytes (inUse (c .placement))))
 
+abbrev pub coverBytesUnder : Coding → List ℕ → List ℕ → CoverLent
+coverBytesUnder d map bytes =
+    must (d .inRange) (covers invalid bytes)
+    (must (d .fits) (covers unfit bytes)
+    (must (eqb (length bytes) (2 * d .bursts)) (covers wrongLength bytes)
+    (coveredAs bytes (coverUnder d map))))
+
+-- of Construction A
 unfoldable pub coverBytesOut : Params → List ℕ → List ℕ → CoverLent
-coverBytesOut f map bytes =
-    must (inRange f) (covers invalid bytes)
-    (must (fits f) (covers unfit bytes)
-    (must (eqb (length bytes) (2 * f .m)) (covers wrongLength bytes)
-    (coveredAs bytes (coverOut f map))))
+coverBytesOut f = coverBytesUnder (coding f)

@@ -1,4 +1,5 @@
 pub mod Starts
 pub mod Covering
+pub mod Words
 pub mod Table
 pub mod Jobs

@@ -1,12 +1,14 @@
 // Starts as bytes: the placement that a caller gives, and the one that covering answers. Inner functions. Assumes nothing.
 ghost use mathlib.Core.Path.{_≡_};
-ghost use mathlib.Core.Bool.{true};
-ghost use Rattle.construction_a.specs.Figures.{inRange, fits};
-ghost use Rattle.params.specs.Bridge.{given};
+ghost use Rattle.params.specs.Bridge.{codingOf};
+ghost use Rattle.params.specs.Given.{codingIn, Serves};
 ghost use Rattle.placements.specs.Bridge.{heldAs};
 ghost use Rattle.lent.specs.Starts.{placementFrom};
-ghost use Rattle.lent.specs.Covering.{covers, coverBytesOut};
+ghost use Rattle.lent.specs.Covering.{covers, coverBytesUnder};
 use decoder::starts;
+use params::Figures;
+use params::Layout;
+use params::LayoutAnswer;
 use params::Params;
 use params::bytes::BYTE_VALUES;
 use placements::Placement;
@@ -34,15 +36,36 @@ pub fn placement_from(bytes: &[u8], m: u32) -> Placement
     found
 }
 
-// Covering for figures that fit, with the placement as bytes. Refusals: 3 4 6.
-pub fn cover_bytes(figures: Params, map: &[u8], bytes: &mut [u8]) -> u8
-    requires { ⌜ (inRange (given figures) ≡ true) × (fits (given figures) ≡ true) ⌝ }
-    ensures { λ r. ⌜ covers r (now (bytes .exit)) ≡ coverBytesOut (given figures) (now (map .entry)) (now (bytes .entry)) ⌝ }
+// The placement of as many starts as the figures have bursts: Construction B has one.
+pub fn placement_under(figures: Figures, bytes: &[u8]) -> Placement
+    ensures { λ r. ⌜ heldAs r ≡ placementFrom (codingOf figures .bursts) (now (bytes .entry)) ⌝ }
 {
-    if bytes.len() != 2 * figures.m as usize {
+    match figures {
+        Figures::Ranked(p) => placement_from(bytes, p.m),
+        Figures::Long(_) => placement_from(bytes, 1),
+    }
+}
+
+// Covering, with the placement as bytes. Refusals: 1 2 3 4 6.
+pub fn cover_bytes(figures: Figures, map: &[u8], bytes: &mut [u8]) -> u8
+    ensures { λ r. ⌜ covers r (now (bytes .exit)) ≡ coverBytesUnder (codingOf figures) (now (map .entry)) (now (bytes .entry)) ⌝ }
+{
+    let answer = figures.layout();
+    match answer {
+        LayoutAnswer::Refused(number) => number,
+        LayoutAnswer::Fit(layout) => cover_laid(layout, map, bytes),
+    }
+}
+
+// The same for figures that fit. Refusals: 3 4 6.
+fn cover_laid(layout: Layout, map: &[u8], bytes: &mut [u8]) -> u8
+    requires { ⌜ Serves layout ⌝ }
+    ensures { λ r. ⌜ covers r (now (bytes .exit)) ≡ coverBytesUnder (codingIn layout) (now (map .entry)) (now (bytes .entry)) ⌝ }
+{
+    if bytes.len() != 2 * layout.m {
         return Refusal::LENGTH;
     }
-    let found = placements::cover(figures, map);
+    let found = placements::cover_fitting(layout, map);
     if found.answer != Refusal::NONE {
         return found.answer;
     }

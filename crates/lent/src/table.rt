@@ -2,15 +2,15 @@
 ghost use mathlib.Core.Path.{_≡_};
 ghost use lib.ListN.{length};
 ghost use Rattle.jobs.specs.Slots.{entries};
-ghost use Rattle.params.specs.Bridge.{given};
+ghost use Rattle.params.specs.Bridge.{codingOf};
 ghost use Rattle.lent.specs.Jobs.{withoutTable};
 ghost use Rattle.lent.specs.Table.{slotLen, tableLen, entryOf, cancelledState, statesKnown, tableIn, slotBytes, entryBytes, tableBytes};
 use jobs::Before;
 use jobs::Entry;
 use jobs::JobTable;
 use jobs::Slot;
+use params::Figures;
 use params::LayoutAnswer;
-use params::Params;
 use params::bytes;
 use params::bytes::BYTE_VALUES;
 use refusals::Refusal;
@@ -34,10 +34,10 @@ const ON_HOLD: u8 = 4;
 const CANCELLED_ON_HOLD: u8 = 5;
 
 // What a job is refused with where the table has another length, so that no slot is looked at: 1 2 10, or else 3.
-pub fn without_table(figures: Params) -> u8
-    ensures { λ r. ⌜ r ≡ withoutTable (given figures) ⌝ }
+pub fn without_table(figures: Figures) -> u8
+    ensures { λ r. ⌜ r ≡ withoutTable (codingOf figures) ⌝ }
 {
-    let answer = Params::figures(figures.n, figures.q, figures.m, figures.b);
+    let answer = figures.layout();
     match answer {
         LayoutAnswer::Refused(number) => number,
         LayoutAnswer::Fit(layout) => {

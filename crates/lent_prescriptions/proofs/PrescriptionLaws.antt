@@ -14,8 +14,9 @@ use Rattle.combinatorics.proofs.Cases.{by-bool, eqb-same, eqb-other}
 use Rattle.cells.specs.Bytes.{byteValues}
 use Rattle.cells.specs.Digits.{plain, spell}
 use Rattle.cells.proofs.Digits.{length-spell}
-use Rattle.construction_a.specs.Figures.{Params, inRange, fits, messageLen}
-use Rattle.construction_a.specs.Outcomes.{Held, unwritten}
+use Rattle.cells.specs.Outcomes.{Coding, Held, unwritten}
+use Rattle.params.specs.Bridge.{codingOf}
+use Rattle.params.specs.declared.Figures.{Figures}
 use Rattle.jobs.specs.declared.Entry.{Entry}
 use Rattle.jobs.specs.Table.{twice}
 use Rattle.payloads.specs.Payload.{carriesJob}
@@ -23,11 +24,11 @@ use Rattle.payloads.specs.Given.{Spellable}
 use Rattle.jobcodec.proofs.Outcomes.{both-false}
 use Rattle.prescription.specs.declared.texts.Prescription.{Prescription}
 use Rattle.prescription.specs.Outcomes.{Answered}
-use Rattle.prescriptioncodec.specs.PrescriptionWrite.{numberLen, numberBytes, prescriptionWriteOut}
-use Rattle.prescriptioncodec.specs.PrescriptionRead.{HandedOut, prescriptionReading, prescriptionReadOut}
+use Rattle.prescriptioncodec.specs.PrescriptionWrite.{numberLen, numberBytes, prescriptionWriteUnder}
+use Rattle.prescriptioncodec.specs.PrescriptionRead.{HandedOut, prescriptionReading, prescriptionReadUnder}
 use Rattle.lent_prescriptions.specs.Eyes.{eyeKind, eyeAxis, eyeSphere, eyeCylinder, powersLent, answerLent}
 use Rattle.lent.specs.Jobs.{withoutTable}
-use Rattle.lent_prescriptions.specs.Prescriptions.{prescriptionWriteBytesOut, handedMarks, handedPowers, haveRoom, prescriptionReadLent, prescriptionReadBytesOut, withoutRoom}
+use Rattle.lent_prescriptions.specs.Prescriptions.{prescriptionWriteBytesUnder, handedMarks, handedPowers, haveRoom, prescriptionReadLent, prescriptionReadBytesUnder, withoutRoom}
 use Rattle.lent.specs.Starts.{placementFrom}
 use Rattle.lent.specs.Table.{tableLen, statesKnown, tableIn}
 use Rattle.lent_prescriptions.proofs.Filling.{stored-all}
@@ -70,12 +71,12 @@ powers-put powers size {s} {c} {t} {d} p hs hc ht hd =
 
 -- ---- "1 2 10 3" for the lengths, and what prescription read answers
 
-module _ (f : Params) (es : List Entry) where
-  pub room-twice : twice es ≡ true → invalid ≡ withoutRoom f es
+module _ (d : Coding) (es : List Entry) where
+  pub room-twice : twice es ≡ true → invalid ≡ withoutRoom d es
   unfolding withoutRoom
   room-twice t = rw t
 
-  pub room-once : twice es ≡ false → withoutTable f ≡ withoutRoom f es
+  pub room-once : twice es ≡ false → withoutTable d ≡ withoutRoom d es
   unfolding withoutRoom
   room-once t = rw t
 
@@ -89,54 +90,54 @@ module _ (marks : List ℕ) (powers : List Float) where
   pub have-room : length marks ≡ 8 → length powers ≡ 5 → haveRoom marks powers ≡ true
   have-room m p = rw (eqb-same (length marks) 8 m, eqb-same (length powers) 5 p)
 
-  module _ (f : Params) (es : List Entry) (w : List ℕ) where
-    pub read-without-room : haveRoom marks powers ≡ false → powersLent marks powers (withoutRoom f es) ≡ prescriptionReadLent f es w marks powers
+  module _ (d : Coding) (es : List Entry) (w : List ℕ) where
+    pub read-without-room : haveRoom marks powers ≡ false → powersLent marks powers (withoutRoom d es) ≡ prescriptionReadLent d es w marks powers
     unfolding withoutRoom withoutTable prescriptionReadLent
     read-without-room h =
-        by-bool (twice es) (λ t. rw (t, both-false (inRange f)))
-        (λ t. by-bool (inRange f)
-        (λ i. by-bool (fits f) (λ d. by-bool (carriesJob (f .q) (messageLen f)) (λ k. rw (t, i, d, k, h)) (λ k. rw (t, i, d, k))) (λ d. rw (t, i, d)))
+        by-bool (twice es) (λ t. rw (t, both-false (d .inRange)))
+        (λ t. by-bool (d .inRange)
+        (λ i. by-bool (d .fits) (λ n. by-bool (carriesJob (d .codec .alphabet) (d .codec .messageLen)) (λ k. rw (t, i, n, k, h)) (λ k. rw (t, i, n, k))) (λ n. rw (t, i, n)))
         (λ i. rw (t, i)))
 
-    pub read-with-room : haveRoom marks powers ≡ true → {o : Answered HandedOut} → o ≡ prescriptionReadOut f es w
-        → answerLent (λ h. handedMarks (h .number) (h .prescription)) (λ h. handedPowers (h .prescription)) marks powers o ≡ prescriptionReadLent f es w marks powers
-    unfolding prescriptionReadOut prescriptionReading prescriptionReadLent
+    pub read-with-room : haveRoom marks powers ≡ true → {o : Answered HandedOut} → o ≡ prescriptionReadUnder d es w
+        → answerLent (λ h. handedMarks (h .number) (h .prescription)) (λ h. handedPowers (h .prescription)) marks powers o ≡ prescriptionReadLent d es w marks powers
+    unfolding prescriptionReading prescriptionReadLent
     read-with-room h {o} e =
         rw e
-        (by-bool (twice es) (λ t. rw (t, both-false (inRange f)))
-        (λ t. by-bool (inRange f)
-        (λ i. by-bool (fits f) (λ d. by-bool (carriesJob (f .q) (messageLen f)) (λ k. rw (t, i, d, k, h)) (λ k. rw (t, i, d, k))) (λ d. rw (t, i, d)))
+        (by-bool (twice es) (λ t. rw (t, both-false (d .inRange)))
+        (λ t. by-bool (d .inRange)
+        (λ i. by-bool (d .fits) (λ n. by-bool (carriesJob (d .codec .alphabet) (d .codec .messageLen)) (λ k. rw (t, i, n, k, h)) (λ k. rw (t, i, n, k))) (λ n. rw (t, i, n)))
         (λ i. rw (t, i))))
 
 -- ---- With a table in bytes
 
-module _ (f : Params) (table starts : List ℕ) (n : ℕ) (p : Prescription) (out : List ℕ) where
-  pub write-other : length table ≢ tableLen → unwritten out (withoutTable f) ≡ prescriptionWriteBytesOut f table starts n p out
-  unfolding prescriptionWriteBytesOut
-  write-other = other-table f table (unwritten out) _ _
+module _ (f : Figures) (table starts : List ℕ) (n : ℕ) (p : Prescription) (out : List ℕ) where
+  pub write-other : length table ≢ tableLen → unwritten out (withoutTable (codingOf f)) ≡ prescriptionWriteBytesUnder (codingOf f) table starts n p out
+  unfolding prescriptionWriteBytesUnder
+  write-other = other-table (codingOf f) table (unwritten out) _ _
 
   module _ (size : length table ≡ tableLen) where
-    pub write-state : statesKnown table ≡ false → unwritten out invalid ≡ prescriptionWriteBytesOut f table starts n p out
-    unfolding prescriptionWriteBytesOut
-    write-state = unknown-state f table (unwritten out) _ size _
+    pub write-state : statesKnown table ≡ false → unwritten out invalid ≡ prescriptionWriteBytesUnder (codingOf f) table starts n p out
+    unfolding prescriptionWriteBytesUnder
+    write-state = unknown-state (codingOf f) table (unwritten out) _ size _
 
     pub write-whole : statesKnown table ≡ true
-        → prescriptionWriteOut f (tableIn table) (placementFrom (f .m) starts) n p out ≡ prescriptionWriteBytesOut f table starts n p out
-    unfolding prescriptionWriteOut prescriptionWriteBytesOut
+        → prescriptionWriteUnder (codingOf f) (tableIn table) (placementFrom (codingOf f .bursts) starts) n p out ≡ prescriptionWriteBytesUnder (codingOf f) table starts n p out
+    unfolding prescriptionWriteBytesUnder
     write-whole s =
-        whole-write f table starts (unwritten out) size s (λ (at : Held). prescriptionWriteOut f (tableIn table) at n p out) _ (λ at. refl)
-        (λ at h. rw (eqb-other (at .count) (f .m) h))
+        whole-write f table starts (unwritten out) size s (λ (at : Held). prescriptionWriteUnder (codingOf f) (tableIn table) at n p out) _ (λ at. refl)
+        (λ at h. rw (eqb-other (at .count) (codingOf f .bursts) h))
 
-module _ (f : Params) (table w marks : List ℕ) (powers : List Float) where
-  pub read-other : length table ≢ tableLen → powersLent marks powers (withoutTable f) ≡ prescriptionReadBytesOut f table w marks powers
-  unfolding prescriptionReadBytesOut
-  read-other = other-table f table (powersLent marks powers) _ _
+module _ (d : Coding) (table w marks : List ℕ) (powers : List Float) where
+  pub read-other : length table ≢ tableLen → powersLent marks powers (withoutTable d) ≡ prescriptionReadBytesUnder d table w marks powers
+  unfolding prescriptionReadBytesUnder
+  read-other = other-table d table (powersLent marks powers) _ _
 
   module _ (size : length table ≡ tableLen) where
-    pub read-state : statesKnown table ≡ false → powersLent marks powers invalid ≡ prescriptionReadBytesOut f table w marks powers
-    unfolding prescriptionReadBytesOut
-    read-state = unknown-state f table (powersLent marks powers) _ size _
+    pub read-state : statesKnown table ≡ false → powersLent marks powers invalid ≡ prescriptionReadBytesUnder d table w marks powers
+    unfolding prescriptionReadBytesUnder
+    read-state = unknown-state d table (powersLent marks powers) _ size _
 
-    pub read-whole : statesKnown table ≡ true → prescriptionReadLent f (tableIn table) w marks powers ≡ prescriptionReadBytesOut f table w marks powers
-    unfolding prescriptionReadLent prescriptionReadBytesOut
-    read-whole s = whole-table f table (powersLent marks powers) true size s _ _ (λ _. refl)
+    pub read-whole : statesKnown table ≡ true → prescriptionReadLent d (tableIn table) w marks powers ≡ prescriptionReadBytesUnder d table w marks powers
+    unfolding prescriptionReadLent prescriptionReadBytesUnder
+    read-whole s = whole-table d table (powersLent marks powers) true size s _ _ (λ _. refl)

@@ -2,17 +2,16 @@
 // Assumes nothing.
 ghost use mathlib.Core.Path.{_≡_};
 ghost use lib.ListN.{length};
-ghost use Rattle.construction_a.specs.Outcomes.{unwritten};
+ghost use Rattle.cells.specs.Outcomes.{unwritten};
 ghost use Rattle.jobs.specs.Slots.{entries};
-ghost use Rattle.params.specs.Bridge.{given};
-ghost use Rattle.lent_prescriptions.specs.Eyes.{powersLent};
-ghost use Rattle.lent_prescriptions.specs.Prescriptions.{prescriptionWriteBytesOut, handedMarks, handedPowers, prescriptionReadLent, prescriptionReadBytesOut, withoutRoom};
+ghost use Rattle.params.specs.Bridge.{codingOf};
+ghost use Rattle.lent_prescriptions.specs.Eyes.{eyeFrom, powersLent};
+ghost use Rattle.lent_prescriptions.specs.Prescriptions.{prescriptionFrom, prescriptionWriteBytesUnder, handedMarks, handedPowers, prescriptionReadLent, prescriptionReadBytesUnder, withoutRoom};
 use crate::eyes;
 use jobs::JobTable;
 use lent::starts;
 use lent::table;
 use params::Figures;
-use params::Params;
 use params::bytes::BYTE_VALUES;
 use prescription::texts::Prescription;
 use prescriptioncodec::ReadAnswer;
@@ -26,16 +25,39 @@ const MARKS_LEN: usize = 8;
 // Sphere and cylinder of both eyes, and the pupil distance.
 const POWERS_LEN: usize = 5;
 
+// The prescription that the values of both eyes and the pupil distance are.
+pub fn prescription_from(
+    right_kind: u8,
+    right_sphere: f64,
+    right_cylinder: f64,
+    right_axis: u8,
+    left_kind: u8,
+    left_sphere: f64,
+    left_cylinder: f64,
+    left_axis: u8,
+    distance: f64,
+) -> Prescription
+    ensures { λ r. ⌜ r ≡ prescriptionFrom (eyeFrom «right_kind» «right_sphere» «right_cylinder» «right_axis») (eyeFrom «left_kind» «left_sphere» «left_cylinder» «left_axis») distance ⌝ }
+{
+    let right = eyes::eye_from(right_kind, right_sphere, right_cylinder, right_axis);
+    let left = eyes::eye_from(left_kind, left_sphere, left_cylinder, left_axis);
+    Prescription {
+        right,
+        left,
+        pupil_distance: distance,
+    }
+}
+
 // Writes a job's number and its prescription into a word, with the table and the starts as bytes. Refusals: 1 2 10 3 5 16 17 12 23 14.
 pub fn write(
-    figures: Params,
+    figures: Figures,
     table: &[u8],
     starts: &[u8],
     number: u32,
     prescription: Prescription,
     word: &mut [u8],
 ) -> u8
-    ensures { λ r. ⌜ unwritten (now (word .exit)) r ≡ prescriptionWriteBytesOut (given figures) (now (table .entry)) (now (starts .entry)) number prescription (now (word .entry)) ⌝ }
+    ensures { λ r. ⌜ unwritten (now (word .exit)) r ≡ prescriptionWriteBytesUnder (codingOf figures) (now (table .entry)) (now (starts .entry)) number prescription (now (word .entry)) ⌝ }
 {
     if table.len() != table::TABLE_LEN {
         return table::without_table(figures);
@@ -43,22 +65,15 @@ pub fn write(
     if !table::states_known(table) {
         return Refusal::INVALID;
     }
-    let at = starts::placement_from(starts, figures.m);
+    let at = starts::placement_under(figures, starts);
     let held = table::table_in(table);
-    prescriptioncodec::prescription_write(
-        Figures::Ranked(figures),
-        held,
-        at,
-        number,
-        prescription,
-        word,
-    )
+    prescriptioncodec::prescription_write(figures, held, at, number, prescription, word)
 }
 
 // Reads a found word with the table as bytes, and puts its job number and its prescription into `marks` and `powers`. Refusals: 1 2, 10 for too few
 // bytes, 3 4 7 19 8 9 19, 10, 16, 12 23 14.
-pub fn read(figures: Params, table: &[u8], word: &[u8], marks: &mut [u8], powers: &mut [f64]) -> u8
-    ensures { λ r. ⌜ powersLent (now (marks .exit)) (now (powers .exit)) r ≡ prescriptionReadBytesOut (given figures) (now (table .entry)) (now (word .entry)) (now (marks .entry)) (now (powers .entry)) ⌝ }
+pub fn read(figures: Figures, table: &[u8], word: &[u8], marks: &mut [u8], powers: &mut [f64]) -> u8
+    ensures { λ r. ⌜ powersLent (now (marks .exit)) (now (powers .exit)) r ≡ prescriptionReadBytesUnder (codingOf figures) (now (table .entry)) (now (word .entry)) (now (marks .entry)) (now (powers .entry)) ⌝ }
 {
     if table.len() != table::TABLE_LEN {
         return table::without_table(figures);
@@ -72,13 +87,13 @@ pub fn read(figures: Params, table: &[u8], word: &[u8], marks: &mut [u8], powers
 
 // The same with the table that the bytes are.
 fn read_held(
-    figures: Params,
+    figures: Figures,
     table: JobTable,
     word: &[u8],
     marks: &mut [u8],
     powers: &mut [f64],
 ) -> u8
-    ensures { λ r. ⌜ powersLent (now (marks .exit)) (now (powers .exit)) r ≡ prescriptionReadLent (given figures) (entries table) (now (word .entry)) (now (marks .entry)) (now (powers .entry)) ⌝ }
+    ensures { λ r. ⌜ powersLent (now (marks .exit)) (now (powers .exit)) r ≡ prescriptionReadLent (codingOf figures) (entries table) (now (word .entry)) (now (marks .entry)) (now (powers .entry)) ⌝ }
 {
     if marks.len() != MARKS_LEN {
         return without_room(figures, table);
@@ -86,7 +101,7 @@ fn read_held(
     if powers.len() != POWERS_LEN {
         return without_room(figures, table);
     }
-    let answer = prescriptioncodec::prescription_read(Figures::Ranked(figures), table, word);
+    let answer = prescriptioncodec::prescription_read(figures, table, word);
     match answer {
         ReadAnswer::Refused(number) => number,
         ReadAnswer::Handed(number, prescription) => {
@@ -98,8 +113,8 @@ fn read_held(
 }
 
 // What is refused where a buffer has another length: 1 2 10, or else 3.
-fn without_room(figures: Params, table: JobTable) -> u8
-    ensures { λ r. ⌜ r ≡ withoutRoom (given figures) (entries table) ⌝ }
+fn without_room(figures: Figures, table: JobTable) -> u8
+    ensures { λ r. ⌜ r ≡ withoutRoom (codingOf figures) (entries table) ⌝ }
 {
     if table.twice() {
         return Refusal::INVALID;

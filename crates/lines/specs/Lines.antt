@@ -5,9 +5,12 @@ use Rattle.refusals.specs.Refusals.{served, badRecord}
 use Rattle.construction_a.specs.Figures.{maxWord}
 use Rattle.text.specs.Text.{decimal}
 
--- the letters S, W and R; O, C and F are those of calls
+-- the letters S, W and R, and L (document 02, ticket 1); O, C and F are those of calls
 abbrev pub letterS : ℕ
 letterS = 83
+
+abbrev pub letterL : ℕ
+letterL = 76
 
 abbrev pub letterW : ℕ
 letterW = 87

@@ -5,7 +5,7 @@ ghost use Prim.Native.Nat.{_+_, _*_, _≤_};
 ghost use lib.ListN.{length, take, drop};
 ghost use Rattle.construction_a.specs.Figures.{maxWord};
 ghost use Rattle.text.specs.Text.{decimal, hex, overwrite};
-ghost use Rattle.lines.specs.Lines.{space, refusalLine, servedLine, stopLine, endLine, maxLine, letterS, letterW, letterR};
+ghost use Rattle.lines.specs.Lines.{space, refusalLine, servedLine, stopLine, endLine, maxLine, letterW, letterR};
 use refusals::Refusal;
 
 const SPACE: u8 = 32;
@@ -24,13 +24,19 @@ pub fn put_refusal(line: &mut [u8], letter: u8, answer: u8) -> usize
     text::put_byte(line, at, LINE_FEED)
 }
 
-// After S also T, r, k.
-pub fn put_figures(line: &mut [u8], placements: u64, tail: u64, message_len: u64) -> usize
+// After S, and after L, also T, r, k.
+pub fn put_figures(
+    line: &mut [u8],
+    letter: u8,
+    placements: u64,
+    tail: u64,
+    message_len: u64,
+) -> usize
     requires { ⌜ maxLine ≤ length (now line) ⌝ }
-    ensures line { λ _. ⌜ now (line .exit) ≡ overwrite 0 (servedLine letterS (decimal placements ∷ decimal tail ∷ decimal «message_len» ∷ [])) (now (line .entry)) ⌝ }
-    ensures len { λ r. ⌜ r ≡ length (servedLine letterS (decimal placements ∷ decimal tail ∷ decimal «message_len» ∷ [])) ⌝ }
+    ensures line { λ _. ⌜ now (line .exit) ≡ overwrite 0 (servedLine letter (decimal placements ∷ decimal tail ∷ decimal «message_len» ∷ [])) (now (line .entry)) ⌝ }
+    ensures len { λ r. ⌜ r ≡ length (servedLine letter (decimal placements ∷ decimal tail ∷ decimal «message_len» ∷ [])) ⌝ }
 {
-    let at = put_head(line, b'S', Refusal::NONE);
+    let at = put_head(line, letter, Refusal::NONE);
     let at_tail = put_number(line, at, placements);
     let at_len = put_number(line, at_tail, tail);
     let at_end = put_number(line, at_len, message_len);

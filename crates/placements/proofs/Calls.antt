@@ -1,22 +1,28 @@
 -- What a caller needs: what its figures give, which starts an answer has in use, and that covering answers as the definitions do. Assumes nothing.
-use mathlib.Core.Path.{_≡_, ap, _∙_}
+use mathlib.Core.Path.{_≡_, refl, sym, ap, _∙_}
 use mathlib.Core.Logic.{_≢_}
 use mathlib.Core.Bool.{true, false}
 use mathlib.Core.List.{List}
-use Prim.Native.Nat.{ℕ, _-_, _≤_}
+use Prim.Native.Nat.{ℕ, _-_, _*_, _≤_}
+use native.Mathlib.Omega.{arith}
 use lib.Dec.{ltb, eqb}
 use lib.ListN.{length, replicate}
 use lib.Seq.{take-append-seam}
 use Rattle.refusals.specs.Refusals.{must, served, wrongLength, badSymbol, uncovered}
-use Rattle.combinatorics.specs.Bursts.{apart, rankOf, coverRank}
+use Rattle.combinatorics.specs.Bursts.{apart, placements, rankOf, startsOf, coverRank}
 use Rattle.combinatorics.specs.Lists.{allBelow}
 use Rattle.combinatorics.proofs.Cases.{eqb-same, eqb-other}
 use Rattle.combinatorics.proofs.Loops.{apart-longer}
-use Rattle.construction_a.specs.Figures.{Params, maxWord, maxBursts, maxCount, inRange, fits, placementCount}
-use Rattle.construction_a.specs.Outcomes.{inUse, held, worn, unserved, figuresOut, unplaced, coverOut}
-use Rattle.construction_a.specs.Writing.{placementOf}
-use Rattle.construction_a.proofs.Figures.{Served}
-use Rattle.construction_a.proofs.Outcomes.{refused-alike}
+use Rattle.cells.specs.Outcomes.{Coding, inUse, held, worn, unserved, figuresUnder, unplaced, coverUnder}
+use Rattle.cells.proofs.Outcomes.{refused-alike}
+use Rattle.construction_a.specs.Figures.{Params, maxWord, maxBursts, maxCount}
+use Rattle.construction_a.proofs.Figures.{Served, ranged}
+use Rattle.construction_b.proofs.Figures.{count-is}
+use Rattle.params.specs.declared.Spells.{Spells}
+use Rattle.params.specs.declared.Spells.the-variants.{Rank, EndOffset}
+use Rattle.params.specs.declared.Layout.{Layout}
+use Rattle.params.specs.Given.{figuresOf, longOf, codingWith, codingIn, FittingWith, Serves}
+use Rattle.params.proofs.Either.{in-shape, in-order, numbers-in}
 use Rattle.placements.specs.declared.Placement.{Placement}
 use Rattle.placements.specs.Bridge.{heldAs, startsIn, coverable, leastCover, Rankable, Room}
 
@@ -32,33 +38,57 @@ starts-held ss e = ap inUse e ∙ take-append-seam ss (replicate (maxBursts - le
 
 -- ---- "covering 1 2 3 4 6"
 
--- 3 and 4
-pub cover-length : (f : Params) (map : List ℕ) → inRange f ≡ true → fits f ≡ true → length map ≢ f .n → coverOut f map ≡ unplaced wrongLength
-unfolding coverOut
-cover-length f map range fit size = rw (range, fit, eqb-other (length map) (f .n) size)
-
-pub cover-symbol : (f : Params) (map : List ℕ) → inRange f ≡ true → fits f ≡ true → length map ≡ f .n → allBelow 2 map ≡ false → coverOut f map ≡ unplaced badSymbol
-unfolding coverOut
-cover-symbol f map range fit size bytes = rw (range, fit, eqb-same (length map) (f .n) size, bytes)
-
 -- 1 and 2, with the number that the figures have alone
-pub cover-unfit : (f : Params) (map : List ℕ) (a : ℕ) → figuresOut f ≡ unserved a → coverOut f map ≡ unplaced a
-unfolding coverOut
-cover-unfit f map a e =
-    let v = coverRank (f .n) (f .m) (f .b) (worn map) in
-    refused-alike f a unplaced
-    (must (eqb (length map) (f .n)) (unplaced wrongLength)
+pub cover-unfit : (d : Coding) (map : List ℕ) (a : ℕ) → figuresUnder d ≡ unserved a → coverUnder d map ≡ unplaced a
+cover-unfit d map a e =
+    let n = d .codec .wordLen in
+    let v = coverRank n (d .bursts) (d .burstLen) (worn map) in
+    refused-alike d a unplaced
+    (must (eqb (length map) n) (unplaced wrongLength)
     (must (allBelow 2 map) (unplaced badSymbol)
-    (must (ltb v (placementCount f)) (unplaced uncovered)
-    (record { answer = served; placement = held (placementOf f v) })))) e
+    (must (ltb v (d .placementCount)) (unplaced uncovered)
+    (record { answer = served; placement = held (startsOf n (d .bursts) (d .burstLen) v) })))) e
 
--- 6, and a cover
-pub cover-none : (f : Params) (map : List ℕ) → inRange f ≡ true → fits f ≡ true → length map ≡ f .n → allBelow 2 map ≡ true
-    → coverable (f .n) (f .m) (f .b) map ≡ false → coverOut f map ≡ unplaced uncovered
-unfolding coverOut
-cover-none f map range fit size bytes none = rw (range, fit, eqb-same (length map) (f .n) size, bytes, none)
+module _ (l : Layout) (g : Serves l) where
+  -- T counts all placements, whichever construction laid the figures out
+  counts-all : codingIn l .placementCount ≡ placements (l .n) (l .m) (l .b)
+  counts-all = go (l .spells) g
+    where
+      go : (s : Spells) → FittingWith s l → codingWith s (figuresOf l) .placementCount ≡ placements (l .n) (l .m) (l .b)
+      go Rank h = refl
+      go EndOffset h =
+          let t : 1 * l .b ≤ l .n = rw (h .laid .m-is) at (in-shape l g .total) in
+          rw (h .laid .m-is) (count-is (longOf (figuresOf l)) (omega (arith, t)))
 
-pub cover-some : (f : Params) (map : List ℕ) → inRange f ≡ true → fits f ≡ true → length map ≡ f .n → allBelow 2 map ≡ true
-    → coverable (f .n) (f .m) (f .b) map ≡ true → coverOut f map ≡ record { answer = served; placement = leastCover (f .n) (f .m) (f .b) map }
-unfolding coverOut
-cover-some f map range fit size bytes some = rw (range, fit, eqb-same (length map) (f .n) size, bytes, some)
+  pub room-in : Room (l .n) (l .m) (l .b)
+  room-in =
+      let h = in-shape l g in
+      let r = ranged (figuresOf l) (h .range) in
+      record { short = r .n-most; few = r .m-most; some = r .b-least; within = h .total }
+
+  module _ (map : List ℕ) where
+    -- by the layout's own numbers
+    by-numbers : coverUnder (codingIn l) map
+        ≡ must (eqb (length map) (l .n)) (unplaced wrongLength)
+        (must (allBelow 2 map) (unplaced badSymbol)
+        (must (coverable (l .n) (l .m) (l .b) map) (unplaced uncovered)
+        (record { answer = served; placement = held (startsOf (l .n) (l .m) (l .b) (coverRank (l .n) (l .m) (l .b) (worn map))) })))
+    by-numbers =
+        let order = in-order l g in
+        let is = numbers-in l g in
+        rw (order .0, order .1, sym (is .word-is), sym (is .bursts-is), sym (is .burst-is), counts-all)
+
+    -- 3, 4 and 6, and a cover
+    pub cover-length : length map ≢ l .n → coverUnder (codingIn l) map ≡ unplaced wrongLength
+    cover-length size = by-numbers ∙ rw (eqb-other (length map) (l .n) size)
+
+    module _ (size : length map ≡ l .n) where
+      pub cover-symbol : allBelow 2 map ≡ false → coverUnder (codingIn l) map ≡ unplaced badSymbol
+      cover-symbol bytes = by-numbers ∙ rw (eqb-same (length map) (l .n) size, bytes)
+
+      pub cover-none : allBelow 2 map ≡ true → coverable (l .n) (l .m) (l .b) map ≡ false → coverUnder (codingIn l) map ≡ unplaced uncovered
+      cover-none bytes none = by-numbers ∙ rw (eqb-same (length map) (l .n) size, bytes, none)
+
+      pub cover-some : allBelow 2 map ≡ true → coverable (l .n) (l .m) (l .b) map ≡ true
+          → coverUnder (codingIn l) map ≡ record { answer = served; placement = leastCover (l .n) (l .m) (l .b) map }
+      cover-some bytes some = by-numbers ∙ rw (eqb-same (length map) (l .n) size, bytes, some)

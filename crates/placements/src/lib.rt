@@ -9,10 +9,13 @@ ghost use Rattle.combinatorics.specs.Choose.{choose};
 ghost use Rattle.combinatorics.specs.Rank.{ways};
 ghost use Rattle.combinatorics.specs.Stretch.{top, lastEnd};
 ghost use Rattle.binomials.specs.Limits.{maxThings, maxChosen};
-ghost use Rattle.construction_a.specs.Figures.{maxWord, maxBursts, maxCount, inRange, fits};
-ghost use Rattle.construction_a.specs.Outcomes.{held, worn, unplaced as unplacedAs, coverOut};
-ghost use Rattle.params.specs.Bridge.{given};
+ghost use Rattle.cells.specs.Outcomes.{held, worn, unplaced as unplacedAs, coverUnder};
+ghost use Rattle.construction_a.specs.Figures.{maxWord, maxBursts, maxCount};
+ghost use Rattle.params.specs.Bridge.{codingOf};
+ghost use Rattle.params.specs.Given.{codingIn, Serves};
 ghost use Rattle.placements.specs.Bridge.{heldAs, coveredAs, startsIn, coverable, leastCover, Rankable, Room};
+use params::Figures;
+use params::Layout;
 use params::LayoutAnswer;
 use params::Params;
 use refusals::Refusal;
@@ -154,28 +157,28 @@ pub struct CoverAnswer {
 
 // The placement of least rank whose bursts cover every defect of a map of n bytes, 1 where a position is defective and 0 elsewhere.
 // Refusals: 1 2 3 4 6.
-pub fn cover(figures: Params, map: &[u8]) -> CoverAnswer
-    ensures { λ r. ⌜ coveredAs r ≡ coverOut (given figures) (now (map .entry)) ⌝ }
+pub fn cover(figures: Figures, map: &[u8]) -> CoverAnswer
+    ensures { λ r. ⌜ coveredAs r ≡ coverUnder (codingOf figures) (now (map .entry)) ⌝ }
 {
-    let answer = Params::figures(figures.n, figures.q, figures.m, figures.b);
+    let answer = figures.layout();
     match answer {
         LayoutAnswer::Refused(number) => unplaced(number),
-        LayoutAnswer::Fit(_) => cover_fitting(figures, map),
+        LayoutAnswer::Fit(layout) => cover_fitting(layout, map),
     }
 }
 
 // The same for figures that fit. Refusals: 3 4 6.
-fn cover_fitting(figures: Params, map: &[u8]) -> CoverAnswer
-    requires { ⌜ (inRange (given figures) ≡ true) × (fits (given figures) ≡ true) ⌝ }
-    ensures { λ r. ⌜ coveredAs r ≡ coverOut (given figures) (now (map .entry)) ⌝ }
+pub fn cover_fitting(layout: Layout, map: &[u8]) -> CoverAnswer
+    requires { ⌜ Serves layout ⌝ }
+    ensures { λ r. ⌜ coveredAs r ≡ coverUnder (codingIn layout) (now (map .entry)) ⌝ }
 {
-    if map.len() != figures.n as usize {
+    if map.len() != layout.n {
         return unplaced(Refusal::LENGTH);
     }
     if !symbols::all_below(map, 2) {
         return unplaced(Refusal::SYMBOL);
     }
-    let found = least_cover(figures.n, figures.m, figures.b, map);
+    let found = least_cover(layout.n, layout.m, layout.b, map);
     if !found.covered {
         return unplaced(Refusal::UNCOVERED);
     }
@@ -204,22 +207,22 @@ pub struct Covering {
 
 // The placement of m bursts of b that covers every defect of a map of n positions and has the least rank. The map is read once, from the
 // right: each burst ends with the last defect that is left, or starts where those before it just have room.
-pub fn least_cover(n: u32, m: u32, b: u32, map: &[u8]) -> Covering
+fn least_cover(n: usize, m: usize, b: usize, map: &[u8]) -> Covering
     requires { ⌜ Room n m b × (length (now map) ≡ n) ⌝ }
     ensures covered { λ r. ⌜ r .covered ≡ coverable n m b (now (map .entry)) ⌝ }
     ensures placement { λ r. ⌜ heldAs (r .placement) ≡ leastCover n m b (now (map .entry)) ⌝ }
 {
-    let burst_len = b as usize;
+    let count = m as u32;
     let mut found = Placement {
         starts: [0; Placement::MAX],
-        count: m,
+        count,
     };
-    let mut start = n as usize;
+    let mut start = n;
     let mut end = last_end(map, start);
-    let mut i = m as usize;
+    let mut i = m;
     while 0 < i {
         i -= 1;
-        start = burst_start(end, burst_len, i * burst_len);
+        start = burst_start(end, b, i * b);
         found.starts[i] = start as u16;
         // A defect that lies left of the burst anyway was found before.
         if start < end {

@@ -20,9 +20,8 @@ use Rattle.cells.specs.Codec.{Word}
 use Rattle.cells.specs.Digits.{plain, spell, span}
 use Rattle.cells.proofs.Digits.{length-spell, value-spell, value-front, spell-spelled, spelled-plain, span-plain}
 use Rattle.cells.specs.Outcomes.{Coding, maxBursts, Held, inUse, Encoded, unwritten}
-use Rattle.construction_a.specs.Outcomes.{coding}
-use Rattle.construction_b.specs.Figures.{LongParams}
-use Rattle.construction_b.specs.Outcomes.{coding as codingB}
+use Rattle.params.specs.declared.Figures.the-variants.{Ranked, Long}
+use Rattle.params.specs.Bridge.{given, givenLong, codingOf}
 use Rattle.jobs.specs.declared.Entry.{Entry}
 use Rattle.jobs.specs.Table.{twice}
 use Rattle.payloads.specs.Payload.{carriesJob, jobNumber}
@@ -39,8 +38,8 @@ use Rattle.prescription.proofs.Lenses.{toric-kept, sphere-kept, cylinder-in}
 use Rattle.prescription.proofs.InMemory.{held-exactly}
 use Rattle.prescription.proofs.TextBack.{text-back}
 use Rattle.prescription.specs.declared.fields.StoredEye.{StoredEye}
-use Rattle.prescriptioncodec.specs.PrescriptionWrite.{numberLen, numberBytes, prescriptionPayload, minPayload, writePrescribed, prescriptionWriteUnder, prescriptionWriteOut}
-use Rattle.prescriptioncodec.specs.PrescriptionRead.{prescriptionReading, prescriptionReadUnder, prescriptionReadOut}
+use Rattle.prescriptioncodec.specs.PrescriptionWrite.{numberLen, numberBytes, prescriptionPayload, minPayload, writePrescribed, prescriptionWriteUnder}
+use Rattle.prescriptioncodec.specs.PrescriptionRead.{prescriptionReading, prescriptionReadUnder}
 use Rattle.prescriptioncodec.specs.Laws.{ReadBackUnder, PrescriptionsReadBack}
 use Rattle.prescriptioncodec.proofs.Calls.{writes-job}
 
@@ -175,8 +174,5 @@ read-back-under d reads es at n p out w sized number floats e found outside =
 -- ---- Construction A, and Construction B
 
 pub prescriptions-read-back : PrescriptionsReadBack
-unfolding prescriptionWriteOut prescriptionReadOut
-prescriptions-read-back f = read-back-under (coding f) (reads-a f)
-
-pub prescriptions-read-back-b : (f : LongParams) → ReadBackUnder (codingB f)
-prescriptions-read-back-b f = read-back-under (codingB f) (reads-b f)
+prescriptions-read-back (Ranked p) = read-back-under (codingOf (Ranked p)) (reads-a (given p))
+prescriptions-read-back (Long p) = read-back-under (codingOf (Long p)) (reads-b (givenLong p))

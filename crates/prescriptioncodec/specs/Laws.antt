@@ -5,21 +5,19 @@ use mathlib.Core.List.{List}
 use Prim.Native.Nat.{ℕ, _^_, _<_}
 use lib.ListN.{length, getD}
 use Rattle.refusals.specs.Refusals.{served}
-use Rattle.combinatorics.specs.Bursts.{inBurst}
 use Rattle.cells.specs.Codec.{Word}
-use Rattle.cells.specs.Outcomes.{Coding}
-use Rattle.construction_a.specs.Figures.{Params, maxBursts}
-use Rattle.construction_a.specs.Outcomes.{Held, inUse}
-use Rattle.construction_a.specs.DemandTwo.{constructionA}
+use Rattle.cells.specs.Outcomes.{Coding, maxBursts, Held, inUse}
+use Rattle.params.specs.declared.Figures.{Figures}
+use Rattle.params.specs.Bridge.{codingOf}
 use Rattle.jobs.specs.declared.Entry.{Entry}
 use Rattle.prescription.specs.declared.texts.Prescription.{Prescription}
 use Rattle.prescription.specs.Eyes.{prescriptionFits}
 use Rattle.prescription.specs.Outcomes.{answered}
-use Rattle.prescriptioncodec.specs.PrescriptionWrite.{prescriptionWriteUnder, prescriptionWriteOut}
-use Rattle.prescriptioncodec.specs.PrescriptionRead.{prescriptionReadUnder, prescriptionReadOut}
+use Rattle.prescriptioncodec.specs.PrescriptionWrite.{prescriptionWriteUnder}
+use Rattle.prescriptioncodec.specs.PrescriptionRead.{prescriptionReadUnder}
 
 -- a number of 32 bits and a prescription of 64-bit floats that were written are read back as they were, under the same table, from every found word that
--- differs from the written one only inside the placement's bursts: under any figures, and under those of Construction A
+-- differs from the written one only inside the placement's bursts: under any figures, and under those of either construction
 abbrev pub ReadBackUnder : Coding → Type 0
 ReadBackUnder d =
     (es : List Entry) (at : Held) (n : ℕ) (p : Prescription) (out w : List ℕ)
@@ -29,9 +27,4 @@ ReadBackUnder d =
     → prescriptionReadUnder d es w ≡ answered (record { number = n; prescription = p })
 
 abbrev pub PrescriptionsReadBack : Type 0
-PrescriptionsReadBack =
-    (f : Params) (es : List Entry) (at : Held) (n : ℕ) (p : Prescription) (out w : List ℕ)
-    → length (at .starts) ≡ maxBursts → n < 2 ^ 32 → prescriptionFits p ≡ true
-    → prescriptionWriteOut f es at n p out .answer ≡ served → Word (constructionA f) w
-    → ((i : ℕ) → i < f .n → inBurst (f .b) (inUse at) i ≡ false → getD w i 0 ≡ getD (prescriptionWriteOut f es at n p out .word) i 0)
-    → prescriptionReadOut f es w ≡ answered (record { number = n; prescription = p })
+PrescriptionsReadBack = (f : Figures) → ReadBackUnder (codingOf f)

@@ -1,5 +1,5 @@
 -- The layout of the last accepted figures, and how long a record is by its letter. Assumes nothing.
-use mathlib.Core.Path.{_≡_, refl, sym, ap, subst, _∙_}
+use mathlib.Core.Path.{_≡_, refl, sym, ap, ap₂, subst, _∙_}
 use mathlib.Core.Logic.{_≢_}
 use mathlib.Core.Bool.{Bool, true, false, cond, _&&_, false≢true}
 use mathlib.Core.List.{List}
@@ -13,79 +13,94 @@ use lib.ListN.{length, getD}
 use Rattle.combinatorics.proofs.Cases.{by-bool, by-le, eqb-same, eqb-other, eqb-true}
 use Rattle.combinatorics.proofs.Lists.{both}
 use Rattle.cells.specs.Bytes.{byteWidth, payloadLen}
-use Rattle.construction_a.specs.Figures.{Params, maxWord, messageLen}
-use Rattle.construction_a.specs.Outcomes.{FiguresOut, figured, unserved, figuresOut}
-use Rattle.construction_a.proofs.Outcomes.{figured-served}
-use Rattle.params.specs.Answer.{figuredAs}
-use Rattle.params.specs.Given.{figuresOf, Fitting}
+use Rattle.cells.specs.Outcomes.{maxBursts, FiguresOut, figured, unserved, figuresUnder}
+use Rattle.cells.proofs.Outcomes.{figured-fits}
+use Rattle.construction_a.specs.Figures.{maxWord, maxAlphabet}
+use Rattle.params.specs.Answer.{figuredAs, LaidAs}
+use Rattle.params.specs.Bridge.{codingOf}
+use Rattle.params.specs.declared.Figures.{Figures}
 use Rattle.params.specs.declared.Layout.{Layout}
 use Rattle.params.specs.declared.LayoutAnswer.{LayoutAnswer}
 use Rattle.params.specs.declared.LayoutAnswer.the-variants.{Fit, Refused}
-use Rattle.params.proofs.Answered.{Told}
-use Rattle.params.proofs.Fitting.{layout-fits, bound}
+use Rattle.params.proofs.Either.{small, laid-learnt}
 use Rattle.jobs.specs.Letters.{kindOf, isLetter}
 use Rattle.jobs.proofs.Letters.{no-kind}
 use Rattle.records.specs.Session.{Session}
-use Rattle.lines.specs.Lines.{letterS, letterW, letterR}
-use Rattle.records.specs.Records.{headLen, isMarked, letterOf, ifFit, current, writeLen, readLen, recordLen, maxRecord, isWhole, readable, reach, begunLen, neededFor}
-use Rattle.records.specs.Bridge.{Current, orZero}
+use Rattle.lines.specs.Lines.{letterS, letterL, letterW, letterR}
+use Rattle.records.specs.Records.{headLen, isMarked, letterOf, ifFit, current, payloadLenOf, writeLen, readLen, recordLen, maxRecord, isWhole, readable, reach, begunLen, neededFor}
+use Rattle.records.specs.declared.CurrentAnswer.{CurrentAnswer}
+use Rattle.records.specs.declared.CurrentAnswer.the-variants.{Missing as NoFigures, Laid}
+use Rattle.records.specs.Bridge.{IsCurrent, Current, orZero}
 
 -- ---- The last accepted figures
 
 -- "figures alone" answers for them
-pub current-of : (f : Params) (r : LayoutAnswer) → figuredAs r ≡ figuresOut f → Told f r → Current (some f) r
-current-of f (Fit l) answer layout =
-    let is = layout-fits f (Fit l) l refl answer layout in
-    (ap (ifFit f) (sym answer) ∙ ap some (sym (is .0)), is .1)
-current-of f (Refused a) answer layout = ap (ifFit f) (sym answer)
+pub laid-current : (f : Figures) (r : LayoutAnswer) (l : Layout) → r ≡ Fit l → figuredAs r ≡ figuresUnder (codingOf f) → LaidAs f r → IsCurrent (some f) f l
+laid-current f r l e answer laid =
+    let is = laid-learnt f r l e answer laid in
+    record { are = ap (ifFit f) (sym answer ∙ ap figuredAs e); laid = subst (LaidAs f) e laid; numbers = is .2; small = is .3 }
+
+pub refused-current : (f : Figures) (r : LayoutAnswer) (a : ℕ) → r ≡ Refused a → figuredAs r ≡ figuresUnder (codingOf f) → current (some f) ≡ none
+refused-current f r a e answer = ap (ifFit f) (sym answer ∙ ap figuredAs e)
 
 -- an answer that was taken apart
-pub current-fit : (f : Option Params) (r : LayoutAnswer) (l : Layout) → r ≡ Fit l → Current f r → (current f ≡ some (figuresOf l)) × Fitting l
-current-fit f r l e is = subst (Current f) e is
+pub current-laid : (last : Option Figures) (r : CurrentAnswer) (f : Figures) (l : Layout) → r ≡ Laid f l → Current last r → IsCurrent last f l
+current-laid last r f l e is = subst (Current last) e is
 
-pub current-none : (f : Option Params) (r : LayoutAnswer) (a : ℕ) → r ≡ Refused a → Current f r → current f ≡ none
-current-none f r a e is = subst (Current f) e is
+pub current-none : (last : Option Figures) (r : CurrentAnswer) → r ≡ NoFigures → Current last r → current last ≡ none
+current-none last r e is = subst (Current last) e is
 
-module _ (l : Layout) (g : Fitting l) where
-  pub message-short : l .«message_len» ≤ maxWord
-  unfolding messageLen
-  message-short = omega (arith, g .laid .len-is, bound l g .n-most)
+pub payload-within : (q k : ℕ) → payloadLen q k ≤ k
+unfolding payloadLen
+payload-within q k = div-le-self k (byteWidth q)
+
+module _ (last : Option Figures) (f : Figures) (l : Layout) (is : IsCurrent last f l) where
+  pub word-short : l .n ≤ maxWord
+  word-short = omega (arith, is .numbers .word-is, is .small .word-most)
+
+  pub bursts-few : l .m ≤ maxBursts
+  bursts-few = omega (arith, is .numbers .bursts-is, is .small .bursts-most)
+
+  pub alphabet-few : l .q ≤ maxAlphabet
+  alphabet-few = omega (arith, is .numbers .alphabet-is, is .small .alphabet-most)
+
+  pub payload-is : payloadLen (l .q) (l .«message_len») ≡ payloadLenOf f
+  payload-is = ap₂ payloadLen (is .numbers .alphabet-is) (is .numbers .len-is)
 
   pub payload-short : payloadLen (l .q) (l .«message_len») ≤ maxWord
-  unfolding payloadLen
-  payload-short = omega (arith, message-short, div-le-self (l .«message_len») (byteWidth (l .q)))
+  payload-short = omega (arith, payload-within (l .q) (l .«message_len»), is .numbers .len-is, is .small .message-most, is .small .word-most)
 
-  pub write-len-is : (f : Option Params) → current f ≡ some (figuresOf l)
-      → orZero (writeLen (current f)) ≡ headLen + 2 * l .m + payloadLen (l .q) (l .«message_len»)
-  write-len-is f e = ap (λ x. orZero (writeLen x)) e ∙ ap (λ (k : ℕ). headLen + 2 * l .m + payloadLen (l .q) k) (sym (g .laid .len-is))
+  pub write-len-is : orZero (writeLen (current last)) ≡ headLen + 2 * l .m + payloadLen (l .q) (l .«message_len»)
+  write-len-is = ap (λ x. orZero (writeLen x)) (is .are) ∙ omega (arith, is .numbers .bursts-is, payload-is)
+
+  pub read-len-is : orZero (readLen (current last)) ≡ headLen + l .n
+  read-len-is = ap (λ x. orZero (readLen x)) (is .are) ∙ omega (arith, is .numbers .word-is)
 
 -- ---- No record is longer than the buffer for it
 
-payload-within : (f : Params) → payloadLen (f .q) (messageLen f) ≤ f .n
-unfolding payloadLen messageLen
-payload-within f = omega (arith, div-le-self (messageLen f) (byteWidth (f .q)))
-
-current-most : (f : Option Params) → (orZero (writeLen (current f)) ≤ maxRecord) × (orZero (readLen (current f)) ≤ maxRecord)
+current-most : (last : Option Figures) → (orZero (writeLen (current last)) ≤ maxRecord) × (orZero (readLen (current last)) ≤ maxRecord)
 current-most none = (omega arith, omega arith)
-current-most (some f) = go (figuresOut f) refl
+current-most (some f) = go (figuresUnder (codingOf f)) refl
   where
-    go : (o : FiguresOut) → figuresOut f ≡ o → (orZero (writeLen (ifFit f o)) ≤ maxRecord) × (orZero (readLen (ifFit f o)) ≤ maxRecord)
+    go : (o : FiguresOut) → figuresUnder (codingOf f) ≡ o → (orZero (writeLen (ifFit f o)) ≤ maxRecord) × (orZero (readLen (ifFit f o)) ≤ maxRecord)
     go (figured t r k) e =
-        let range = figured-served f t r k e .range in
-        (omega (arith, range .n-most, range .m-most, payload-within f), omega (arith, range .n-most))
+        let is = small f (figured-fits (codingOf f) t r k e .0) in
+        let c = codingOf f .codec in
+        (omega (arith, is .word-most, is .bursts-most, is .message-most, payload-within (c .alphabet) (c .messageLen)), omega (arith, is .word-most))
     go (unserved a) e = (omega arith, omega arith)
 
 record-most : (s : Session) (letter : ℕ) → orZero (recordLen s letter) ≤ maxRecord
 unfolding recordLen
-record-most s letter = go (eqb letter letterS) (isLetter letter) (eqb letter letterW) (eqb letter letterR)
+record-most s letter = go (eqb letter letterS) (eqb letter letterL) (isLetter letter) (eqb letter letterW) (eqb letter letterR)
   where
-    go : (a b c d : Bool)
-        → orZero (cond a (some (headLen + 6)) (cond b (some (headLen + 4)) (cond c (writeLen (current (s .figures))) (cond d (readLen (current (s .figures))) none)))) ≤ maxRecord
-    go true b c d = omega arith
-    go false true c d = omega arith
-    go false false true d = current-most (s .figures) .0
-    go false false false true = current-most (s .figures) .1
-    go false false false false = omega arith
+    go : (a l b c d : Bool)
+        → orZero (cond a (some (headLen + 6)) (cond l (some (headLen + 5)) (cond b (some (headLen + 4)) (cond c (writeLen (current (s .figures))) (cond d (readLen (current (s .figures))) none))))) ≤ maxRecord
+    go true l b c d = omega arith
+    go false true b c d = omega arith
+    go false false true c d = omega arith
+    go false false false true d = current-most (s .figures) .0
+    go false false false false true = current-most (s .figures) .1
+    go false false false false false = omega arith
 
 -- a length that is a record's
 pub measured : (s : Session) (letter r : ℕ) → r ≡ orZero (recordLen s letter) → (r ≡ orZero (recordLen s letter)) × (r ≤ maxRecord)
@@ -93,33 +108,34 @@ measured s letter r e = (e, omega (arith, e, record-most s letter))
 
 -- ---- A letter of no record
 
-pub len-other : (s : Session) (letter : ℕ) → letter ≢ 83 → letter ≢ 79 → letter ≢ 67 → letter ≢ 70 → letter ≢ 87 → letter ≢ 82
+pub len-other : (s : Session) (letter : ℕ) → letter ≢ 83 → letter ≢ 76 → letter ≢ 79 → letter ≢ 67 → letter ≢ 70 → letter ≢ 87 → letter ≢ 82
     → recordLen s letter ≡ none
 unfolding recordLen
-len-other s letter a b c d e f = rw (eqb-other letter 83 a, no-kind letter b c d, eqb-other letter 87 e, eqb-other letter 82 f)
+len-other s letter a l b c d e f = rw (eqb-other letter 83 a, eqb-other letter 76 l, no-kind letter b c d, eqb-other letter 87 e, eqb-other letter 82 f)
 
 -- ---- A record that can be read
 
-write-reaches : (f : Option Params) → headLen ≤ reach (writeLen f)
+write-reaches : (f : Option Figures) → headLen ≤ reach (writeLen f)
 write-reaches none = omega arith
 write-reaches (some f) = omega arith
 
-read-reaches : (f : Option Params) → headLen ≤ reach (readLen f)
+read-reaches : (f : Option Figures) → headLen ≤ reach (readLen f)
 read-reaches none = omega arith
 read-reaches (some f) = omega arith
 
 -- no record is shorter than mark and letter
 pub reaches : (s : Session) (letter : ℕ) → headLen ≤ reach (recordLen s letter)
 unfolding recordLen
-reaches s letter = go (eqb letter letterS) (isLetter letter) (eqb letter letterW) (eqb letter letterR)
+reaches s letter = go (eqb letter letterS) (eqb letter letterL) (isLetter letter) (eqb letter letterW) (eqb letter letterR)
   where
-    go : (a b c d : Bool)
-        → headLen ≤ reach (cond a (some (headLen + 6)) (cond b (some (headLen + 4)) (cond c (writeLen (current (s .figures))) (cond d (readLen (current (s .figures))) none))))
-    go true b c d = omega arith
-    go false true c d = omega arith
-    go false false true d = write-reaches (current (s .figures))
-    go false false false true = read-reaches (current (s .figures))
-    go false false false false = omega arith
+    go : (a l b c d : Bool)
+        → headLen ≤ reach (cond a (some (headLen + 6)) (cond l (some (headLen + 5)) (cond b (some (headLen + 4)) (cond c (writeLen (current (s .figures))) (cond d (readLen (current (s .figures))) none)))))
+    go true l b c d = omega arith
+    go false true b c d = omega arith
+    go false false true c d = omega arith
+    go false false false true d = write-reaches (current (s .figures))
+    go false false false false true = read-reaches (current (s .figures))
+    go false false false false false = omega arith
 
 never : (t : Bool) → (t && false) ≡ false
 never true = refl
@@ -245,18 +261,22 @@ whole-reaches bytes (some k) l h = omega (arith, eqb-true (length bytes) k h)
 pub whole-long : (s : Session) (letter : ℕ) (bytes : List ℕ) → isWhole bytes (recordLen s letter) ≡ true → headLen ≤ length bytes
 whole-long s letter bytes h = whole-reaches bytes (recordLen s letter) (reaches s letter) h
 
-pub write-long : (l : Layout) (f : Option Params) (bytes : List ℕ) → current f ≡ some (figuresOf l) → isWhole bytes (writeLen (current f)) ≡ true
-    → headLen + 2 * l .m ≤ length bytes
-write-long l f bytes e h =
-    omega (arith, whole-len bytes (writeLen (current f)) (headLen + 2 * l .m + payloadLen (l .q) (messageLen (figuresOf l))) (ap writeLen e) h)
+module _ (last : Option Figures) (f : Figures) (l : Layout) (is : IsCurrent last f l) (bytes : List ℕ) where
+  pub write-long : isWhole bytes (writeLen (current last)) ≡ true → headLen + 2 * l .m ≤ length bytes
+  write-long h =
+      omega (arith, whole-len bytes (writeLen (current last)) (headLen + 2 * codingOf f .bursts + payloadLenOf f) (ap writeLen (is .are)) h, is .numbers .bursts-is)
 
-pub read-long : (l : Layout) (f : Option Params) (bytes : List ℕ) → current f ≡ some (figuresOf l) → isWhole bytes (readLen (current f)) ≡ true → headLen ≤ length bytes
-read-long l f bytes e h = omega (arith, whole-len bytes (readLen (current f)) (headLen + l .n) (ap readLen e) h)
+  pub read-long : isWhole bytes (readLen (current last)) ≡ true → headLen ≤ length bytes
+  read-long h = omega (arith, whole-len bytes (readLen (current last)) (headLen + codingOf f .codec .wordLen) (ap readLen (is .are)) h)
 
 module _ (s : Session) (letter : ℕ) where
   pub len-S : letter ≡ 83 → recordLen s letter ≡ some 9
   unfolding recordLen
   len-S e = rw e
+
+  pub len-L : letter ≡ 76 → recordLen s letter ≡ some 8
+  unfolding recordLen
+  len-L e = rw e
 
   pub len-O : letter ≡ 79 → recordLen s letter ≡ some 7
   unfolding recordLen kindOf
@@ -278,12 +298,12 @@ module _ (s : Session) (letter : ℕ) where
   unfolding recordLen kindOf
   len-R e = rw e
 
-  -- none of the other three
-  pub len-call : (bytes : List ℕ) → letter ≢ 83 → letter ≢ 87 → letter ≢ 82 → isWhole bytes (recordLen s letter) ≡ true
+  -- none of the other four
+  pub len-call : (bytes : List ℕ) → letter ≢ 83 → letter ≢ 76 → letter ≢ 87 → letter ≢ 82 → isWhole bytes (recordLen s letter) ≡ true
       → (recordLen s letter ≡ some 7) × (isLetter letter ≡ true)
   unfolding recordLen
-  len-call bytes a b c =
-      rw (eqb-other letter 83 a, eqb-other letter 87 b, eqb-other letter 82 c) (go (isLetter letter))
+  len-call bytes a l b c =
+      rw (eqb-other letter 83 a, eqb-other letter 76 l, eqb-other letter 87 b, eqb-other letter 82 c) (go (isLetter letter))
     where
       go : (t : Bool) → isWhole bytes (cond t (some 7) none) ≡ true → (_≡_ {A = Option ℕ} (cond t (some 7) none) (some 7)) × (t ≡ true)
       go true h = (refl, refl)

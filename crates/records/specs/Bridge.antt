@@ -1,32 +1,42 @@
 -- The declared session as the definitions hold it, and what the functions on it answer. Assumes nothing.
 use mathlib.Core.Path.{_≡_}
-use mathlib.Core.Option.{Option, none, some}
 use mathlib.Core.List.{List}
+use mathlib.Core.Option.{Option, none, some}
 use Prim.Native.Nat.{ℕ, _+_, _*_, _≤_}
 use lib.ListN.{length}
-use Rattle.construction_a.specs.Figures.{Params, maxBursts}
-use Rattle.params.specs.Bridge.{given}
-use Rattle.params.specs.Given.{figuresOf, Fitting}
-use Rattle.params.specs.declared.LayoutAnswer.{LayoutAnswer}
-use Rattle.params.specs.declared.LayoutAnswer.the-variants.{Fit, Refused}
+use Rattle.cells.specs.Outcomes.{maxBursts}
+use Rattle.params.specs.Answer.{LaidAs, HasNumbers, Small}
+use Rattle.params.specs.Bridge.{codingOf}
+use Rattle.params.specs.declared.Figures.{Figures}
+use Rattle.params.specs.declared.Layout.{Layout}
+use Rattle.params.specs.declared.LayoutAnswer.the-variants.{Fit}
 use Rattle.jobs.specs.Slots.{entries}
+use Rattle.records.specs.declared.CurrentAnswer.{CurrentAnswer}
+use Rattle.records.specs.declared.CurrentAnswer.the-variants.{Missing as NoFigures, Laid}
 use Rattle.records.specs.declared.LastFigures.{LastFigures}
 use Rattle.records.specs.declared.LastFigures.the-variants.{Missing, Accepted}
 use Rattle.records.specs.declared.Session.{Session as Given}
 use Rattle.records.specs.Session.{Session}
 use Rattle.records.specs.Records.{headLen, current}
 
-abbrev pub lastFigures : LastFigures → Option Params
+abbrev pub lastFigures : LastFigures → Option Figures
 lastFigures Missing = none
-lastFigures (Accepted f) = some (given f)
+lastFigures (Accepted f) = some f
 
 abbrev pub sessionOf : Given → Session
 sessionOf s = record { figures = lastFigures (s .figures); table = entries (s .table); count = s .records }
 
--- the layout of the last accepted figures, or a refusal where there are none
-abbrev pub Current : Option Params → LayoutAnswer → Type 0
-Current f (Fit l) = (current f ≡ some (figuresOf l)) × Fitting l
-Current f (Refused a) = current f ≡ none
+-- these are the last accepted figures, and this is their layout
+pub record IsCurrent (last : Option Figures) (f : Figures) (l : Layout) : Type 0 where
+  pub are : current last ≡ some f
+  pub laid : LaidAs f (Fit l)
+  pub numbers : HasNumbers (codingOf f) l
+  pub small : Small (codingOf f)
+
+-- the last accepted figures with their layout, or that there are none
+abbrev pub Current : Option Figures → CurrentAnswer → Type 0
+Current last (Laid f l) = IsCurrent last f l
+Current last NoFigures = current last ≡ none
 
 -- a length, or 0 where there is none
 abbrev pub orZero : Option ℕ → ℕ

@@ -7,11 +7,13 @@ use lib.Dec.{ltb, eqb}
 use lib.ListN.{length, getD, drop}
 use Rattle.combinatorics.specs.Stretch.{tabulate}
 use Rattle.cells.specs.Bytes.{byteValues, payloadLen}
-use Rattle.construction_a.specs.Figures.{Params, params, maxWord, maxBursts, messageLen}
-use Rattle.construction_a.specs.Outcomes.{Held, held, FiguresOut, figured, unserved, figuresOut}
+use Rattle.cells.specs.Outcomes.{maxBursts, Held, held, FiguresOut, figured, unserved, figuresUnder}
+use Rattle.construction_a.specs.Figures.{maxWord}
+use Rattle.params.specs.declared.Figures.{Figures}
+use Rattle.params.specs.declared.Figures.the-variants.{Ranked, Long}
+use Rattle.params.specs.Bridge.{codingOf}
 use Rattle.jobs.specs.Letters.{isLetter}
-use Rattle.text.specs.Text.{hex}
-use Rattle.lines.specs.Lines.{letterS, letterW, letterR}
+use Rattle.lines.specs.Lines.{letterS, letterL, letterW, letterR}
 use Rattle.records.specs.Session.{Session}
 
 -- ---- What a record is made of
@@ -36,35 +38,40 @@ twoBytes bytes i = getD bytes i 0 * byteValues + getD bytes (i + 1) 0
 
 -- ---- How long it is
 
--- figures that an S with them is accepted for
-abbrev pub ifFit : Params → FiguresOut → Option Params
+-- figures that an S or L with them is accepted for
+abbrev pub ifFit : Figures → FiguresOut → Option Figures
 ifFit f (figured t r k) = some f
 ifFit f (unserved a) = none
 
--- those of the last accepted S
-abbrev pub current : Option Params → Option Params
+-- those of the last accepted S or L
+abbrev pub current : Option Figures → Option Figures
 current none = none
-current (some f) = ifFit f (figuresOut f)
+current (some f) = ifFit f (figuresUnder (codingOf f))
+
+-- K
+abbrev pub payloadLenOf : Figures → ℕ
+payloadLenOf f = payloadLen (codingOf f .codec .alphabet) (codingOf f .codec .messageLen)
 
 -- "W (write) m starts (2 each) and K bytes"
-abbrev pub writeLen : Option Params → Option ℕ
+abbrev pub writeLen : Option Figures → Option ℕ
 writeLen none = none
-writeLen (some f) = some (headLen + 2 * f .m + payloadLen (f .q) (messageLen f))
+writeLen (some f) = some (headLen + 2 * codingOf f .bursts + payloadLenOf f)
 
 -- "R (read) n bytes"
-abbrev pub readLen : Option Params → Option ℕ
+abbrev pub readLen : Option Figures → Option ℕ
 readLen none = none
-readLen (some f) = some (headLen + f .n)
+readLen (some f) = some (headLen + codingOf f .codec .wordLen)
 
--- "S (figures) n (2 bytes), q−1 (1), m (1), b (2); O (open), C (cancel), F (finish) a job number (4)". Nothing for an "unknown letter" and for
--- "W or R before an accepted S".
+-- "S (figures) n (2 bytes), q−1 (1), m (1), b (2); O (open), C (cancel), F (finish) a job number (4)"; document 02, ticket 1: "letter L carries n (2
+-- bytes), q−1 (1) and b (2)". Nothing for an "unknown letter" and for "W or R before an accepted S"; "an accepted L serves a W or R as an accepted S does".
 unfoldable pub recordLen : Session → ℕ → Option ℕ
 recordLen s letter =
     cond (eqb letter letterS) (some (headLen + 6))
+    (cond (eqb letter letterL) (some (headLen + 5))
     (cond (isLetter letter) (some (headLen + 4))
     (cond (eqb letter letterW) (writeLen (current (s .figures)))
     (cond (eqb letter letterR) (readLen (current (s .figures)))
-    none)))
+    none))))
 
 -- no record is longer: the starts of the most bursts, and as many bytes as the longest word has symbols
 abbrev pub maxRecord : ℕ
@@ -101,13 +108,17 @@ neededFor s bytes = reach (begunLen s bytes)
 -- ---- What it says
 
 -- "S (figures) n (2 bytes), q−1 (1), m (1), b (2)"
-abbrev pub figuresIn : List ℕ → Params
-figuresIn bytes = params (twoBytes bytes 3) (getD bytes 5 0 + 1) (getD bytes 6 0) (twoBytes bytes 7)
+abbrev pub figuresIn : List ℕ → Figures
+figuresIn bytes = Ranked (record { n = twoBytes bytes 3; q = getD bytes 5 0 + 1; m = getD bytes 6 0; b = twoBytes bytes 7 })
+
+-- document 02, ticket 1: "L carries n (2 bytes), q−1 (1) and b (2)"
+abbrev pub longFiguresIn : List ℕ → Figures
+longFiguresIn bytes = Long (record { n = twoBytes bytes 3; q = getD bytes 5 0 + 1; b = twoBytes bytes 6 })
 
 -- "m starts (2 each)"
-abbrev pub startsIn : Params → List ℕ → Held
-startsIn f bytes = held (tabulate (f .m) 0 (λ i. twoBytes bytes (headLen + 2 * i)))
+abbrev pub startsIn : Figures → List ℕ → Held
+startsIn f bytes = held (tabulate (codingOf f .bursts) 0 (λ i. twoBytes bytes (headLen + 2 * i)))
 
 -- "and K bytes"
-abbrev pub payloadOf : Params → List ℕ → List ℕ
-payloadOf f bytes = drop (headLen + 2 * f .m) bytes
+abbrev pub payloadOf : Figures → List ℕ → List ℕ
+payloadOf f bytes = drop (headLen + 2 * codingOf f .bursts) bytes

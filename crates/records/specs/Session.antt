@@ -2,13 +2,13 @@
 use mathlib.Core.List.{List}
 use mathlib.Core.Option.{Option, none}
 use Prim.Native.Nat.{ℕ, suc}
-use Rattle.construction_a.specs.Figures.{Params}
+use Rattle.params.specs.declared.Figures.{Figures}
 use Rattle.jobs.specs.declared.Entry.{Entry}
 use Rattle.jobs.specs.Table.{emptyTable}
 
--- the figures of the last accepted S, the job table, and how many records were served
+-- the figures of the last accepted S or L, the job table, and how many records were served
 pub record Session : Type 0 where
-  pub figures : Option Params
+  pub figures : Option Figures
   pub table : List Entry
   pub count : ℕ
 
@@ -21,5 +21,5 @@ abbrev pub maxRecords : ℕ
 maxRecords = 4294967295
 
 -- after one record more, with these figures and this table
-abbrev pub after : Session → Option Params → List Entry → Session
+abbrev pub after : Session → Option Figures → List Entry → Session
 after s f es = record { figures = f; table = es; count = suc (s .count) }

@@ -1,29 +1,35 @@
 // The records that the transfer program takes: what is kept between them, how long each is, and what its bytes say. Assumes nothing.
 ghost use mathlib.Core.Path.{_≡_};
-ghost use mathlib.Core.Bool.{false};
+ghost use mathlib.Core.Option.{some};
 ghost use Prim.Native.Nat.{_+_, _*_, _≤_, _<_};
 ghost use lib.ListN.{length};
 ghost use Rattle.combinatorics.specs.Stretch.{tabulate};
-ghost use Rattle.construction_a.specs.Outcomes.{held};
-ghost use Rattle.params.specs.Bridge.{given};
-ghost use Rattle.params.specs.Given.{figuresOf, Fitting};
+ghost use Rattle.cells.specs.Outcomes.{held};
 ghost use Rattle.placements.specs.Bridge.{heldAs};
 ghost use Rattle.records.specs.Session.{atStart, maxRecords};
 ghost use Rattle.lines.specs.Lines.{maxLine};
-ghost use Rattle.records.specs.Records.{headLen, twoBytes, writeLen, readLen, recordLen, maxRecord, readable, current as currentOf, figuresIn, begunLen, neededFor};
+ghost use Rattle.records.specs.Records.{headLen, twoBytes, writeLen, readLen, recordLen, maxRecord, readable, current as currentOf, figuresIn, longFiguresIn, begunLen, neededFor};
 ghost use Rattle.records.specs.Bridge.{lastFigures, sessionOf, Current, orZero, HasStarts};
 use jobs::JobTable;
+use params::Figures;
 use params::Layout;
 use params::LayoutAnswer;
 use params::Params;
 use params::bytes;
+use params::long::LongParams;
 use placements::Placement;
 use refusals::Refusal;
 
-// The figures of the last accepted S.
+// The figures of the last accepted S or L.
 pub enum LastFigures {
     Missing,
-    Accepted(Params),
+    Accepted(Figures),
+}
+
+// Those figures with their layout.
+pub enum CurrentAnswer {
+    Missing,
+    Laid(Figures, Layout),
 }
 
 // What is kept between two records: figures, job table, and how many records were served.
@@ -37,6 +43,8 @@ pub struct Session {
 pub const HEAD_LEN: usize = 3;
 
 const FIGURES_LEN: usize = 6;
+
+const LONG_FIGURES_LEN: usize = 5;
 
 const NUMBER_LEN: usize = 4;
 
@@ -69,7 +77,7 @@ impl Session {
     }
 }
 
-// How many bytes a record with this letter has, mark and letter included; 0 for an unknown letter and for W or R before an accepted S.
+// How many bytes a record with this letter has, mark and letter included; 0 for an unknown letter and for W or R before an accepted S or L.
 fn record_len(session: Session, letter: u8) -> usize
     ensures len { λ r. ⌜ r ≡ orZero (recordLen (sessionOf session) letter) ⌝ }
     ensures most { λ r. ⌜ r ≤ maxRecord ⌝ }
@@ -77,6 +85,7 @@ fn record_len(session: Session, letter: u8) -> usize
     let figures = session.figures;
     match letter {
         b'S' => HEAD_LEN + FIGURES_LEN,
+        b'L' => HEAD_LEN + LONG_FIGURES_LEN,
         b'O' => HEAD_LEN + NUMBER_LEN,
         b'C' => HEAD_LEN + NUMBER_LEN,
         b'F' => HEAD_LEN + NUMBER_LEN,
@@ -91,7 +100,7 @@ fn write_len(figures: LastFigures) -> usize
     ensures { λ r. ⌜ r ≡ orZero (writeLen (currentOf (lastFigures figures))) ⌝ }
 {
     let answer = current(figures);
-    let LayoutAnswer::Fit(layout) = answer else {
+    let CurrentAnswer::Laid(_, layout) = answer else {
         return 0;
     };
     HEAD_LEN + 2 * layout.m + bytes::payload_len(layout.q, layout.message_len)
@@ -102,19 +111,30 @@ fn read_len(figures: LastFigures) -> usize
     ensures { λ r. ⌜ r ≡ orZero (readLen (currentOf (lastFigures figures))) ⌝ }
 {
     let answer = current(figures);
-    let LayoutAnswer::Fit(layout) = answer else {
+    let CurrentAnswer::Laid(_, layout) = answer else {
         return 0;
     };
     HEAD_LEN + layout.n
 }
 
-// The layout of the last accepted figures.
-pub fn current(figures: LastFigures) -> LayoutAnswer
+// The last accepted figures and their layout.
+pub fn current(figures: LastFigures) -> CurrentAnswer
     ensures { λ r. ⌜ Current (lastFigures figures) r ⌝ }
 {
     match figures {
-        LastFigures::Missing => LayoutAnswer::Refused(Refusal::RECORD),
-        LastFigures::Accepted(given) => Params::figures(given.n, given.q, given.m, given.b),
+        LastFigures::Missing => CurrentAnswer::Missing,
+        LastFigures::Accepted(given) => laid(given),
+    }
+}
+
+// The same of figures that were accepted; they are laid out anew for each record.
+fn laid(figures: Figures) -> CurrentAnswer
+    ensures { λ r. ⌜ Current (some figures) r ⌝ }
+{
+    let answer = figures.layout();
+    match answer {
+        LayoutAnswer::Refused(_) => CurrentAnswer::Missing,
+        LayoutAnswer::Fit(layout) => CurrentAnswer::Laid(figures, layout),
     }
 }
 
@@ -159,29 +179,28 @@ fn begun_len(session: Session, received: &[u8]) -> usize
 }
 
 // The figures of an S record.
-pub fn figures_in(received: &[u8]) -> Params
+pub fn figures_in(received: &[u8]) -> Figures
     requires { ⌜ length (now received) ≡ headLen + 6 ⌝ }
-    ensures { λ r. ⌜ given r ≡ figuresIn (now (received .entry)) ⌝ }
+    ensures { λ r. ⌜ r ≡ figuresIn (now (received .entry)) ⌝ }
 {
-    Params {
+    Figures::Ranked(Params {
         n: two_bytes(received, 3) as u32,
         q: received[5] as u32 + 1,
         m: received[6] as u32,
         b: two_bytes(received, 7) as u32,
-    }
+    })
 }
 
-// The figures of a layout, as a caller passes them.
-pub fn figures_of(layout: Layout) -> Params
-    requires { ⌜ Fitting layout ⌝ }
-    ensures { λ r. ⌜ given r ≡ figuresOf layout ⌝ }
+// The figures of an L record.
+pub fn long_figures_in(received: &[u8]) -> Figures
+    requires { ⌜ length (now received) ≡ headLen + 5 ⌝ }
+    ensures { λ r. ⌜ r ≡ longFiguresIn (now (received .entry)) ⌝ }
 {
-    Params {
-        n: layout.n as u32,
-        q: layout.q as u32,
-        m: layout.m as u32,
-        b: layout.b as u32,
-    }
+    Figures::Long(LongParams {
+        n: two_bytes(received, 3) as u32,
+        q: received[5] as u32 + 1,
+        b: two_bytes(received, 6) as u32,
+    })
 }
 
 // The placement whose starts stand in a W record.

@@ -70,14 +70,14 @@ fn figures_row(p: Params) {
 // Covering on the first strip, without a defect and with one at position 12.
 fn sound_row() {
     let map = [0u8; 30];
-    let answer = placements::cover(first_strip(), &map);
+    let answer = placements::cover(Figures::Ranked(first_strip()), &map);
     cover_row(b"no defect", answer);
 }
 
 fn worn_row() {
     let mut map = [0u8; 30];
     map[12] = 1;
-    let answer = placements::cover(first_strip(), &map);
+    let answer = placements::cover(Figures::Ranked(first_strip()), &map);
     cover_row(b"defect at 12", answer);
 }
 

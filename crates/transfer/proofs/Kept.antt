@@ -7,16 +7,17 @@ use Prim.Native.Nat.{ℕ}
 use lib.Dec.{ltb, eqb}
 use lib.ListN.{drop}
 use Rattle.refusals.specs.Refusals.{must}
-use Rattle.construction_a.specs.Figures.{Params}
-use Rattle.construction_a.specs.Outcomes.{FiguresOut, figured, unserved, figuresOut}
+use Rattle.cells.specs.Outcomes.{FiguresOut, figured, unserved, figuresUnder}
+use Rattle.params.specs.Bridge.{codingOf}
+use Rattle.params.specs.declared.Figures.{Figures}
 use Rattle.jobs.specs.Letters.{kindOf, callBy, isLetter}
 use Rattle.payloads.specs.Payload.{jobNumber}
 use Rattle.records.specs.Session.{Session, atStart, maxRecords}
-use Rattle.lines.specs.Lines.{letterS, letterW, letterR}
-use Rattle.records.specs.Records.{headLen, letterOf, isEmpty, ifFit, current, readable, figuresIn}
+use Rattle.lines.specs.Lines.{letterS, letterL, letterW, letterR}
+use Rattle.records.specs.Records.{headLen, letterOf, isEmpty, ifFit, current, readable, figuresIn, longFiguresIn}
 use Rattle.transfer.specs.Steps.{Step, stopped, ended, figuresStep, callStep, writeOut, readOut, serveOut, stepOut}
 
--- the figures that are held are those of the last accepted S
+-- the figures that are held are those of the last accepted S or L
 abbrev pub Accepted : Session → Type 0
 Accepted s = current (s .figures) ≡ s .figures
 
@@ -24,31 +25,33 @@ pub start-accepted : Accepted atStart
 start-accepted = refl
 
 module _ (s : Session) (h : Accepted s) (bytes : List ℕ) where
-  figures-accepted : (f : Params) (o : FiguresOut) → figuresOut f ≡ o → Accepted (figuresStep s f o .next)
-  figures-accepted f (figured t r k) e = ap (ifFit f) e
-  figures-accepted f (unserved a) e = h
+  figures-accepted : (letter : ℕ) (f : Figures) (o : FiguresOut) → figuresUnder (codingOf f) ≡ o → Accepted (figuresStep s letter f o .next)
+  figures-accepted letter f (figured t r k) e = ap (ifFit f) e
+  figures-accepted letter f (unserved a) e = h
 
-  write-accepted : (f : Option Params) → Accepted (writeOut s bytes f .next)
+  write-accepted : (f : Option Figures) → Accepted (writeOut s bytes f .next)
   write-accepted none = h
   write-accepted (some f) = h
 
-  read-accepted : (f : Option Params) → Accepted (readOut s bytes f .next)
+  read-accepted : (f : Option Figures) → Accepted (readOut s bytes f .next)
   read-accepted none = h
   read-accepted (some f) = h
 
   serve-accepted : (letter : ℕ) → Accepted (serveOut s letter bytes .next)
   unfolding serveOut
-  serve-accepted letter = go (eqb letter letterS) (isLetter letter) (eqb letter letterW) (eqb letter letterR)
+  serve-accepted letter = go (eqb letter letterS) (eqb letter letterL) (isLetter letter) (eqb letter letterW) (eqb letter letterR)
     where
-      go : (a b c d : Bool)
-          → Accepted (cond a (figuresStep s (figuresIn bytes) (figuresOut (figuresIn bytes)))
+      go : (a l b c d : Bool)
+          → Accepted (cond a (figuresStep s letter (figuresIn bytes) (figuresUnder (codingOf (figuresIn bytes))))
+          (cond l (figuresStep s letter (longFiguresIn bytes) (figuresUnder (codingOf (longFiguresIn bytes))))
           (cond b (callStep s letter (callBy (kindOf letter) (s .table) (jobNumber (drop headLen bytes))))
-          (cond c (writeOut s bytes (current (s .figures))) (cond d (readOut s bytes (current (s .figures))) (stopped s)))) .next)
-      go true b c d = figures-accepted (figuresIn bytes) (figuresOut (figuresIn bytes)) refl
-      go false true c d = h
-      go false false true d = write-accepted (current (s .figures))
-      go false false false true = read-accepted (current (s .figures))
-      go false false false false = h
+          (cond c (writeOut s bytes (current (s .figures))) (cond d (readOut s bytes (current (s .figures))) (stopped s))))) .next)
+      go true l b c d = figures-accepted letter (figuresIn bytes) (figuresUnder (codingOf (figuresIn bytes))) refl
+      go false true b c d = figures-accepted letter (longFiguresIn bytes) (figuresUnder (codingOf (longFiguresIn bytes))) refl
+      go false false true c d = h
+      go false false false true d = write-accepted (current (s .figures))
+      go false false false false true = read-accepted (current (s .figures))
+      go false false false false false = h
 
   pub step-accepted : Accepted (stepOut s bytes .next)
   unfolding stepOut

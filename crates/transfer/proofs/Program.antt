@@ -11,14 +11,15 @@ use lib.ListN.{length, take, drop}
 use Rattle.refusals.specs.Refusals.{must}
 use Rattle.combinatorics.proofs.Cases.{eqb-other, leb-holds, leb-fails}
 use Rattle.combinatorics.proofs.Lists.{both}
-use Rattle.construction_a.specs.Figures.{Params}
-use Rattle.construction_a.specs.Outcomes.{FiguresOut, figured, unserved, figuresOut}
+use Rattle.cells.specs.Outcomes.{FiguresOut, figured, unserved, figuresUnder}
+use Rattle.params.specs.Bridge.{codingOf}
+use Rattle.params.specs.declared.Figures.{Figures}
 use Rattle.jobs.specs.Letters.{kindOf, callBy, isLetter}
 use Rattle.payloads.specs.Payload.{jobNumber}
 use Rattle.records.proofs.Lengths.{reaches}
 use Rattle.records.specs.Session.{Session, atStart, maxRecords}
-use Rattle.lines.specs.Lines.{stopLine, endLine, letterS, letterW, letterR}
-use Rattle.records.specs.Records.{headLen, letterOf, isMarked, isEmpty, current, writeLen, readLen, recordLen, isWhole, readable, figuresIn, reach}
+use Rattle.lines.specs.Lines.{stopLine, endLine, letterS, letterL, letterW, letterR}
+use Rattle.records.specs.Records.{headLen, letterOf, isMarked, isEmpty, current, writeLen, readLen, recordLen, isWhole, readable, figuresIn, longFiguresIn, reach}
 use Rattle.transfer.specs.Steps.{Step, stopped, ended, figuresStep, callStep, writeOut, readOut, serveOut, stepOut}
 use Rattle.transfer.specs.Program.{nextRecord, behind, printedFrom, printed, Steps, lastStep, step, StepsPrint}
 
@@ -29,32 +30,34 @@ record Goes (s : Session) (o : Step) : Type 0 where
   goes : o .stops ≡ false
 
 module _ (s : Session) (bytes : List ℕ) where
-  figures-go : (f : Params) (out : FiguresOut) → Goes s (figuresStep s f out)
-  figures-go f (figured t r k) = record { counted = refl; goes = refl }
-  figures-go f (unserved a) = record { counted = refl; goes = refl }
+  figures-go : (letter : ℕ) (f : Figures) (out : FiguresOut) → Goes s (figuresStep s letter f out)
+  figures-go letter f (figured t r k) = record { counted = refl; goes = refl }
+  figures-go letter f (unserved a) = record { counted = refl; goes = refl }
 
-  write-goes : (f : Option Params) → isWhole bytes (writeLen f) ≡ true → Goes s (writeOut s bytes f)
+  write-goes : (f : Option Figures) → isWhole bytes (writeLen f) ≡ true → Goes s (writeOut s bytes f)
   write-goes none h = absurd (false≢true h)
   write-goes (some f) h = record { counted = refl; goes = refl }
 
-  read-goes : (f : Option Params) → isWhole bytes (readLen f) ≡ true → Goes s (readOut s bytes f)
+  read-goes : (f : Option Figures) → isWhole bytes (readLen f) ≡ true → Goes s (readOut s bytes f)
   read-goes none h = absurd (false≢true h)
   read-goes (some f) h = record { counted = refl; goes = refl }
 
   serve-goes : (letter : ℕ) → isWhole bytes (recordLen s letter) ≡ true → Goes s (serveOut s letter bytes)
   unfolding recordLen serveOut
-  serve-goes letter = go (eqb letter letterS) (isLetter letter) (eqb letter letterW) (eqb letter letterR)
+  serve-goes letter = go (eqb letter letterS) (eqb letter letterL) (isLetter letter) (eqb letter letterW) (eqb letter letterR)
     where
-      go : (a b c d : Bool)
-          → isWhole bytes (cond a (some (headLen + 6)) (cond b (some (headLen + 4)) (cond c (writeLen (current (s .figures))) (cond d (readLen (current (s .figures))) none)))) ≡ true
-          → Goes s (cond a (figuresStep s (figuresIn bytes) (figuresOut (figuresIn bytes)))
+      go : (a l b c d : Bool)
+          → isWhole bytes (cond a (some (headLen + 6)) (cond l (some (headLen + 5)) (cond b (some (headLen + 4)) (cond c (writeLen (current (s .figures))) (cond d (readLen (current (s .figures))) none))))) ≡ true
+          → Goes s (cond a (figuresStep s letter (figuresIn bytes) (figuresUnder (codingOf (figuresIn bytes))))
+          (cond l (figuresStep s letter (longFiguresIn bytes) (figuresUnder (codingOf (longFiguresIn bytes))))
           (cond b (callStep s letter (callBy (kindOf letter) (s .table) (jobNumber (drop headLen bytes))))
-          (cond c (writeOut s bytes (current (s .figures))) (cond d (readOut s bytes (current (s .figures))) (stopped s)))))
-      go true b c d h = figures-go (figuresIn bytes) (figuresOut (figuresIn bytes))
-      go false true c d h = record { counted = refl; goes = refl }
-      go false false true d h = write-goes (current (s .figures)) h
-      go false false false true h = read-goes (current (s .figures)) h
-      go false false false false h = absurd (false≢true h)
+          (cond c (writeOut s bytes (current (s .figures))) (cond d (readOut s bytes (current (s .figures))) (stopped s))))))
+      go true l b c d h = figures-go letter (figuresIn bytes) (figuresUnder (codingOf (figuresIn bytes)))
+      go false true b c d h = figures-go letter (longFiguresIn bytes) (figuresUnder (codingOf (longFiguresIn bytes)))
+      go false false true c d h = record { counted = refl; goes = refl }
+      go false false false true d h = write-goes (current (s .figures)) h
+      go false false false false true h = read-goes (current (s .figures)) h
+      go false false false false false h = absurd (false≢true h)
 
   readable-goes : readable s bytes ≡ true → Goes s (serveOut s (letterOf bytes) bytes)
   unfolding readable

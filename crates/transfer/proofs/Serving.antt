@@ -10,20 +10,20 @@ use lib.ListN.{length, take, drop, replicate}
 use Rattle.refusals.specs.Refusals.{must, served, invalid, unfit, wrongLength, badPayload}
 use Rattle.combinatorics.proofs.Cases.{eqb-same, eqb-other, eqb-true, leb-holds, leb-fails}
 use Rattle.cells.specs.Bytes.{payloadLen}
-use Rattle.construction_a.specs.Figures.{Params, inRange, fits, messageLen}
-use Rattle.construction_a.specs.Outcomes.{Held, Encoded, figuresOut}
+use Rattle.cells.specs.Outcomes.{Coding, Held, Encoded, figuresUnder}
+use Rattle.params.specs.Bridge.{codingOf}
 use Rattle.jobs.specs.declared.Entry.{Entry}
 use Rattle.jobs.specs.Letters.{kindOf, callBy, isLetter}
 use Rattle.jobs.specs.Table.{twice}
 use Rattle.payloads.specs.Payload.{carriesJob, jobNumber}
 use Rattle.payloads.proofs.Payload.{carries-five}
-use Rattle.jobcodec.specs.JobWrite.{jobWriteOut}
-use Rattle.jobcodec.specs.JobRead.{JobRead, withhold, jobReading, jobReadOut}
+use Rattle.jobcodec.specs.JobWrite.{jobWriteUnder}
+use Rattle.jobcodec.specs.JobRead.{JobRead, withhold, jobReading, jobReadUnder}
 use Rattle.text.specs.Text.{overwrite}
 use Rattle.transfer.specs.declared.StepAnswer.{StepAnswer}
 use Rattle.records.specs.Session.{Session, maxRecords, after}
 use Rattle.lines.specs.Lines.{refusalLine, servedLine}
-use Rattle.records.specs.Records.{headLen, letterOf, current, readable, figuresIn}
+use Rattle.records.specs.Records.{headLen, letterOf, current, readable, figuresIn, longFiguresIn}
 use Rattle.transfer.specs.Steps.{stopped, ended, goesOn, figuresStep, callStep, jobStep, writeStep, readStep, writeOut, readOut, serveOut, stepOut}
 use Rattle.records.specs.Bridge.{sessionOf}
 use Rattle.transfer.specs.Bridge.{Shown}
@@ -51,18 +51,18 @@ module _ (r : StepAnswer) (before line : List ℕ) where
 
 -- ---- A payload that is handed out has a job number
 
-pub read-number : (f : Params) (es : List Entry) (w out : List ℕ) → jobReadOut f es w out .answer ≡ served → 4 ≤ length out
-unfolding jobReadOut jobReading
-read-number f es w out =
-    go (inRange f && not (twice es)) (fits f) (carriesJob (f .q) (messageLen f)) (carries-five (f .q) (messageLen f)) (eqb (length w) (f .n))
-    (eqb (length out) (payloadLen (f .q) (messageLen f))) (eqb-true (length out) (payloadLen (f .q) (messageLen f))) _
+pub read-number : (d : Coding) (es : List Entry) (w out : List ℕ) → jobReadUnder d es w out .answer ≡ served → 4 ≤ length out
+unfolding jobReading
+read-number d es w out =
+    go (d .inRange && not (twice es)) (d .fits) (carriesJob (d .codec .alphabet) (d .codec .messageLen)) (carries-five (d .codec .alphabet) (d .codec .messageLen)) (eqb (length w) (d .codec .wordLen))
+    (eqb (length out) (payloadLen (d .codec .alphabet) (d .codec .messageLen))) (eqb-true (length out) (payloadLen (d .codec .alphabet) (d .codec .messageLen))) _
   where
-    go : (a b c : Bool) → (c ≡ true → 5 ≤ payloadLen (f .q) (messageLen f)) → (d e : Bool) → (e ≡ true → length out ≡ payloadLen (f .q) (messageLen f)) → (rest : JobRead)
-        → must a (withhold out invalid) (must b (withhold out unfit) (must c (withhold out badPayload) (must (d && e) (withhold out wrongLength) rest))) .answer ≡ served
+    go : (a b c : Bool) → (c ≡ true → 5 ≤ payloadLen (d .codec .alphabet) (d .codec .messageLen)) → (x e : Bool) → (e ≡ true → length out ≡ payloadLen (d .codec .alphabet) (d .codec .messageLen)) → (rest : JobRead)
+        → must a (withhold out invalid) (must b (withhold out unfit) (must c (withhold out badPayload) (must (x && e) (withhold out wrongLength) rest))) .answer ≡ served
         → 4 ≤ length out
-    go false b c k d e l rest h = absurd (omega (arith, h))
-    go true false c k d e l rest h = absurd (omega (arith, h))
-    go true true false k d e l rest h = absurd (omega (arith, h))
+    go false b c k x e l rest h = absurd (omega (arith, h))
+    go true false c k x e l rest h = absurd (omega (arith, h))
+    go true true false k x e l rest h = absurd (omega (arith, h))
     go true true true k false e l rest h = absurd (omega (arith, h))
     go true true true k true false l rest h = absurd (omega (arith, h))
     go true true true k true true l rest h = omega (arith, k refl, l refl)
@@ -79,24 +79,28 @@ pub zeros : (n room : ℕ) → n ≤ room → take {A = ℕ} n (replicate room 0
 zeros n room h = take-replicate n room 0 h
 
 module _ (r : StepAnswer) (before line : List ℕ) (s : Session) where
-  pub shown-write : (f f′ : Params) (at at′ : Held) (y y′ w w′ : List ℕ) → f ≡ f′ → at ≡ at′ → y ≡ y′ → w ≡ w′
-      → Shown r before line (writeStep s (jobWriteOut f (s .table) at y w)) → Shown r before line (writeStep s (jobWriteOut f′ (s .table) at′ y′ w′))
-  shown-write f f′ at at′ y y′ w w′ e₁ e₂ e₃ e₄ =
+  pub shown-write : (d : Coding) (at at′ : Held) (y y′ w w′ : List ℕ) → at ≡ at′ → y ≡ y′ → w ≡ w′
+      → Shown r before line (writeStep s (jobWriteUnder d (s .table) at y w)) → Shown r before line (writeStep s (jobWriteUnder d (s .table) at′ y′ w′))
+  shown-write d at at′ y y′ w w′ e₂ e₃ e₄ =
       subst (λ (o : Encoded). Shown r before line (writeStep s o))
-      (ap₂ (λ (g : Params) (h : Held). jobWriteOut g (s .table) h y w) e₁ e₂ ∙ ap₂ (λ (a b : List ℕ). jobWriteOut f′ (s .table) at′ a b) e₃ e₄)
+      (ap (λ (h : Held). jobWriteUnder d (s .table) h y w) e₂ ∙ ap₂ (λ (a b : List ℕ). jobWriteUnder d (s .table) at′ a b) e₃ e₄)
 
-  pub shown-read : (f f′ : Params) (w w′ y y′ : List ℕ) → f ≡ f′ → w ≡ w′ → y ≡ y′
-      → Shown r before line (readStep s (jobReadOut f (s .table) w y)) → Shown r before line (readStep s (jobReadOut f′ (s .table) w′ y′))
-  shown-read f f′ w w′ y y′ e₁ e₂ e₃ =
+  pub shown-read : (d : Coding) (w w′ y y′ : List ℕ) → w ≡ w′ → y ≡ y′
+      → Shown r before line (readStep s (jobReadUnder d (s .table) w y)) → Shown r before line (readStep s (jobReadUnder d (s .table) w′ y′))
+  shown-read d w w′ y y′ e₂ e₃ =
       subst (λ (o : JobRead). Shown r before line (readStep s o))
-      (ap (λ (g : Params). jobReadOut g (s .table) w y) e₁ ∙ ap₂ (λ (a b : List ℕ). jobReadOut f′ (s .table) a b) e₂ e₃)
+      (ap₂ (λ (a b : List ℕ). jobReadUnder d (s .table) a b) e₂ e₃)
 
 -- ---- The record of a letter
 
 module _ (s : Session) (letter : ℕ) (bytes : List ℕ) where
-  pub serve-S : letter ≡ 83 → serveOut s letter bytes ≡ figuresStep s (figuresIn bytes) (figuresOut (figuresIn bytes))
+  pub serve-S : letter ≡ 83 → serveOut s letter bytes ≡ figuresStep s letter (figuresIn bytes) (figuresUnder (codingOf (figuresIn bytes)))
   unfolding serveOut
   serve-S e = rw e
+
+  pub serve-L : letter ≡ 76 → serveOut s letter bytes ≡ figuresStep s letter (longFiguresIn bytes) (figuresUnder (codingOf (longFiguresIn bytes)))
+  unfolding serveOut
+  serve-L e = rw e
 
   pub serve-W : letter ≡ 87 → serveOut s letter bytes ≡ writeOut s bytes (current (s .figures))
   unfolding serveOut kindOf
@@ -106,10 +110,10 @@ module _ (s : Session) (letter : ℕ) (bytes : List ℕ) where
   unfolding serveOut kindOf
   serve-R e = rw e
 
-  pub serve-call-is : letter ≢ 83 → isLetter letter ≡ true
+  pub serve-call-is : letter ≢ 83 → letter ≢ 76 → isLetter letter ≡ true
       → serveOut s letter bytes ≡ callStep s letter (callBy (kindOf letter) (s .table) (jobNumber (drop headLen bytes)))
   unfolding serveOut
-  serve-call-is a e = rw (eqb-other letter 83 a, e)
+  serve-call-is a l e = rw (eqb-other letter 83 a, eqb-other letter 76 l, e)
 
 -- ---- A step, by what is tested
 

@@ -5,7 +5,9 @@ use mathlib.Core.Option.{Option}
 use mathlib.Core.List.{List}
 use Prim.Native.Nat.{ℕ, _≤_, _<_}
 use lib.ListN.{length}
-use Rattle.params.specs.Given.{Fitting}
+use Rattle.params.specs.Answer.{HasNumbers, Small}
+use Rattle.params.specs.Bridge.{codingOf}
+use Rattle.params.specs.declared.Figures.{Figures}
 use Rattle.params.specs.declared.Layout.{Layout}
 use Rattle.records.specs.declared.Session.{Session as Given}
 use Rattle.transfer.specs.declared.StepAnswer.{StepAnswer}
@@ -30,10 +32,11 @@ pub record Shown (r : StepAnswer) (before line : List ℕ) (o : Step) : Type 0 w
   pub len : r .len ≡ length (o .line)
   pub stops : r .stops ≡ o .stops
 
--- the layout of the figures that a W or R record is read by, and a record as long as it needs at least
-pub record Laid (s : Given) (line : List ℕ) (l : Layout) (long : ℕ) (bytes : List ℕ) : Type 0 where
+-- the figures that a W or R record is read by with the numbers of their layout, and a record as long as it needs at least
+pub record Laid (s : Given) (line : List ℕ) (f : Figures) (l : Layout) (long : ℕ) (bytes : List ℕ) : Type 0 where
   pub ready : Ready s line
-  pub fitting : Fitting l
+  pub numbers : HasNumbers (codingOf f) l
+  pub small : Small (codingOf f)
   pub long-enough : long ≤ length bytes
 
 -- a record that has its letter's length

@@ -1,4 +1,5 @@
--- Document 01's example of the transfer program, input and printed lines in full, with a few inputs more. They hold by `rows-hold` of proofs/Example.antt. Assumes nothing.
+-- Document 01's example of the transfer program, input and printed lines in full, with a few inputs more. They hold by `rows-hold` of
+-- proofs/Example.antt. Assumes nothing.
 use mathlib.Core.Path.{_≡_}
 use mathlib.Core.Bool.{true}
 use mathlib.Core.List.{List, [], _∷_, _++_}
@@ -45,6 +46,25 @@ zeroC = 76 ∷ 84 ∷ 67 ∷ 0 ∷ 0 ∷ 0 ∷ 0 ∷ []
 
 abbrev zeroW : List ℕ
 zeroW = 76 ∷ 84 ∷ 87 ∷ 0 ∷ 6 ∷ 0 ∷ 0 ∷ 0 ∷ 0 ∷ 65 ∷ 66 ∷ 67 ∷ 68 ∷ 69 ∷ 70 ∷ 71 ∷ []
+
+-- document 02, ticket 1: "letter L carries n (2 bytes), q−1 (1) and b (2)": n 15, q 256, b 5
+abbrev recordL : List ℕ
+recordL = 76 ∷ 84 ∷ 76 ∷ 0 ∷ 15 ∷ 255 ∷ 0 ∷ 5 ∷ []
+
+-- with q 1
+abbrev refusedL : List ℕ
+refusedL = 76 ∷ 84 ∷ 76 ∷ 0 ∷ 15 ∷ 0 ∷ 0 ∷ 5 ∷ []
+
+-- a W and an R that follow it: one start, and a payload of 8 bytes; the burst's symbols are 255
+abbrev longW : List ℕ
+longW = 76 ∷ 84 ∷ 87 ∷ 0 ∷ 6 ∷ 0 ∷ 0 ∷ 0 ∷ 7 ∷ 65 ∷ 66 ∷ 67 ∷ 68 ∷ []
+
+abbrev longR : List ℕ
+longR = 76 ∷ 84 ∷ 82 ∷ 1 ∷ 0 ∷ 0 ∷ 0 ∷ 7 ∷ 0 ∷ 255 ∷ 255 ∷ 255 ∷ 255 ∷ 255 ∷ 65 ∷ 66 ∷ 67 ∷ 68 ∷ []
+
+-- 010000000700000000000041424344
+abbrev longText : List ℕ
+longText = 48 ∷ 49 ∷ 48 ∷ 48 ∷ 48 ∷ 48 ∷ 48 ∷ 48 ∷ 48 ∷ 55 ∷ 48 ∷ 48 ∷ 48 ∷ 48 ∷ 48 ∷ 48 ∷ 48 ∷ 48 ∷ 48 ∷ 48 ∷ 48 ∷ 48 ∷ 52 ∷ 49 ∷ 52 ∷ 50 ∷ 52 ∷ 51 ∷ 52 ∷ 52 ∷ []
 
 -- 000000000741000042430744454647
 abbrev wordText : List ℕ
@@ -102,6 +122,20 @@ rows =
     ∷ example (printed (zeroO ++ zeroC ++ recordS ++ zeroW))
     (line 79 ((49 ∷ 55 ∷ []) ∷ []) ++ line 67 ((49 ∷ 55 ∷ []) ∷ []) ++ line 83 ((48 ∷ []) ∷ (49 ∷ 52 ∷ []) ∷ (48 ∷ []) ∷ (49 ∷ 49 ∷ []) ∷ [])
     ++ line 87 ((49 ∷ 55 ∷ []) ∷ []) ++ endLine)
+    -- ticket 1: "it prints as S does, T being n − b + 1, and later W and R records follow it"
+    ∷ example (printed (recordL ++ recordO ++ longW ++ longR))
+    (line 76 ((48 ∷ []) ∷ (49 ∷ 49 ∷ []) ∷ (48 ∷ []) ∷ (56 ∷ []) ∷ []) ++ line 79 ((48 ∷ []) ∷ []) ++ line 87 ((48 ∷ []) ∷ longText ∷ [])
+    ++ line 82 ((48 ∷ []) ∷ (48 ∷ 48 ∷ 48 ∷ 48 ∷ 48 ∷ 48 ∷ 48 ∷ 55 ∷ []) ∷ (52 ∷ 49 ∷ 52 ∷ 50 ∷ 52 ∷ 51 ∷ 52 ∷ 52 ∷ []) ∷ []) ++ endLine)
+    -- "until the next accepted S or L"
+    ∷ example (printed (recordL ++ recordS ++ recordO ++ recordW))
+    (line 76 ((48 ∷ []) ∷ (49 ∷ 49 ∷ []) ∷ (48 ∷ []) ∷ (56 ∷ []) ∷ []) ++ line 83 ((48 ∷ []) ∷ (49 ∷ 52 ∷ []) ∷ (48 ∷ []) ∷ (49 ∷ 49 ∷ []) ∷ [])
+    ++ line 79 ((48 ∷ []) ∷ []) ++ line 87 ((48 ∷ []) ∷ wordText ∷ []) ++ endLine)
+    -- "A refused L keeps the former figures"
+    ∷ example (printed (recordS ++ refusedL ++ recordO ++ recordW))
+    (line 83 ((48 ∷ []) ∷ (49 ∷ 52 ∷ []) ∷ (48 ∷ []) ∷ (49 ∷ 49 ∷ []) ∷ []) ++ line 76 ((49 ∷ []) ∷ []) ++ line 79 ((48 ∷ []) ∷ [])
+    ++ line 87 ((48 ∷ []) ∷ wordText ∷ []) ++ endLine)
+    -- an L that is cut
+    ∷ example (printed (76 ∷ 84 ∷ 76 ∷ 0 ∷ 15 ∷ 255 ∷ 0 ∷ [])) stopText
     ∷ []
 
 abbrev pub RowsHold : Type 0

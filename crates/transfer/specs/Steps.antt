@@ -6,18 +6,18 @@ use Prim.Native.Nat.{ℕ}
 use lib.Dec.{ltb, eqb}
 use lib.ListN.{length, take, drop, replicate}
 use Rattle.refusals.specs.Refusals.{must, served}
-use Rattle.cells.specs.Bytes.{payloadLen}
-use Rattle.construction_a.specs.Figures.{Params, messageLen}
-use Rattle.construction_a.specs.Outcomes.{Encoded, FiguresOut, figured, unserved, figuresOut}
+use Rattle.cells.specs.Outcomes.{Encoded, FiguresOut, figured, unserved, figuresUnder}
+use Rattle.params.specs.Bridge.{codingOf}
+use Rattle.params.specs.declared.Figures.{Figures}
 use Rattle.jobs.specs.Letters.{kindOf, callBy, isLetter}
 use Rattle.jobs.specs.Table.{TableOut}
 use Rattle.payloads.specs.Payload.{jobNumber}
-use Rattle.jobcodec.specs.JobWrite.{jobWriteOut}
-use Rattle.jobcodec.specs.JobRead.{JobRead, jobReadOut}
+use Rattle.jobcodec.specs.JobWrite.{jobWriteUnder}
+use Rattle.jobcodec.specs.JobRead.{JobRead, jobReadUnder}
 use Rattle.text.specs.Text.{decimal, hex}
 use Rattle.records.specs.Session.{Session, maxRecords, after}
-use Rattle.lines.specs.Lines.{refusalLine, servedLine, stopLine, endLine, letterS, letterW, letterR}
-use Rattle.records.specs.Records.{headLen, letterOf, isEmpty, current, readable, figuresIn, startsIn, payloadOf}
+use Rattle.lines.specs.Lines.{refusalLine, servedLine, stopLine, endLine, letterS, letterL, letterW, letterR}
+use Rattle.records.specs.Records.{headLen, letterOf, isEmpty, current, payloadLenOf, readable, figuresIn, longFiguresIn, startsIn, payloadOf}
 
 -- ---- What a step gives: the session afterwards, the line, and whether the program ends
 
@@ -37,10 +37,11 @@ ended s = record { next = s; line = endLine; stops = true }
 abbrev pub goesOn : Session → List ℕ → Step
 goesOn s l = record { next = s; line = l; stops = false }
 
--- "after S also T, r, k"; "A refused S keeps the former figures." The table "outlasts an S".
-abbrev pub figuresStep : Session → Params → FiguresOut → Step
-figuresStep s f (figured t r k) = goesOn (after s (some f) (s .table)) (servedLine letterS (decimal t ∷ decimal r ∷ decimal k ∷ []))
-figuresStep s f (unserved a) = goesOn (after s (s .figures) (s .table)) (refusalLine letterS a)
+-- "after S also T, r, k"; "A refused S keeps the former figures." The table "outlasts an S". Document 02, ticket 1: L "prints as S does"; "A refused L keeps
+-- the former figures"
+abbrev pub figuresStep : Session → ℕ → Figures → FiguresOut → Step
+figuresStep s letter f (figured t r k) = goesOn (after s (some f) (s .table)) (servedLine letter (decimal t ∷ decimal r ∷ decimal k ∷ []))
+figuresStep s letter f (unserved a) = goesOn (after s (s .figures) (s .table)) (refusalLine letter a)
 
 -- "O (open), C (cancel), F (finish) a job number (4)": the table that the call hands back
 abbrev pub callStep : Session → ℕ → TableOut → Step
@@ -60,22 +61,23 @@ abbrev pub readStep : Session → JobRead → Step
 readStep s out = jobStep s letterR (out .answer) (hex (take 4 (out .payload)) ∷ hex (drop 4 (out .payload)) ∷ [])
 
 -- the lent word holds 0 before it is written, and the lent payload before it is read: what a refused job leaves there is not printed
-abbrev pub writeOut : Session → List ℕ → Option Params → Step
+abbrev pub writeOut : Session → List ℕ → Option Figures → Step
 writeOut s bytes none = stopped s
-writeOut s bytes (some f) = writeStep s (jobWriteOut f (s .table) (startsIn f bytes) (payloadOf f bytes) (replicate (f .n) 0))
+writeOut s bytes (some f) = writeStep s (jobWriteUnder (codingOf f) (s .table) (startsIn f bytes) (payloadOf f bytes) (replicate (codingOf f .codec .wordLen) 0))
 
-abbrev pub readOut : Session → List ℕ → Option Params → Step
+abbrev pub readOut : Session → List ℕ → Option Figures → Step
 readOut s bytes none = stopped s
-readOut s bytes (some f) = readStep s (jobReadOut f (s .table) (drop headLen bytes) (replicate (payloadLen (f .q) (messageLen f)) 0))
+readOut s bytes (some f) = readStep s (jobReadUnder (codingOf f) (s .table) (drop headLen bytes) (replicate (payloadLenOf f) 0))
 
 -- a record of its letter's length
 unfoldable pub serveOut : Session → ℕ → List ℕ → Step
 serveOut s letter bytes =
-    cond (eqb letter letterS) (figuresStep s (figuresIn bytes) (figuresOut (figuresIn bytes)))
+    cond (eqb letter letterS) (figuresStep s letter (figuresIn bytes) (figuresUnder (codingOf (figuresIn bytes))))
+    (cond (eqb letter letterL) (figuresStep s letter (longFiguresIn bytes) (figuresUnder (codingOf (longFiguresIn bytes))))
     (cond (isLetter letter) (callStep s letter (callBy (kindOf letter) (s .table) (jobNumber (drop headLen bytes))))
     (cond (eqb letter letterW) (writeOut s bytes (current (s .figures)))
     (cond (eqb letter letterR) (readOut s bytes (current (s .figures)))
-    (stopped s))))
+    (stopped s)))))
 
 -- one record; no bytes at all are the end of input
 unfoldable pub stepOut : Session → List ℕ → Step

@@ -5,13 +5,12 @@ ghost use mathlib.Core.Option.{some};
 ghost use Prim.Native.Nat.{_+_, _*_, _≤_, _<_};
 ghost use lib.ListN.{length};
 ghost use Rattle.construction_a.specs.Figures.{maxWord};
-ghost use Rattle.construction_a.specs.Outcomes.{figuresOut};
+ghost use Rattle.cells.specs.Outcomes.{figuresUnder};
 ghost use Rattle.jobs.specs.Letters.{kindOf, callBy};
 ghost use Rattle.jobs.specs.Slots.{entries};
-ghost use Rattle.jobcodec.specs.JobWrite.{jobWriteOut};
-ghost use Rattle.jobcodec.specs.JobRead.{jobReadOut};
-ghost use Rattle.params.specs.Bridge.{given};
-ghost use Rattle.params.specs.Given.{figuresOf};
+ghost use Rattle.jobcodec.specs.JobWrite.{jobWriteUnder};
+ghost use Rattle.jobcodec.specs.JobRead.{jobReadUnder};
+ghost use Rattle.params.specs.Bridge.{codingOf};
 ghost use Rattle.placements.specs.Bridge.{heldAs};
 ghost use Rattle.text.specs.Text.{overwrite};
 ghost use Rattle.records.specs.Session.{maxRecords, after as afterRecord};
@@ -27,6 +26,7 @@ use params::LayoutAnswer;
 use params::Params;
 use params::bytes;
 use placements::Placement;
+use records::CurrentAnswer;
 use records::HEAD_LEN;
 use records::LastFigures;
 use records::Session;
@@ -87,7 +87,8 @@ fn serve(session: Session, received: &[u8], line: &mut [u8]) -> StepAnswer
 {
     let letter = received[2];
     match letter {
-        b'S' => serve_figures(session, records::figures_in(received), line),
+        b'S' => serve_figures(session, letter, records::figures_in(received), line),
+        b'L' => serve_figures(session, letter, records::long_figures_in(received), line),
         b'W' => serve_write(session, received, line),
         b'R' => serve_read(session, received, line),
         _ => {
@@ -121,20 +122,21 @@ fn end(session: Session, line: &mut [u8]) -> StepAnswer
     }
 }
 
-// S: a refused one keeps the former figures, and the table outlasts it.
-fn serve_figures(session: Session, figures: Params, line: &mut [u8]) -> StepAnswer
+// S and L: a refused one keeps the former figures, and the table outlasts it.
+fn serve_figures(session: Session, letter: u8, figures: Figures, line: &mut [u8]) -> StepAnswer
     requires { ⌜ Ready session (now line) ⌝ }
-    ensures { λ r. ⌜ Shown r (now (line .entry)) (now (line .exit)) (figuresStep (sessionOf session) (given figures) (figuresOut (given figures))) ⌝ }
+    ensures { λ r. ⌜ Shown r (now (line .entry)) (now (line .exit)) (figuresStep (sessionOf session) letter figures (figuresUnder (codingOf figures))) ⌝ }
 {
-    let answer = Params::figures(figures.n, figures.q, figures.m, figures.b);
+    let answer = figures.layout();
     match answer {
         LayoutAnswer::Refused(number) => {
-            let len = lines::put_refusal(line, b'S', number);
+            let len = lines::put_refusal(line, letter, number);
             counted(session, len)
         }
         LayoutAnswer::Fit(layout) => {
             let len = lines::put_figures(
                 line,
+                letter,
                 layout.placement_count,
                 layout.index_tail as u64,
                 layout.message_len as u64,
@@ -165,18 +167,23 @@ fn serve_write(session: Session, received: &[u8], line: &mut [u8]) -> StepAnswer
 {
     let figures = session.figures;
     let answer = records::current(figures);
-    let LayoutAnswer::Fit(layout) = answer else {
+    let CurrentAnswer::Laid(given, layout) = answer else {
         return stop(session, line);
     };
-    write_laid(session, layout, received, line)
+    write_laid(session, given, layout, received, line)
 }
 
-// The same by the layout of the last accepted figures.
-fn write_laid(session: Session, layout: Layout, received: &[u8], line: &mut [u8]) -> StepAnswer
-    requires { ⌜ Laid session (now line) layout (headLen + 2 * layout .m) (now received) ⌝ }
-    ensures { λ r. ⌜ Shown r (now (line .entry)) (now (line .exit)) (writeOut (sessionOf session) (now (received .entry)) (some (figuresOf layout))) ⌝ }
+// The same by the last accepted figures and their layout.
+fn write_laid(
+    session: Session,
+    figures: Figures,
+    layout: Layout,
+    received: &[u8],
+    line: &mut [u8],
+) -> StepAnswer
+    requires { ⌜ Laid session (now line) figures layout (headLen + 2 * layout .m) (now received) ⌝ }
+    ensures { λ r. ⌜ Shown r (now (line .entry)) (now (line .exit)) (writeOut (sessionOf session) (now (received .entry)) (some figures)) ⌝ }
 {
-    let figures = records::figures_of(layout);
     let m = layout.m;
     let n = layout.n;
     let at = records::placement_in(received, m);
@@ -206,17 +213,17 @@ fn write_laid(session: Session, layout: Layout, received: &[u8], line: &mut [u8]
 // W, with a lent word that holds 0.
 fn write_word(
     session: Session,
-    figures: Params,
+    figures: Figures,
     at: Placement,
     payload: &[u8],
     word: &mut [u8],
     line: &mut [u8],
 ) -> StepAnswer
     requires { ⌜ Ready session (now line) × (length (now word) ≤ maxWord) ⌝ }
-    ensures { λ r. ⌜ Shown r (now (line .entry)) (now (line .exit)) (writeStep (sessionOf session) (jobWriteOut (given figures) (entries (session .table)) (heldAs at) (now (payload .entry)) (now (word .entry)))) ⌝ }
+    ensures { λ r. ⌜ Shown r (now (line .entry)) (now (line .exit)) (writeStep (sessionOf session) (jobWriteUnder (codingOf figures) (entries (session .table)) (heldAs at) (now (payload .entry)) (now (word .entry)))) ⌝ }
 {
     let table = session.table;
-    let answer = jobcodec::job_write(Figures::Ranked(figures), table, at, payload, word);
+    let answer = jobcodec::job_write(figures, table, at, payload, word);
     if answer != Refusal::NONE {
         return counted(session, lines::put_refusal(line, b'W', answer));
     }
@@ -230,18 +237,23 @@ fn serve_read(session: Session, received: &[u8], line: &mut [u8]) -> StepAnswer
 {
     let figures = session.figures;
     let answer = records::current(figures);
-    let LayoutAnswer::Fit(layout) = answer else {
+    let CurrentAnswer::Laid(given, layout) = answer else {
         return stop(session, line);
     };
-    read_laid(session, layout, received, line)
+    read_laid(session, given, layout, received, line)
 }
 
-// The same by the layout of the last accepted figures.
-fn read_laid(session: Session, layout: Layout, received: &[u8], line: &mut [u8]) -> StepAnswer
-    requires { ⌜ Laid session (now line) layout headLen (now received) ⌝ }
-    ensures { λ r. ⌜ Shown r (now (line .entry)) (now (line .exit)) (readOut (sessionOf session) (now (received .entry)) (some (figuresOf layout))) ⌝ }
+// The same by the last accepted figures and their layout.
+fn read_laid(
+    session: Session,
+    figures: Figures,
+    layout: Layout,
+    received: &[u8],
+    line: &mut [u8],
+) -> StepAnswer
+    requires { ⌜ Laid session (now line) figures layout headLen (now received) ⌝ }
+    ensures { λ r. ⌜ Shown r (now (line .entry)) (now (line .exit)) (readOut (sessionOf session) (now (received .entry)) (some figures)) ⌝ }
 {
-    let figures = records::figures_of(layout);
     let count = bytes::payload_len(layout.q, layout.message_len);
     if count <= SHORT_WORD {
         let mut short = [0u8; SHORT_WORD];
@@ -266,16 +278,16 @@ fn read_laid(session: Session, layout: Layout, received: &[u8], line: &mut [u8])
 // R, with a lent payload that holds 0.
 fn read_payload(
     session: Session,
-    figures: Params,
+    figures: Figures,
     word: &[u8],
     payload: &mut [u8],
     line: &mut [u8],
 ) -> StepAnswer
     requires { ⌜ Ready session (now line) × (length (now payload) ≤ maxWord) ⌝ }
-    ensures { λ r. ⌜ Shown r (now (line .entry)) (now (line .exit)) (readStep (sessionOf session) (jobReadOut (given figures) (entries (session .table)) (now (word .entry)) (now (payload .entry)))) ⌝ }
+    ensures { λ r. ⌜ Shown r (now (line .entry)) (now (line .exit)) (readStep (sessionOf session) (jobReadUnder (codingOf figures) (entries (session .table)) (now (word .entry)) (now (payload .entry)))) ⌝ }
 {
     let table = session.table;
-    let answer = jobcodec::job_read(Figures::Ranked(figures), table, word, payload);
+    let answer = jobcodec::job_read(figures, table, word, payload);
     if answer != Refusal::NONE {
         return counted(session, lines::put_refusal(line, b'R', answer));
     }

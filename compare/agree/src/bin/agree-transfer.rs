@@ -74,15 +74,21 @@ struct Tally {
     answers: [[u64; 25]; LETTERS.len()],
 }
 
-const LETTERS: &[u8; 7] = b"SOCFWRs";
-/// The answers that each letter can have, all of which a run of the usual length must see; s is for stop.
-const POSSIBLE: [&[usize]; 7] = [
+const WRITTEN: &[usize] = &[0, 5, 10, 12, 14, 17];
+const READ: &[usize] = &[0, 4, 7, 8, 9, 10, 12, 14, 19];
+const LETTERS: &[u8; 10] = b"SLOCFWRwrs";
+/// The answers that each letter can have, all of which a run of the usual length must see; w and r are for W and R that
+/// follow an L, s is for stop.
+const POSSIBLE: [&[usize]; LETTERS.len()] = [
+    &[0, 1, 2],
     &[0, 1, 2],
     &[0, 12, 13, 15, 17],
     &[0, 12, 15, 17],
     &[0, 12, 14],
-    &[0, 5, 10, 12, 14, 17],
-    &[0, 4, 7, 8, 9, 10, 12, 14, 19],
+    WRITTEN,
+    READ,
+    WRITTEN,
+    READ,
     &[11],
 ];
 
@@ -97,17 +103,19 @@ fn compare(program: &str, streams: u64, seed: u64) -> ExitCode {
         let piece = rng.pick(&[usize::MAX, usize::MAX, usize::MAX, 7, 100, 4096]);
         tally.compare(program, &input, piece);
     }
-    for (n, q, m, b, records) in [
-        (15, 256, 1, 2, 20_000),
-        (200, 4, 2, 9, 20_000),
-        (1024, 16, 3, 16, 20_000),
-        (1024, 256, 6, 16, 20_000),
-        (999, 256, 8, 15, 5_000),
-        (1999, 256, 7, 39, 5_000),
-        (4096, 256, 6, 112, 5_000),
-        (4096, 2, 1, 1000, 5_000),
+    for (f, records) in [
+        (Figures::new(15, 256, 1, 2), 20_000),
+        (Figures::new(200, 4, 2, 9), 20_000),
+        (Figures::new(1024, 16, 3, 16), 20_000),
+        (Figures::new(1024, 256, 6, 16), 20_000),
+        (Figures::new(999, 256, 8, 15), 5_000),
+        (Figures::new(1999, 256, 7, 39), 5_000),
+        (Figures::new(4096, 256, 6, 112), 5_000),
+        (Figures::new(4096, 2, 1, 1000), 5_000),
+        (Figures::construction_b(15, 256, 5), 20_000),
+        (Figures::construction_b(4096, 2, 1365), 5_000),
     ] {
-        let f = Figures::new(n, q, m, b).expect("these figures fit");
+        let f = f.expect("these figures fit");
         let input = served(&mut rng, &f, records);
         tally.compare(program, &input, usize::MAX);
     }
@@ -141,20 +149,29 @@ impl Tally {
     }
 
     fn count(&mut self, printed: &[u8]) {
+        let mut long = false;
         for line in printed
             .split(|&byte| byte == b'\n')
             .filter(|line| !line.is_empty())
         {
             self.lines += 1;
             let mut fields = line.split(|&byte| byte == b' ');
-            let letter = fields.next().and_then(|field| field.first());
-            let row = LETTERS.iter().position(|known| Some(known) == letter);
+            let letter = fields.next().and_then(|field| field.first()).copied();
+            let letter = match letter {
+                Some(b'W') if long => Some(b'w'),
+                Some(b'R') if long => Some(b'r'),
+                other => other,
+            };
+            let row = LETTERS.iter().position(|&known| Some(known) == letter);
             let text = fields
                 .next()
                 .and_then(|field| std::str::from_utf8(field).ok());
             let answer = text.and_then(|text| text.parse::<usize>().ok());
             if let (Some(row), Some(answer)) = (row, answer) {
                 self.answers[row][answer] += 1;
+            }
+            if let (Some(b'S' | b'L'), Some(0)) = (letter, answer) {
+                long = letter == Some(b'L');
             }
         }
     }

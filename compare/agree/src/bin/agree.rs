@@ -5,15 +5,19 @@ use std::process::ExitCode;
 use std::time::Instant;
 
 use agree::judge::Judge;
+use agree::make::{figures, long_figures};
+use agree::orders::Tray;
 use agree::rng::Rng;
 use agree::{
-    calls, eyes, former, grid, jobs, lanes, lengths, prescriptions, strips, torics, words,
+    calls, eyes, former, grid, jobs, lanes, lengths, long, prescriptions, strips, torics, words,
 };
 use second::lanes::MAX_DEPTH;
 
 const GATE_SEED: u64 = 1996;
 const GATE_ROUNDS: u64 = 30_000;
 const GATE_WORDS: u64 = 200_000;
+/// One round in so many is made with Construction B's figures too.
+const LONG: u64 = 6;
 
 fn main() -> ExitCode {
     let args: Vec<String> = std::env::args().skip(1).collect();
@@ -48,19 +52,26 @@ fn run(rounds: u64, seed: u64, long: bool) -> ExitCode {
     lengths::run(&mut judge);
     patterns(&mut judge, &mut rng, long);
     eyes::run(&mut judge);
-    torics::payload_lengths(&mut judge, &mut rng);
+    torics::payload_lengths(&mut judge, &mut rng, false);
+    torics::payload_lengths(&mut judge, &mut rng, true);
     torics::every_toric(&mut judge, &mut rng);
+    long::run(&mut judge, &mut rng);
     let powers = eyes::odd();
     for round in 0..rounds {
-        words::round(&mut judge, &mut rng);
-        jobs::round(&mut judge, &mut rng);
-        prescriptions::round(&mut judge, &mut rng, &powers);
+        strip_round(&mut judge, &mut rng, false, &powers);
+        if round % LONG == 0 {
+            strip_round(&mut judge, &mut rng, true, &powers);
+        }
         calls::single(&mut judge, &mut rng);
         if round % 16 == 0 {
-            words::end_ranks(&mut judge, &mut rng);
+            let (short, long) = (figures(&mut rng), long_figures(&mut rng));
+            words::end_ranks(&mut judge, &mut rng, short);
+            words::end_ranks(&mut judge, &mut rng, long);
             words::wrapped_values(&mut judge, &mut rng);
             calls::list(&mut judge, &mut rng);
-            lanes::round(&mut judge, &mut rng, depth(round / 16));
+            for f in [figures(&mut rng), long_figures(&mut rng)] {
+                lanes::round(&mut judge, &mut rng, f, depth(round / 16));
+            }
         }
         if long && round % 10_000 == 9_999 {
             let seconds = begun.elapsed().as_secs();
@@ -68,6 +79,17 @@ fn run(rounds: u64, seed: u64, long: bool) -> ExitCode {
         }
     }
     finish(&judge, seed, begun)
+}
+
+/// Words, jobs and prescriptions under random figures, of Construction B where they are `long`.
+fn strip_round(judge: &mut Judge, rng: &mut Rng, long: bool, powers: &[f64]) {
+    let any = if long { long_figures } else { figures };
+    let f = any(rng);
+    words::round(judge, rng, f);
+    let f = any(rng);
+    jobs::round(judge, rng, f);
+    let tray = Tray::random(rng, long);
+    prescriptions::round(judge, rng, tray, powers);
 }
 
 /// Each depth in turn.

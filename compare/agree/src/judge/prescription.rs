@@ -10,7 +10,7 @@ impl Judge {
         let inputs = || format!("{eye:?} marks {marks} powers {powers}");
         let lent = (Lent::new(marks), Lent::new(powers));
         self.both(
-            Op::Transpose,
+            Op::Transpose.into(),
             lent.0,
             lent.1,
             &inputs,
@@ -22,7 +22,7 @@ impl Judge {
     pub fn spherical_equivalent(&mut self, eye: EyeNumbers, power: usize) -> Answer<f64> {
         let inputs = || format!("{eye:?} power {power}");
         self.both(
-            Op::SphericalEquivalent,
+            Op::SphericalEquivalent.into(),
             Lent::new(0),
             Lent::new(power),
             &inputs,
@@ -45,7 +45,7 @@ impl Judge {
             format!("{f:?} table, starts {bytes} number {number} {prescription:?} word {word}")
         };
         self.both(
-            Op::PrescriptionWrite,
+            Op::PrescriptionWrite.under(f),
             Lent::new(word),
             Lent::new(0),
             &inputs,
@@ -69,7 +69,7 @@ impl Judge {
         };
         let lent = (Lent::new(marks), Lent::new(powers));
         self.both(
-            Op::PrescriptionRead,
+            Op::PrescriptionRead.under(f),
             lent.0,
             lent.1,
             &inputs,

@@ -84,7 +84,7 @@ fn prescription_of((right, left, pupil_distance): PrescriptionNumbers) -> Result
 }
 
 pub fn prescription_write(
-    numbers: Numbers,
+    numbers: impl Numbers,
     table: &[u8],
     starts: &[u8],
     number: u32,
@@ -111,7 +111,7 @@ pub fn prescription_write(
 /// As `marks` come the job number, high byte first, and kind and axis of the right and of the left eye; as `powers` sphere and cylinder of the right and
 /// of the left eye, and the pupil distance.
 pub fn prescription_read(
-    numbers: Numbers,
+    numbers: impl Numbers,
     table: &[u8],
     word: &[u8],
     marks: &mut [u8],

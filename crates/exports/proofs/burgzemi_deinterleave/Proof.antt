@@ -1,5 +1,6 @@
 -- `burgzemi_deinterleave` meets its contract: what `lanes::deinterleave` says. Assumes nothing.
 use borrow.Author.Needs.{needs}
+use Rattle.lanes.specs.Outcomes.{deinterleaveOut}
 use Rattle.exports.proofs.burgzemi_deinterleave.Statement.{statement}
 use Rattle.exports.proofs.burgzemi_deinterleave.Tie as tie
 
@@ -10,6 +11,7 @@ same-length : tie.Need-same-length
 same-length c = search needs
 
 returns : tie.Need-returns
+unfolding deinterleaveOut
 returns c = c .before .before .deinterleave .ensures
 
 pub burgzemi-deinterleave-spec : {M : Type 1} → statement M

@@ -1,17 +1,15 @@
--- `burgzemi_prescription_write` meets its contract. Assumes nothing.
-use mathlib.Core.Path.{ap₂, _∙_}
-use Rattle.construction_a.specs.Figures.{params}
-use Rattle.prescription.specs.declared.eyes.Eye.{Eye}
-use Rattle.lent_prescriptions.specs.Prescriptions.{prescriptionFrom, prescriptionWriteBytesOut}
+-- `burgzemi_prescription_write` meets its contract: that of `write`, with the prescription that the values are. Assumes nothing.
+use mathlib.Core.Path.{ap, _∙_}
 use borrow.Author.Needs.{needs}
+use Rattle.construction_a.specs.Figures.{params}
+use Rattle.construction_a.specs.Outcomes.{coding}
+use Rattle.prescription.specs.declared.texts.Prescription.{Prescription}
+use Rattle.lent_prescriptions.specs.Prescriptions.{prescriptionWriteBytesUnder, prescriptionWriteBytesOut}
 use Rattle.exports.proofs.burgzemi_prescription_write.Statement.{statement}
 use Rattle.exports.proofs.burgzemi_prescription_write.Tie as tie
 
-eye-from-requires : tie.Need-eye-from-requires
-eye-from-requires c κs = search needs
-
-eye-from-requires-2 : tie.Need-eye-from-requires-2
-eye-from-requires-2 c κs = search needs
+prescription-from-requires : tie.Need-prescription-from-requires
+prescription-from-requires c κs = search needs
 
 write-requires : tie.Need-write-requires
 write-requires c κs = search needs
@@ -20,12 +18,13 @@ same-length : tie.Need-same-length
 same-length c = search needs
 
 returns : tie.Need-returns
+unfolding prescriptionWriteBytesOut
 returns c =
-    let a = c .before .before .before .before .before .before .before .before .before .args in
+    let a = c .before .before .before .before .before .before .before .before .args in
     c .before .before .write .ensures
-    ∙ ap₂ (λ (r l : Eye). prescriptionWriteBytesOut (params (a .n) (a .q) (a .m) (a .b)) (a .table .now) (a .starts .now) (a .number)
-    (prescriptionFrom r l (a .distance)) (a .word .now)) (c .before .before .before .before .before .eye-from .ensures) (c .before .before .before .before .eye-from2 .ensures)
+    ∙ ap (λ (p : Prescription). prescriptionWriteBytesUnder (coding (params (a .n) (a .q) (a .m) (a .b))) (a .table .now) (a .starts .now) (a .number) p (a .word .now))
+    (c .before .before .before .before .prescription-from .ensures)
 
 pub burgzemi-prescription-write-spec : {M : Type 1} → statement M
 burgzemi-prescription-write-spec =
-    tie.close (tie.spec eye-from-requires eye-from-requires-2 write-requires same-length returns)
+    tie.close (tie.spec prescription-from-requires write-requires same-length returns)

@@ -4,7 +4,7 @@ use native.Mathlib.Omega.{arith}
 use borrow.Author.Needs.{needs}
 use Rattle.text.specs.Text.{decimal}
 use Rattle.text.proofs.Line.{put-then}
-use Rattle.lines.specs.Lines.{space, lineFeed, letterS}
+use Rattle.lines.specs.Lines.{space, lineFeed}
 use Rattle.lines.proofs.Fields.{put-first, put-as, three-fields}
 use Rattle.lines.proofs.put_figures.Statement.{statement}
 use Rattle.lines.proofs.put_figures.Tie as tie
@@ -36,7 +36,7 @@ returns c =
     let e = c .before .before .put-byte in
     let s = c .before .before .before .before .before .before .before .before .before .before .before .before .before .before .before .before .before .before .before .before .before in
     let line = s .args .line .now in
-    let head = letterS ∷ space ∷ decimal 0 in
+    let head = s .args .letter ∷ space ∷ decimal 0 in
     let t = space ∷ decimal (s .args .placements) in
     let u = space ∷ decimal (s .args .tail) in
     let v = space ∷ decimal (s .args .message-len) in

@@ -1,15 +1,16 @@
--- `cover` meets its contract. Assumes nothing.
+-- `cover` meets its contract: figures that don't serve are refused as alone, and the others have a layout. Assumes nothing.
 use mathlib.Core.Path.{sym, ap, _∙_}
 use borrow.Author.Needs.{needs}
-use Rattle.construction_a.proofs.Outcomes.{figured-fits}
-use Rattle.params.specs.Bridge.{given}
+use Rattle.cells.specs.Outcomes.{Coding, coverUnder}
 use Rattle.params.specs.Answer.{figuredAs}
+use Rattle.params.specs.Bridge.{codingOf}
+use Rattle.params.proofs.Either.{serves}
 use Rattle.placements.proofs.Calls.{cover-unfit}
 use Rattle.placements.proofs.cover.Statement.{statement}
 use Rattle.placements.proofs.cover.Tie as tie
 
-figures-requires : tie.Need-figures-requires
-figures-requires c κs = search needs
+layout-requires : tie.Need-layout-requires
+layout-requires c κs = search needs
 
 enum-known-answer : tie.Need-enum-known-answer
 enum-known-answer c = search needs
@@ -17,33 +18,39 @@ enum-known-answer c = search needs
 unplaced-requires : tie.Need-unplaced-requires
 unplaced-requires c κs = search needs
 
-enum-told : tie.Need-enum-told
-enum-told c = search needs
+enum-known-answer-2 : tie.Need-enum-known-answer-2
+enum-known-answer-2 c = search needs
 
 cover-fitting-requires : tie.Need-cover-fitting-requires
 cover-fitting-requires c κs =
-    let s = c .before .before .before .before in
-    let l = c .enum-told .given .0 .0 in
-    figured-fits (given (s .args .figures)) (l .«placement_count») (l .«index_tail») (l .«message_len»)
-    (sym (c .before .before .figures .ensures .0) ∙ ap figuredAs (c .enum-told .given .1))
+    let s = c .before .before .before .before .before in
+    let figures = c .before .before .before .layout in
+    let told = c .before .answer2 .given in
+    serves (s .args .figures) (figures .result) (told .0 .0) (told .1) (figures .ensures .0) (figures .ensures .1) .1
 
 returns : tie.Need-returns
 returns c =
-    let f = given (c .before .before .before .before .before .before .args .figures) in
+    let s = c .before .before .before .before .before .before in
+    let figures = c .before .before .before .before .layout in
     let number = c .before .before .answer .given in
-    c .unplaced .ensures ∙ sym (cover-unfit f (c .before .before .before .before .before .before .args .map .now) (number .0 .0) (sym (c .before .before .before .before .figures .ensures .0) ∙ ap figuredAs (number .1)))
+    c .unplaced .ensures ∙ sym (cover-unfit (codingOf (s .args .figures)) (s .args .map .now) (number .0 .0) (sym (figures .ensures .0) ∙ ap figuredAs (number .1)))
 
 returns-2 : tie.Need-returns-2
-returns-2 c = search needs
+returns-2 c =
+    let s = c .before .before .before .before .before .before in
+    let figures = c .before .before .before .before .layout in
+    let told = c .before .before .answer2 .given in
+    let same = serves (s .args .figures) (figures .result) (told .0 .0) (told .1) (figures .ensures .0) (figures .ensures .1) .0 in
+    c .cover-fitting .ensures ∙ ap (λ (d : Coding). coverUnder d (s .args .map .now)) same
 
 pub cover-spec : {M : Type 1} → statement M
 cover-spec =
     tie.close
     (tie.spec
-    figures-requires
+    layout-requires
     enum-known-answer
     unplaced-requires
-    enum-told
+    enum-known-answer-2
     cover-fitting-requires
     returns
     returns-2)

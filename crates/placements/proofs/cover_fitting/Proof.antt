@@ -4,15 +4,10 @@ use mathlib.Core.Bool.{true, false}
 use borrow.Author.Needs.{needs}
 use borrow.Author.Tests.{not-true, not-false}
 use Rattle.refusals.specs.Refusals.{served}
-use Rattle.construction_a.specs.Outcomes.{Held, Covered}
-use Rattle.construction_a.proofs.Figures.{serve}
-use Rattle.params.specs.Bridge.{given}
-use Rattle.placements.proofs.Calls.{room-of, cover-length, cover-symbol, cover-none, cover-some}
+use Rattle.cells.specs.Outcomes.{Held, Covered}
+use Rattle.placements.proofs.Calls.{room-in, cover-length, cover-symbol, cover-none, cover-some}
 use Rattle.placements.proofs.cover_fitting.Statement.{statement}
 use Rattle.placements.proofs.cover_fitting.Tie as tie
-
-cast-if1 : tie.Need-cast-if1
-cast-if1 c = search needs
 
 unplaced-requires : tie.Need-unplaced-requires
 unplaced-requires c κs = search needs
@@ -20,7 +15,7 @@ unplaced-requires c κs = search needs
 returns : tie.Need-returns
 returns c =
     let s = c .before .before .before .before in
-    c .unplaced .ensures ∙ sym (cover-length (given (s .args .figures)) (s .args .map .now) (s .pre .0) (s .pre .1) (c .before .if1 .taken))
+    c .unplaced .ensures ∙ sym (cover-length (s .args .layout) (s .pre) (s .args .map .now) (c .before .if1 .taken))
 
 all-below-requires : tie.Need-all-below-requires
 all-below-requires c κs = search needs
@@ -32,12 +27,12 @@ returns-2 : tie.Need-returns-2
 returns-2 c =
     let s = c .before .before .before .before .before .before in
     c .unplaced2 .ensures
-    ∙ sym (cover-symbol (given (s .args .figures)) (s .args .map .now) (s .pre .0) (s .pre .1) (c .before .before .before .if1 .left) (sym (c .before .before .all-below .ensures) ∙ not-true _ (c .before .if2 .taken)))
+    ∙ sym (cover-symbol (s .args .layout) (s .pre) (s .args .map .now) (c .before .before .before .if1 .left) (sym (c .before .before .all-below .ensures) ∙ not-true _ (c .before .if2 .taken)))
 
 least-cover-requires : tie.Need-least-cover-requires
 least-cover-requires c κs =
     let s = c .before .before .before .before .before in
-    (room-of (given (s .args .figures)) (serve (given (s .args .figures)) (s .pre .0) (s .pre .1)), c .before .before .if1 .left)
+    (room-in (s .args .layout) (s .pre), c .before .before .if1 .left)
 
 unplaced-requires-3 : tie.Need-unplaced-requires-3
 unplaced-requires-3 c κs = search needs
@@ -46,21 +41,20 @@ returns-3 : tie.Need-returns-3
 returns-3 c =
     let s = c .before .before .before .before .before .before .before .before .before in
     c .unplaced3 .ensures
-    ∙ sym (cover-none (given (s .args .figures)) (s .args .map .now) (s .pre .0) (s .pre .1) (c .before .before .before .before .before .before .if1 .left)
+    ∙ sym (cover-none (s .args .layout) (s .pre) (s .args .map .now) (c .before .before .before .before .before .before .if1 .left)
     (sym (c .before .before .before .before .before .all-below .ensures) ∙ not-false _ (c .before .before .before .before .if2 .left)) (sym (c .before .before .before .least-cover .ensures .0) ∙ not-true _ (c .before .if3 .taken)))
 
 returns-4 : tie.Need-returns-4
 returns-4 c =
     let s = c .before .before .before .before .before .before .before .before .before in
     ap {B = Covered} (λ (h : Held). record { answer = served; placement = h }) (c .before .before .before .least-cover .ensures .1)
-    ∙ sym (cover-some (given (s .args .figures)) (s .args .map .now) (s .pre .0) (s .pre .1) (c .before .before .before .before .before .before .if1 .left)
+    ∙ sym (cover-some (s .args .layout) (s .pre) (s .args .map .now) (c .before .before .before .before .before .before .if1 .left)
     (sym (c .before .before .before .before .before .all-below .ensures) ∙ not-false _ (c .before .before .before .before .if2 .left)) (sym (c .before .before .before .least-cover .ensures .0) ∙ not-false _ (c .before .if3 .left)))
 
 pub cover-fitting-spec : {M : Type 1} → statement M
 cover-fitting-spec =
     tie.close
     (tie.spec
-    cast-if1
     unplaced-requires
     returns
     all-below-requires

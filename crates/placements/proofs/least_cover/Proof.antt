@@ -13,10 +13,13 @@ use Rattle.placements.proofs.least_cover.Statement.{statement}
 use Rattle.placements.proofs.least_cover.Tie as tie
 
 abbrev Inv-loop : tie.InvT-loop
-Inv-loop n m b map burst_len found₀ start₀ end₀ i₀ found start end i = Scanning n m b (worn map) i start end found
+Inv-loop n m b map count found₀ start₀ end₀ i₀ found start end i = Scanning n m b (worn map) i start end found
 
 abbrev μ-loop : tie.MeasureT-loop
-μ-loop n m b map burst_len found₀ start₀ end₀ i₀ found start end i = i
+μ-loop n m b map count found₀ start₀ end₀ i₀ found start end i = i
+
+cast-count : tie.Need-cast-count Inv-loop μ-loop
+cast-count c = search needs
 
 last-end-requires : tie.Need-last-end-requires Inv-loop μ-loop
 last-end-requires c κs = search needs
@@ -126,6 +129,7 @@ least-cover-spec =
     (tie.spec
     Inv-loop
     μ-loop
+    cast-count
     last-end-requires
     loop-holds
     sub-i

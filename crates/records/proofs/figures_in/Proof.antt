@@ -4,7 +4,8 @@ use Prim.Native.Nat.{ℕ, _+_}
 use native.Mathlib.Omega.{arith}
 use borrow.Author.Needs.{needs}
 use lib.ListN.{getD}
-use Rattle.construction_a.specs.Figures.{params}
+use Rattle.params.specs.declared.Figures.{Figures}
+use Rattle.params.specs.declared.Figures.the-variants.{Ranked}
 use Rattle.records.proofs.figures_in.Statement.{statement}
 use Rattle.records.proofs.figures_in.Tie as tie
 
@@ -38,7 +39,7 @@ cast-t12 c = search needs
 returns : tie.Need-returns
 returns c =
     let bytes = c .before .before .before .before .before .args .received .now in
-    ap₂ (λ (n b : ℕ). params n (getD bytes 5 0 + 1) (getD bytes 6 0) b) (c .before .before .before .two-bytes .ensures) (c .two-bytes2 .ensures)
+    ap₂ {C = Figures} (λ (n b : ℕ). Ranked (record { n = n; q = getD bytes 5 0 + 1; m = getD bytes 6 0; b = b })) (c .before .before .before .two-bytes .ensures) (c .two-bytes2 .ensures)
 
 pub figures-in-spec : {M : Type 1} → statement M
 figures-in-spec =

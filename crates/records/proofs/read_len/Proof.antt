@@ -2,10 +2,9 @@
 use mathlib.Core.Path.{sym, ap}
 use native.Mathlib.Omega.{arith}
 use borrow.Author.Needs.{needs}
-use Rattle.params.proofs.Fitting.{bound}
 use Rattle.records.specs.Records.{readLen}
-use Rattle.records.specs.Bridge.{lastFigures, orZero}
-use Rattle.records.proofs.Lengths.{current-fit, current-none}
+use Rattle.records.specs.Bridge.{lastFigures, orZero, IsCurrent}
+use Rattle.records.proofs.Lengths.{current-laid, current-none, word-short, read-len-is}
 use Rattle.records.proofs.read_len.Statement.{statement}
 use Rattle.records.proofs.read_len.Tie as tie
 
@@ -20,21 +19,21 @@ enum-told c = search needs
 
 returns : tie.Need-returns
 returns c =
-    let told = c .enum-told .given in
-    sym (ap (λ x. orZero (readLen x)) (current-none (lastFigures (c .before .before .before .args .figures)) _ _ (told .1) (c .before .before .current .ensures)))
+    let last = lastFigures (c .before .before .before .args .figures) in
+    sym (ap (λ x. orZero (readLen x)) (current-none last _ (c .enum-told .given .1) (c .before .before .current .ensures)))
+
+-- the figures and their layout
+is-current : (c : tie.After-struct-known)
+    → IsCurrent (lastFigures (c .before .before .before .before .before .args .figures)) (c .before .before .answer .given .0 .0) (c .before .before .answer .given .0 .1 .0)
+is-current c =
+    current-laid (lastFigures (c .before .before .before .before .before .args .figures)) _ _ _ (c .before .before .answer .given .1)
+    (c .before .before .before .before .current .ensures)
 
 add-result : tie.Need-add-result
-add-result c =
-    let told = c .before .before .answer .given in
-    let is = current-fit (lastFigures (c .before .before .before .before .before .args .figures)) _ _ (told .1) (c .before .before .before .before .current .ensures) in
-    omega (arith, bound (told .0 .0) (is .1) .n-most)
+add-result c = omega (arith, word-short _ _ _ (is-current c))
 
 returns-2 : tie.Need-returns-2
-returns-2 c =
-    let told = c .before .before .answer .given in
-    let is = current-fit (lastFigures (c .before .before .before .before .before .args .figures)) _ _ (told .1) (c .before .before .before .before .current .ensures) in
-    sym (ap (λ x. orZero (readLen x)) (is .0))
+returns-2 c = sym (read-len-is _ _ _ (is-current c))
 
 pub read-len-spec : {M : Type 1} → statement M
-read-len-spec =
-    tie.close (tie.spec current-requires enum-known-answer enum-told returns add-result returns-2)
+read-len-spec = tie.close (tie.spec current-requires enum-known-answer enum-told returns add-result returns-2)

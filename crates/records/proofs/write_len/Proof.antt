@@ -1,13 +1,12 @@
 -- `write_len` meets its contract. Assumes nothing.
-use mathlib.Core.Path.{_≡_, sym, ap}
-use mathlib.Core.Option.{some}
+use mathlib.Core.Path.{sym, ap, _∙_}
 use native.Mathlib.Omega.{arith}
 use borrow.Author.Needs.{needs}
-use Rattle.params.specs.Given.{figuresOf, Fitting}
-use Rattle.params.proofs.Fitting.{bound}
-use Rattle.records.specs.Records.{current, writeLen}
-use Rattle.records.specs.Bridge.{lastFigures, orZero}
-use Rattle.records.proofs.Lengths.{current-fit, current-none, payload-short, write-len-is}
+use Rattle.params.specs.declared.Layout.{Layout}
+use Rattle.params.specs.declared.Figures.{Figures}
+use Rattle.records.specs.Records.{writeLen}
+use Rattle.records.specs.Bridge.{lastFigures, orZero, IsCurrent}
+use Rattle.records.proofs.Lengths.{current-laid, current-none, bursts-few, alphabet-few, payload-short, write-len-is}
 use Rattle.records.proofs.write_len.Statement.{statement}
 use Rattle.records.proofs.write_len.Tie as tie
 
@@ -22,33 +21,39 @@ enum-told c = search needs
 
 returns : tie.Need-returns
 returns c =
-    let told = c .enum-told .given in
-    sym (ap (λ x. orZero (writeLen x)) (current-none (lastFigures (c .before .before .before .args .figures)) _ _ (told .1) (c .before .before .current .ensures)))
+    let last = lastFigures (c .before .before .before .args .figures) in
+    sym (ap (λ x. orZero (writeLen x)) (current-none last _ (c .enum-told .given .1) (c .before .before .current .ensures)))
 
--- the layout is that of the last accepted figures
-fitting : (c : tie.After-struct-known) → (current (lastFigures (c .before .before .before .before .before .args .figures)) ≡ some (figuresOf (c .before .before .answer .given .0 .0))) × Fitting (c .before .before .answer .given .0 .0)
-fitting c = current-fit (lastFigures (c .before .before .before .before .before .args .figures)) _ _ (c .before .before .answer .given .1) (c .before .before .before .before .current .ensures)
+-- the figures and their layout
+abbrev figures : tie.After-struct-known → Figures
+figures c = c .before .before .answer .given .0 .0
+
+abbrev layout : tie.After-struct-known → Layout
+layout c = c .before .before .answer .given .0 .1 .0
+
+is-current : (c : tie.After-struct-known) → IsCurrent (lastFigures (c .before .before .before .before .before .args .figures)) (figures c) (layout c)
+is-current c =
+    current-laid (lastFigures (c .before .before .before .before .before .args .figures)) _ (figures c) (layout c) (c .before .before .answer .given .1)
+    (c .before .before .before .before .current .ensures)
 
 mul-result : tie.Need-mul-result
-mul-result c = omega (arith, bound (c .before .before .answer .given .0 .0) (fitting c .1) .m-most)
+mul-result c = omega (arith, bursts-few _ (figures c) (layout c) (is-current c))
 
 add-result : tie.Need-add-result
-add-result c = omega (arith, bound (c .before .before .answer .given .0 .0) (fitting c .1) .m-most)
+add-result c = omega (arith, bursts-few _ (figures c) (layout c) (is-current c))
 
 payload-len-requires : tie.Need-payload-len-requires
-payload-len-requires c κs = omega (arith, bound (c .before .before .answer .given .0 .0) (fitting c .1) .q-most)
+payload-len-requires c κs = omega (arith, alphabet-few _ (figures c) (layout c) (is-current c))
 
 add-result-2 : tie.Need-add-result-2
 add-result-2 c =
-    let l = c .before .before .before .answer .given .0 .0 in
-    let g = fitting (c .before) .1 in
-    omega (arith, bound l g .m-most, payload-short l g, c .payload-len .ensures)
+    let s = c .before in
+    omega (arith, bursts-few _ (figures s) (layout s) (is-current s), payload-short _ (figures s) (layout s) (is-current s), c .payload-len .ensures)
 
 returns-2 : tie.Need-returns-2
 returns-2 c =
-    let l = c .before .before .before .answer .given .0 .0 in
-    let is = fitting (c .before) in
-    omega (arith, c .payload-len .ensures, write-len-is l (is .1) (lastFigures (c .before .before .before .before .before .before .args .figures)) (is .0))
+    let s = c .before in
+    omega (arith, c .payload-len .ensures, write-len-is _ (figures s) (layout s) (is-current s))
 
 pub write-len-spec : {M : Type 1} → statement M
 write-len-spec =

@@ -1,5 +1,5 @@
 -- `read_laid` meets its contract: the word of the record, and a payload that holds 0. Assumes nothing.
-use mathlib.Core.Path.{_≡_, sym, ap, _∙_}
+use mathlib.Core.Path.{_≡_, sym, ap, ap₂, _∙_}
 use mathlib.Core.List.{List}
 use mathlib.Core.Option.{some}
 use Prim.Native.Nat.{ℕ, _-_, _≤_}
@@ -8,32 +8,29 @@ use borrow.Author.Needs.{needs}
 use lib.ListN.{length, take, drop, replicate, length-replicate}
 use lib.Seq.{length-take-le}
 use Rattle.cells.specs.Bytes.{payloadLen}
-use Rattle.construction_a.specs.Figures.{maxWord, messageLen}
-use Rattle.params.specs.Bridge.{given}
-use Rattle.params.specs.Given.{shortWord, figuresOf}
-use Rattle.params.proofs.Fitting.{bound}
-use Rattle.jobcodec.specs.JobRead.{jobReadOut}
-use Rattle.records.specs.Records.{headLen}
+use Rattle.construction_a.specs.Figures.{maxWord}
+use Rattle.params.specs.Bridge.{codingOf}
+use Rattle.params.specs.Given.{shortWord}
+use Rattle.jobcodec.specs.JobRead.{jobReadUnder}
+use Rattle.records.specs.Records.{headLen, payloadLenOf}
 use Rattle.transfer.specs.Steps.{readStep, readOut}
 use Rattle.records.specs.Bridge.{sessionOf}
 use Rattle.transfer.specs.Bridge.{Shown}
 use Rattle.transfer.specs.declared.StepAnswer.{StepAnswer}
 use Rattle.lines.proofs.Fields.{rest-all}
-use Rattle.records.proofs.Lengths.{payload-short}
+use Rattle.records.proofs.Lengths.{payload-within}
 use Rattle.transfer.proofs.Serving.{zeros, shown-read}
 use Rattle.transfer.proofs.read_laid.Statement.{statement}
 use Rattle.transfer.proofs.read_laid.Tie as tie
 
-figures-of-requires : tie.Need-figures-of-requires
-figures-of-requires c κs = search needs
-
 payload-len-requires : tie.Need-payload-len-requires
-payload-len-requires c κs = bound (c .before .before .before .args .layout) (c .before .before .before .pre .fitting) .q-most
+payload-len-requires c κs = let s = c .before .before in omega (arith, s .pre .numbers .alphabet-is, s .pre .small .alphabet-most)
 
 longest : (c : tie.After-payload-len) → c .payload-len .result ≤ maxWord
 longest c =
-    let s = c .before .before .before .before in
-    omega (arith, payload-short (s .args .layout) (s .pre .fitting), c .payload-len .ensures)
+    let s = c .before .before .before in
+    let k = s .args .layout .«message_len» in
+    omega (arith, payload-within (s .args .layout .q) k, c .payload-len .ensures, s .pre .numbers .len-is, s .pre .small .message-most, s .pre .small .word-most)
 
 -- what was shown is the record's line, whatever array the payload is lent in
 module _ (c : tie.After-payload-len) (room : ℕ) (le : c .payload-len .result ≤ room) where
@@ -41,18 +38,19 @@ module _ (c : tie.After-payload-len) (room : ℕ) (le : c .payload-len .result �
   lent-is = length-take-le {A = ℕ} (c .payload-len .result) (replicate room 0) (omega (arith, length-replicate {A = ℕ} room 0))
 
   line-is : (r : StepAnswer) (line : List ℕ)
-      → (let a = c .before .before .before .before .args in let bytes = a .received .now in let s = sessionOf (a .session) in
-      Shown r (a .line .now) line (readStep s (jobReadOut (given (c .before .figures-of .result)) (s .table) (take (length bytes - headLen) (drop headLen bytes)) (take {A = ℕ} (c .payload-len .result) (replicate room 0))))
-      → Shown r (a .line .now) line (readOut s bytes (some (figuresOf (a .layout)))))
+      → (let a = c .before .before .before .args in let bytes = a .received .now in let s = sessionOf (a .session) in
+      Shown r (a .line .now) line (readStep s (jobReadUnder (codingOf (a .figures)) (s .table) (take (length bytes - headLen) (drop headLen bytes)) (take {A = ℕ} (c .payload-len .result) (replicate room 0))))
+      → Shown r (a .line .now) line (readOut s bytes (some (a .figures))))
   line-is r line =
-      let s = c .before .before .before .before in
+      let s = c .before .before .before in
       let a = s .args in
       let l = a .layout in
       let bytes = a .received .now in
       let count = c .payload-len in
-      shown-read r (a .line .now) line (sessionOf (a .session)) (given (c .before .figures-of .result)) (figuresOf l) (take (length bytes - headLen) (drop headLen bytes)) (drop headLen bytes)
-      (take {A = ℕ} (count .result) (replicate room 0)) (replicate {A = ℕ} (payloadLen (l .q) (messageLen (figuresOf l))) 0) (c .before .figures-of .ensures) (rest-all headLen bytes)
-      (zeros (count .result) room le ∙ ap (λ (k : ℕ). replicate {A = ℕ} k 0) (count .ensures ∙ ap (payloadLen (l .q)) (s .pre .fitting .laid .len-is)))
+      let is = s .pre .numbers in
+      shown-read r (a .line .now) line (sessionOf (a .session)) (codingOf (a .figures)) (take (length bytes - headLen) (drop headLen bytes)) (drop headLen bytes)
+      (take {A = ℕ} (count .result) (replicate room 0)) (replicate {A = ℕ} (payloadLenOf (a .figures)) 0) (rest-all headLen bytes)
+      (zeros (count .result) room le ∙ ap (λ (k : ℕ). replicate {A = ℕ} k 0) (count .ensures ∙ ap₂ payloadLen (is .alphabet-is) (is .len-is)))
 
 sub-read-payload : tie.Need-sub-read-payload
 sub-read-payload c = search needs
@@ -72,7 +70,7 @@ slice-aggregate-read-payload c = sym (lent-is (c .before .before .before) shortW
 read-payload-requires : tie.Need-read-payload-requires
 read-payload-requires c κs =
     let p = c .before .before .before .before in
-    (p .before .before .before .before .pre .ready, omega (arith, longest p, lent-is p shortWord (omega (arith, c .before .before .before .if1 .taken))))
+    (p .before .before .before .pre .ready, omega (arith, longest p, lent-is p shortWord (omega (arith, c .before .before .before .if1 .taken))))
 
 same-length : tie.Need-same-length
 same-length c = search needs
@@ -100,7 +98,7 @@ slice-aggregate-read-payload-2 c = sym (lent-is (c .before .before .before) maxW
 read-payload-requires-2 : tie.Need-read-payload-requires-2
 read-payload-requires-2 c κs =
     let p = c .before .before .before .before in
-    (p .before .before .before .before .pre .ready, omega (arith, longest p, lent-is p maxWord (longest p)))
+    (p .before .before .before .pre .ready, omega (arith, longest p, lent-is p maxWord (longest p)))
 
 same-length-2 : tie.Need-same-length-2
 same-length-2 c = search needs
@@ -115,7 +113,6 @@ pub read-laid-spec : {M : Type 1} → statement M
 read-laid-spec =
     tie.close
     (tie.spec
-    figures-of-requires
     payload-len-requires
     sub-read-payload
     part-read-payload-start

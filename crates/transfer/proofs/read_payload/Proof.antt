@@ -5,9 +5,9 @@ use Prim.Native.Nat.{ℕ}
 use native.Mathlib.Omega.{arith}
 use borrow.Author.Needs.{needs}
 use lib.ListN.{take, drop}
-use Rattle.params.specs.Bridge.{given}
+use Rattle.params.specs.Bridge.{codingOf}
 use Rattle.jobs.specs.Slots.{entries}
-use Rattle.jobcodec.specs.JobRead.{jobReadOut}
+use Rattle.jobcodec.specs.JobRead.{jobReadUnder}
 use Rattle.text.specs.Text.{hex}
 use Rattle.records.specs.Session.{after}
 use Rattle.lines.specs.Lines.{refusalLine, servedLine, letterR}
@@ -32,24 +32,22 @@ same-length-2 : tie.Need-same-length-2
 same-length-2 c = search needs
 
 returns : tie.Need-returns
-unfolding jobReadOut
 returns c =
     let a = c .before .before .before .before .before .before .before .before .before .before .before .before .before .before .args in
     let s = sessionOf (a .session) in
     let job = c .before .before .before .before .before .before .before .before .job-read in
     let put = c .before .before .before .put-refusal in
     let line = a .line .now in
-    let out = jobReadOut (given (a .figures)) (s .table) (a .word .now) (a .payload .now) in
+    let out = jobReadUnder (codingOf (a .figures)) (s .table) (a .word .now) (a .payload .now) in
     shown-refused (c .counted .result) line (put .last .0) s letterR (job .result) (out .answer) (hex (take 4 (out .payload)) ∷ hex (drop 4 (out .payload)) ∷ []) (job .ensures .0) (c .before .before .before .before .before .if1 .taken)
     (shown-goes (c .counted .result) line (put .last .0) (after s (s .figures) (s .table)) (refusalLine letterR (job .result)) (put .result) (c .counted .ensures) (put .ensures))
 
 put-payload-requires : tie.Need-put-payload-requires
-unfolding jobReadOut
 put-payload-requires c κs =
     let s = c .before .before .before .before .before .before .before .before .before .before .before in
     let a = s .args in
     let job = c .before .before .before .before .before .job-read in
-    let number = read-number (given (a .figures)) (entries (a .session .table)) (a .word .now) (a .payload .now) (sym (job .ensures .0) ∙ c .before .before .if1 .left) in
+    let number = read-number (codingOf (a .figures)) (entries (a .session .table)) (a .word .now) (a .payload .now) (sym (job .ensures .0) ∙ c .before .before .if1 .left) in
     (s .pre .0 .room, omega (arith, s .pre .1, job .kept .1 .1 .1 .0), omega (arith, number, job .kept .1 .1 .1 .0))
 
 counted-requires-2 : tie.Need-counted-requires-2
@@ -62,7 +60,6 @@ same-length-4 : tie.Need-same-length-4
 same-length-4 c = search needs
 
 returns-2 : tie.Need-returns-2
-unfolding jobReadOut
 returns-2 c =
     let a = c .before .before .before .before .before .before .before .before .before .before .before .before .before .before .before .args in
     let s = sessionOf (a .session) in
@@ -70,7 +67,7 @@ returns-2 c =
     let put = c .before .before .before .put-payload in
     let line = a .line .now in
     let payload = job .last .1 .1 .1 .0 in
-    let out = jobReadOut (given (a .figures)) (s .table) (a .word .now) (a .payload .now) in
+    let out = jobReadUnder (codingOf (a .figures)) (s .table) (a .word .now) (a .payload .now) in
     shown-served (c .counted2 .result) line (put .last .0) s letterR (job .result) (out .answer) (hex (take 4 payload) ∷ hex (drop 4 payload) ∷ [])
     (hex (take 4 (out .payload)) ∷ hex (drop 4 (out .payload)) ∷ []) (job .ensures .0) (c .before .before .before .before .before .before .if1 .left)
     (ap (λ (x : List ℕ). hex (take 4 x) ∷ hex (drop 4 x) ∷ []) (job .ensures .1))

@@ -5,8 +5,9 @@ use Prim.Native.Nat.{ℕ}
 use native.Mathlib.Omega.{arith}
 use borrow.Author.Needs.{needs}
 use lib.ListN.{length, length-drop}
-use Rattle.construction_a.specs.Figures.{Params}
-use Rattle.construction_a.specs.Outcomes.{figuresOut}
+use Rattle.cells.specs.Outcomes.{figuresUnder}
+use Rattle.params.specs.Bridge.{codingOf}
+use Rattle.params.specs.declared.Figures.{Figures}
 use Rattle.jobs.specs.Letters.{kindOf, callBy}
 use Rattle.payloads.specs.Payload.{jobNumber}
 use Rattle.records.specs.Records.{headLen, letterOf, recordLen, isWhole}
@@ -14,8 +15,8 @@ use Rattle.transfer.specs.Steps.{Step, figuresStep, callStep}
 use Rattle.records.specs.Bridge.{sessionOf}
 use Rattle.transfer.specs.Bridge.{Shown}
 use Rattle.lines.proofs.Fields.{rest-all}
-use Rattle.records.proofs.Lengths.{whole-len, whole-long, len-S, len-W, len-R, len-call}
-use Rattle.transfer.proofs.Serving.{serve-S, serve-W, serve-R, serve-call-is}
+use Rattle.records.proofs.Lengths.{whole-len, whole-long, len-S, len-L, len-W, len-R, len-call}
+use Rattle.transfer.proofs.Serving.{serve-S, serve-L, serve-W, serve-R, serve-call-is}
 use Rattle.transfer.proofs.serve.Statement.{statement}
 use Rattle.transfer.proofs.serve.Tie as tie
 
@@ -34,17 +35,27 @@ figures-in-requires c κs =
 serve-figures-requires : tie.Need-serve-figures-requires
 serve-figures-requires c κs = search needs
 
+long-figures-in-requires : tie.Need-long-figures-in-requires
+long-figures-in-requires c κs =
+    let s = c .before .before .before .before in
+    let bytes = s .args .received .now in
+    let from = sessionOf (s .args .session) in
+    whole-len bytes (recordLen from (letterOf bytes)) 8 (len-L from (letterOf bytes) (c .match .keys2)) (s .pre .whole)
+
+serve-figures-requires-2 : tie.Need-serve-figures-requires-2
+serve-figures-requires-2 c κs = search needs
+
 serve-write-requires : tie.Need-serve-write-requires
 serve-write-requires c κs =
     let s = c .before .before .before .before .before in
     let bytes = s .args .received .now in
-    record { ready = s .pre .ready; whole = ap (isWhole bytes) (sym (len-W (sessionOf (s .args .session)) (letterOf bytes) (c .before .match .keys2))) ∙ s .pre .whole }
+    record { ready = s .pre .ready; whole = ap (isWhole bytes) (sym (len-W (sessionOf (s .args .session)) (letterOf bytes) (c .before .match .keys3))) ∙ s .pre .whole }
 
 serve-read-requires : tie.Need-serve-read-requires
 serve-read-requires c κs =
     let s = c .before .before .before .before .before in
     let bytes = s .args .received .now in
-    record { ready = s .pre .ready; whole = ap (isWhole bytes) (sym (len-R (sessionOf (s .args .session)) (letterOf bytes) (c .before .match .keys3))) ∙ s .pre .whole }
+    record { ready = s .pre .ready; whole = ap (isWhole bytes) (sym (len-R (sessionOf (s .args .session)) (letterOf bytes) (c .before .match .keys4))) ∙ s .pre .whole }
 
 sub-job-number : tie.Need-sub-job-number
 sub-job-number c =
@@ -65,7 +76,7 @@ job-number-requires c κs =
     let bytes = s .args .received .now in
     let from = sessionOf (s .args .session) in
     let other = c .before .match .rest in
-    let is = len-call from (letterOf bytes) bytes (other .0 .0 .1) (other .0 .1) (other .1) (s .pre .whole) in
+    let is = len-call from (letterOf bytes) bytes (other .0 .0 .0 .1) (other .0 .0 .1) (other .0 .1) (other .1) (s .pre .whole) in
     omega (arith, whole-len bytes (recordLen from (letterOf bytes)) 7 (is .0) (s .pre .whole), ap (λ (x : List ℕ). length x) (rest-all headLen bytes), length-drop headLen bytes)
 
 serve-call-requires : tie.Need-serve-call-requires
@@ -80,18 +91,20 @@ returns c =
     let from = sessionOf (a .session) in
     let bytes = a .received .now in
     let done = c .before .before .serve-figures in
-    subst (λ (o : Step). Shown (done .result) (a .line .now) (done .last .1 .1 .0) o) (sym (serve-S from (letterOf bytes) bytes (c .before .before .before .before .before .match .keys1)))
-    (subst (λ (f : Params). Shown (done .result) (a .line .now) (done .last .1 .1 .0) (figuresStep from f (figuresOut f))) (c .before .before .before .before .figures-in .ensures) (done .ensures))
+    subst (λ (o : Step). Shown (done .result) (a .line .now) (done .last .1 .1 .1 .0) o) (sym (serve-S from (letterOf bytes) bytes (c .before .before .before .before .before .match .keys1)))
+    (subst (λ (f : Figures). Shown (done .result) (a .line .now) (done .last .1 .1 .1 .0) (figuresStep from (letterOf bytes) f (figuresUnder (codingOf f)))) (c .before .before .before .before .figures-in .ensures) (done .ensures))
 
 same-length-2 : tie.Need-same-length-2
 same-length-2 c = search needs
 
 returns-2 : tie.Need-returns-2
 returns-2 c =
-    let a = c .before .before .before .before .before .before .before .before .args in
+    let a = c .before .before .before .before .before .before .before .before .before .args in
+    let from = sessionOf (a .session) in
     let bytes = a .received .now in
-    let done = c .before .before .serve-write in
-    subst (λ (o : Step). Shown (done .result) (a .line .now) (done .last .1 .1 .0) o) (sym (serve-W (sessionOf (a .session)) (letterOf bytes) bytes (c .before .before .before .before .match .keys2))) (done .ensures)
+    let done = c .before .before .serve-figures2 in
+    subst (λ (o : Step). Shown (done .result) (a .line .now) (done .last .1 .1 .1 .0) o) (sym (serve-L from (letterOf bytes) bytes (c .before .before .before .before .before .match .keys2)))
+    (subst (λ (f : Figures). Shown (done .result) (a .line .now) (done .last .1 .1 .1 .0) (figuresStep from (letterOf bytes) f (figuresUnder (codingOf f)))) (c .before .before .before .before .long-figures-in .ensures) (done .ensures))
 
 same-length-3 : tie.Need-same-length-3
 same-length-3 c = search needs
@@ -100,14 +113,24 @@ returns-3 : tie.Need-returns-3
 returns-3 c =
     let a = c .before .before .before .before .before .before .before .before .args in
     let bytes = a .received .now in
-    let done = c .before .before .serve-read in
-    subst (λ (o : Step). Shown (done .result) (a .line .now) (done .last .1 .1 .0) o) (sym (serve-R (sessionOf (a .session)) (letterOf bytes) bytes (c .before .before .before .before .match .keys3))) (done .ensures)
+    let done = c .before .before .serve-write in
+    subst (λ (o : Step). Shown (done .result) (a .line .now) (done .last .1 .1 .0) o) (sym (serve-W (sessionOf (a .session)) (letterOf bytes) bytes (c .before .before .before .before .match .keys3))) (done .ensures)
 
 same-length-4 : tie.Need-same-length-4
 same-length-4 c = search needs
 
 returns-4 : tie.Need-returns-4
 returns-4 c =
+    let a = c .before .before .before .before .before .before .before .before .args in
+    let bytes = a .received .now in
+    let done = c .before .before .serve-read in
+    subst (λ (o : Step). Shown (done .result) (a .line .now) (done .last .1 .1 .0) o) (sym (serve-R (sessionOf (a .session)) (letterOf bytes) bytes (c .before .before .before .before .match .keys4))) (done .ensures)
+
+same-length-5 : tie.Need-same-length-5
+same-length-5 c = search needs
+
+returns-5 : tie.Need-returns-5
+returns-5 c =
     let s = c .before .before .before .before .before .before .before .before .before .before in
     let a = s .args in
     let from = sessionOf (a .session) in
@@ -115,8 +138,8 @@ returns-4 c =
     let letter = letterOf bytes in
     let other = c .before .before .before .before .before .before .match .rest in
     let done = c .before .before .serve-call in
-    let is = len-call from letter bytes (other .0 .0 .1) (other .0 .1) (other .1) (s .pre .whole) in
-    subst (λ (o : Step). Shown (done .result) (a .line .now) (done .last .1 .1 .1 .0) o) (sym (serve-call-is from letter bytes (other .0 .0 .1) (is .1)))
+    let is = len-call from letter bytes (other .0 .0 .0 .1) (other .0 .0 .1) (other .0 .1) (other .1) (s .pre .whole) in
+    subst (λ (o : Step). Shown (done .result) (a .line .now) (done .last .1 .1 .1 .0) o) (sym (serve-call-is from letter bytes (other .0 .0 .0 .1) (other .0 .0 .1) (is .1)))
     (subst (λ (n : ℕ). Shown (done .result) (a .line .now) (done .last .1 .1 .1 .0) (callStep from letter (callBy (kindOf letter) (from .table) n)))
     (c .before .before .before .before .job-number .ensures ∙ ap jobNumber (rest-all headLen bytes)) (done .ensures))
 
@@ -127,6 +150,8 @@ serve-spec =
     shared-slice-read-letter
     figures-in-requires
     serve-figures-requires
+    long-figures-in-requires
+    serve-figures-requires-2
     serve-write-requires
     serve-read-requires
     sub-job-number
@@ -141,4 +166,6 @@ serve-spec =
     same-length-3
     returns-3
     same-length-4
-    returns-4)
+    returns-4
+    same-length-5
+    returns-5)

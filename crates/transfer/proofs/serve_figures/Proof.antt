@@ -3,13 +3,12 @@ use mathlib.Core.Path.{_≡_, sym, ap, subst, _∙_}
 use mathlib.Core.List.{[], _∷_}
 use mathlib.Core.Option.{some}
 use borrow.Author.Needs.{needs}
-use Rattle.construction_a.specs.Outcomes.{FiguresOut, figured, figuresOut}
+use Rattle.cells.specs.Outcomes.{FiguresOut, figured, figuresUnder}
 use Rattle.params.specs.Answer.{figuredAs}
-use Rattle.params.specs.Bridge.{given}
-use Rattle.params.proofs.Answered.{refused-learnt}
+use Rattle.params.specs.Bridge.{codingOf}
 use Rattle.text.specs.Text.{decimal}
 use Rattle.records.specs.Session.{after}
-use Rattle.lines.specs.Lines.{refusalLine, servedLine, letterS}
+use Rattle.lines.specs.Lines.{refusalLine, servedLine}
 use Rattle.transfer.specs.Steps.{figuresStep}
 use Rattle.records.specs.Bridge.{sessionOf}
 use Rattle.transfer.specs.Bridge.{Shown}
@@ -17,8 +16,8 @@ use Rattle.transfer.proofs.Serving.{shown-goes}
 use Rattle.transfer.proofs.serve_figures.Statement.{statement}
 use Rattle.transfer.proofs.serve_figures.Tie as tie
 
-figures-requires : tie.Need-figures-requires
-figures-requires c κs = search needs
+layout-requires : tie.Need-layout-requires
+layout-requires c κs = search needs
 
 enum-known-answer : tie.Need-enum-known-answer
 enum-known-answer c = search needs
@@ -45,13 +44,13 @@ returns : tie.Need-returns
 returns c =
     let a = c .before .before .before .before .before .before .before .before .before .before .args in
     let s = sessionOf (a .session) in
-    let f = given (a .figures) in
+    let f = a .figures in
     let told = c .before .before .before .before .before .before .answer .given in
     let put = c .before .before .before .put-refusal in
     let line = a .line .now in
-    let e = refused-learnt f (c .before .before .before .before .before .before .before .before .figures .result) (told .0 .0) (told .1) (c .before .before .before .before .before .before .before .before .figures .ensures .0) in
-    subst (λ (o : FiguresOut). Shown (c .counted .result) line (put .last .0) (figuresStep s f o)) (sym e)
-    (shown-goes (c .counted .result) line (put .last .0) (after s (s .figures) (s .table)) (refusalLine letterS (told .0 .0)) (put .result) (c .counted .ensures) (put .ensures))
+    let e = sym (c .before .before .before .before .before .before .before .before .layout .ensures .0) ∙ ap figuredAs (told .1) in
+    subst (λ (o : FiguresOut). Shown (c .counted .result) line (put .last .0) (figuresStep s (a .letter) f o)) (sym e)
+    (shown-goes (c .counted .result) line (put .last .0) (after s (s .figures) (s .table)) (refusalLine (a .letter) (told .0 .0)) (put .result) (c .counted .ensures) (put .ensures))
 
 same-length-2 : tie.Need-same-length-2
 same-length-2 c = search needs
@@ -60,21 +59,21 @@ returns-2 : tie.Need-returns-2
 returns-2 c =
     let a = c .before .before .before .before .before .before .before .before .before .before .before .args in
     let s = sessionOf (a .session) in
-    let f = given (a .figures) in
+    let f = a .figures in
     let told = c .before .before .before .before .before .before .before .answer2 .given in
     let l = told .0 .0 in
     let put = c .before .before .before .before .put-figures in
     let line = a .line .now in
-    let e : figured (l .«placement_count») (l .«index_tail») (l .«message_len») ≡ figuresOut f = sym (ap figuredAs (told .1)) ∙ c .before .before .before .before .before .before .before .before .before .figures .ensures .0 in
-    subst (λ (o : FiguresOut). Shown (c .after .result) line (put .last .0) (figuresStep s f o)) e
+    let e : figured (l .«placement_count») (l .«index_tail») (l .«message_len») ≡ figuresUnder (codingOf f) = sym (ap figuredAs (told .1)) ∙ c .before .before .before .before .before .before .before .before .before .layout .ensures .0 in
+    subst (λ (o : FiguresOut). Shown (c .after .result) line (put .last .0) (figuresStep s (a .letter) f o)) e
     (shown-goes (c .after .result) line (put .last .0) (after s (some f) (s .table))
-    (servedLine letterS (decimal (l .«placement_count») ∷ decimal (l .«index_tail») ∷ decimal (l .«message_len») ∷ [])) (put .result) (c .after .ensures) (put .ensures))
+    (servedLine (a .letter) (decimal (l .«placement_count») ∷ decimal (l .«index_tail») ∷ decimal (l .«message_len») ∷ [])) (put .result) (c .after .ensures) (put .ensures))
 
 pub serve-figures-spec : {M : Type 1} → statement M
 serve-figures-spec =
     tie.close
     (tie.spec
-    figures-requires
+    layout-requires
     enum-known-answer
     put-refusal-requires
     counted-requires

@@ -1,5 +1,5 @@
 -- `write_laid` meets its contract: the starts and the payload of the record, and a word that holds 0. Assumes nothing.
-use mathlib.Core.Path.{_≡_, sym}
+use mathlib.Core.Path.{_≡_, sym, ap, _∙_}
 use mathlib.Core.List.{List}
 use mathlib.Core.Option.{some}
 use Prim.Native.Nat.{ℕ, _+_, _-_, _*_, _≤_}
@@ -8,12 +8,13 @@ use borrow.Author.Needs.{needs}
 use lib.ListN.{length, take, drop, replicate, length-replicate}
 use lib.Seq.{length-take-le}
 use Rattle.construction_a.specs.Figures.{maxWord}
-use Rattle.params.specs.Bridge.{given}
-use Rattle.params.specs.Given.{shortWord, figuresOf}
-use Rattle.params.proofs.Fitting.{bound}
+use Rattle.combinatorics.specs.Stretch.{tabulate}
+use Rattle.cells.specs.Outcomes.{held}
+use Rattle.params.specs.Bridge.{codingOf}
+use Rattle.params.specs.Given.{shortWord}
 use Rattle.placements.specs.Bridge.{heldAs}
-use Rattle.jobcodec.specs.JobWrite.{jobWriteOut}
-use Rattle.records.specs.Records.{headLen, startsIn, payloadOf}
+use Rattle.jobcodec.specs.JobWrite.{jobWriteUnder}
+use Rattle.records.specs.Records.{headLen, twoBytes, startsIn, payloadOf}
 use Rattle.transfer.specs.Steps.{writeStep, writeOut}
 use Rattle.records.specs.Bridge.{sessionOf}
 use Rattle.transfer.specs.Bridge.{Shown}
@@ -23,13 +24,10 @@ use Rattle.transfer.proofs.Serving.{zeros, shown-write}
 use Rattle.transfer.proofs.write_laid.Statement.{statement}
 use Rattle.transfer.proofs.write_laid.Tie as tie
 
-figures-of-requires : tie.Need-figures-of-requires
-figures-of-requires c κs = search needs
-
 placement-in-requires : tie.Need-placement-in-requires
 placement-in-requires c κs =
-    let s = c .before .before .before in
-    record { few = bound (s .args .layout) (s .pre .fitting) .m-most; room = s .pre .long-enough }
+    let s = c .before .before in
+    record { few = omega (arith, s .pre .numbers .bursts-is, s .pre .small .bursts-most); room = s .pre .long-enough }
 
 mul-from : tie.Need-mul-from
 mul-from c = search needs
@@ -39,25 +37,28 @@ add-from c = search needs
 
 -- the word, in an array that has room for it
 longest : (s : tie.Start) → s .args .layout .n ≤ maxWord
-longest s = bound (s .args .layout) (s .pre .fitting) .n-most
+longest s = omega (arith, s .pre .numbers .word-is, s .pre .small .word-most)
 
 -- what was shown is the record's line, whatever array the word is lent in
-module _ (c : tie.After-placement-in) (room : ℕ) (le : c .before .before .before .before .args .layout .n ≤ room) where
-  lent-is : length (take {A = ℕ} (c .before .before .before .before .args .layout .n) (replicate room 0)) ≡ c .before .before .before .before .args .layout .n
-  lent-is = length-take-le {A = ℕ} (c .before .before .before .before .args .layout .n) (replicate room 0) (omega (arith, length-replicate {A = ℕ} room 0))
+module _ (c : tie.After-placement-in) (room : ℕ) (le : c .before .before .before .args .layout .n ≤ room) where
+  lent-is : length (take {A = ℕ} (c .before .before .before .args .layout .n) (replicate room 0)) ≡ c .before .before .before .args .layout .n
+  lent-is = length-take-le {A = ℕ} (c .before .before .before .args .layout .n) (replicate room 0) (omega (arith, length-replicate {A = ℕ} room 0))
 
   line-is : (r : StepAnswer) (line : List ℕ)
-      → (let a = c .before .before .before .before .args in let from = headLen + 2 * a .layout .m in let bytes = a .received .now in let s = sessionOf (a .session) in
-      Shown r (a .line .now) line (writeStep s (jobWriteOut (given (c .before .figures-of .result)) (s .table) (heldAs (c .placement-in .result)) (take (length bytes - from) (drop from bytes)) (take {A = ℕ} (a .layout .n) (replicate room 0))))
-      → Shown r (a .line .now) line (writeOut s bytes (some (figuresOf (a .layout)))))
+      → (let a = c .before .before .before .args in let from = headLen + 2 * a .layout .m in let bytes = a .received .now in let s = sessionOf (a .session) in
+      Shown r (a .line .now) line (writeStep s (jobWriteUnder (codingOf (a .figures)) (s .table) (heldAs (c .placement-in .result)) (take (length bytes - from) (drop from bytes)) (take {A = ℕ} (a .layout .n) (replicate room 0))))
+      → Shown r (a .line .now) line (writeOut s bytes (some (a .figures))))
   line-is r line =
-      let a = c .before .before .before .before .args in
+      let s = c .before .before .before in
+      let a = s .args in
       let l = a .layout in
       let bytes = a .received .now in
       let from = headLen + 2 * l .m in
-      shown-write r (a .line .now) line (sessionOf (a .session)) (given (c .before .figures-of .result)) (figuresOf l) (heldAs (c .placement-in .result)) (startsIn (figuresOf l) bytes)
-      (take (length bytes - from) (drop from bytes)) (payloadOf (figuresOf l) bytes) (take {A = ℕ} (l .n) (replicate room 0)) (replicate {A = ℕ} (l .n) 0) (c .before .figures-of .ensures) (c .placement-in .ensures)
-      (rest-all from bytes) (zeros (l .n) room le)
+      let m = s .pre .numbers .bursts-is in
+      shown-write r (a .line .now) line (sessionOf (a .session)) (codingOf (a .figures)) (heldAs (c .placement-in .result)) (startsIn (a .figures) bytes)
+      (take (length bytes - from) (drop from bytes)) (payloadOf (a .figures) bytes) (take {A = ℕ} (l .n) (replicate room 0)) (replicate {A = ℕ} (codingOf (a .figures) .codec .wordLen) 0)
+      (c .placement-in .ensures ∙ ap (λ (k : ℕ). held (tabulate k 0 (λ i. twoBytes bytes (headLen + 2 * i)))) m)
+      (rest-all from bytes ∙ ap (λ (k : ℕ). drop (headLen + 2 * k) bytes) m) (zeros (l .n) room le ∙ ap (λ (k : ℕ). replicate {A = ℕ} k 0) (s .pre .numbers .word-is))
 
 sub-write-word : tie.Need-sub-write-word
 sub-write-word c = search needs
@@ -76,7 +77,7 @@ slice-aggregate-write-word c = sym (lent-is (c .before .before .before) shortWor
 
 write-word-requires : tie.Need-write-word-requires
 write-word-requires c κs =
-    let s = c .before .before .before .before .before .before .before .before in
+    let s = c .before .before .before .before .before .before .before in
     (s .pre .ready, omega (arith, longest s, lent-is (c .before .before .before .before) shortWord (omega (arith, c .before .before .before .if1 .taken))))
 
 same-length : tie.Need-same-length
@@ -97,14 +98,14 @@ part-write-word-end-2 : tie.Need-part-write-word-end-2
 part-write-word-end-2 c = search needs
 
 array-borrow-prefix-word : tie.Need-array-borrow-prefix-word
-array-borrow-prefix-word c = longest (c .before .before .before .before .before .before)
+array-borrow-prefix-word c = longest (c .before .before .before .before .before)
 
 slice-aggregate-write-word-2 : tie.Need-slice-aggregate-write-word-2
-slice-aggregate-write-word-2 c = sym (lent-is (c .before .before .before) maxWord (longest (c .before .before .before .before .before .before .before)))
+slice-aggregate-write-word-2 c = sym (lent-is (c .before .before .before) maxWord (longest (c .before .before .before .before .before .before)))
 
 write-word-requires-2 : tie.Need-write-word-requires-2
 write-word-requires-2 c κs =
-    let s = c .before .before .before .before .before .before .before .before in
+    let s = c .before .before .before .before .before .before .before in
     (s .pre .ready, omega (arith, longest s, lent-is (c .before .before .before .before) maxWord (longest s)))
 
 same-length-2 : tie.Need-same-length-2
@@ -113,14 +114,13 @@ same-length-2 c = search needs
 returns-2 : tie.Need-returns-2
 returns-2 c =
     let put = c .before .before .before .write-word2 in
-    let s = c .before .before .before .before .before .before .before .before .before .before .before .before in
+    let s = c .before .before .before .before .before .before .before .before .before .before .before in
     line-is (c .before .before .before .before .before .before .before .before) maxWord (longest s) (put .result) (put .last .1 .1 .1 .1 .1 .0) (put .ensures)
 
 pub write-laid-spec : {M : Type 1} → statement M
 write-laid-spec =
     tie.close
     (tie.spec
-    figures-of-requires
     placement-in-requires
     mul-from
     add-from

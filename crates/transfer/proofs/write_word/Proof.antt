@@ -3,9 +3,9 @@ use mathlib.Core.Path.{ap}
 use mathlib.Core.List.{List, [], _∷_}
 use Prim.Native.Nat.{ℕ}
 use borrow.Author.Needs.{needs}
-use Rattle.params.specs.Bridge.{given}
+use Rattle.params.specs.Bridge.{codingOf}
 use Rattle.placements.specs.Bridge.{heldAs}
-use Rattle.jobcodec.specs.JobWrite.{jobWriteOut}
+use Rattle.jobcodec.specs.JobWrite.{jobWriteUnder}
 use Rattle.text.specs.Text.{hex}
 use Rattle.records.specs.Session.{after}
 use Rattle.lines.specs.Lines.{refusalLine, servedLine, letterW}
@@ -30,14 +30,13 @@ same-length-2 : tie.Need-same-length-2
 same-length-2 c = search needs
 
 returns : tie.Need-returns
-unfolding jobWriteOut
 returns c =
     let a = c .before .before .before .before .before .before .before .before .before .before .before .before .before .before .args in
     let s = sessionOf (a .session) in
     let job = c .before .before .before .before .before .before .before .before .job-write in
     let put = c .before .before .before .put-refusal in
     let line = a .line .now in
-    let out = jobWriteOut (given (a .figures)) (s .table) (heldAs (a .at)) (a .payload .now) (a .word .now) in
+    let out = jobWriteUnder (codingOf (a .figures)) (s .table) (heldAs (a .at)) (a .payload .now) (a .word .now) in
     shown-refused (c .counted .result) line (put .last .0) s letterW (job .result) (out .answer) (hex (out .word) ∷ []) (job .ensures .0) (c .before .before .before .before .before .if1 .taken)
     (shown-goes (c .counted .result) line (put .last .0) (after s (s .figures) (s .table)) (refusalLine letterW (job .result)) (put .result) (c .counted .ensures) (put .ensures))
 
@@ -54,7 +53,6 @@ same-length-4 : tie.Need-same-length-4
 same-length-4 c = search needs
 
 returns-2 : tie.Need-returns-2
-unfolding jobWriteOut
 returns-2 c =
     let a = c .before .before .before .before .before .before .before .before .before .before .before .before .before .before .before .args in
     let s = sessionOf (a .session) in
@@ -62,7 +60,7 @@ returns-2 c =
     let put = c .before .before .before .put-word in
     let line = a .line .now in
     let word = job .last .1 .1 .1 .1 .0 in
-    let out = jobWriteOut (given (a .figures)) (s .table) (heldAs (a .at)) (a .payload .now) (a .word .now) in
+    let out = jobWriteUnder (codingOf (a .figures)) (s .table) (heldAs (a .at)) (a .payload .now) (a .word .now) in
     shown-served (c .counted2 .result) line (put .last .0) s letterW (job .result) (out .answer) (hex word ∷ []) (hex (out .word) ∷ []) (job .ensures .0) (c .before .before .before .before .before .before .if1 .left)
     (ap (λ (x : List ℕ). hex x ∷ []) (job .ensures .1))
     (shown-goes (c .counted2 .result) line (put .last .0) (after s (s .figures) (s .table)) (servedLine letterW (hex word ∷ [])) (put .result) (c .counted2 .ensures) (put .ensures))

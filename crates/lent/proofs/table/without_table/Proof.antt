@@ -1,39 +1,36 @@
 -- `without_table` meets its contract. Assumes nothing.
-use mathlib.Core.Path.{_≡_, sym, ap, _∙_}
+use mathlib.Core.Path.{_≡_, sym, ap, ap₂, _∙_}
 use mathlib.Core.Bool.{true}
 use native.Mathlib.Omega.{arith}
 use borrow.Author.Needs.{needs}
 use Rattle.cells.specs.Bytes.{payloadLen}
-use Rattle.construction_a.specs.Figures.{Params, inRange, fits, messageLen}
-use Rattle.params.specs.Bridge.{given}
-use Rattle.params.specs.Given.{figuresOf, Fitting}
-use Rattle.params.proofs.Answered.{refused-learnt}
-use Rattle.params.proofs.Fitting.{layout-fits, bound}
+use Rattle.cells.specs.Outcomes.{Coding}
+use Rattle.params.specs.Answer.{figuredAs, HasNumbers, Small}
+use Rattle.params.specs.Bridge.{codingOf}
+use Rattle.params.proofs.Either.{laid-learnt}
 use Rattle.lent.proofs.WithTable.{without-unfit, without-payload, without-length}
 use Rattle.lent.proofs.table.without_table.Statement.{statement}
 use Rattle.lent.proofs.table.without_table.Tie as tie
 
-abbrev f : tie.Start → Params
-f s = given (s .args .figures)
+abbrev d : tie.Start → Coding
+d s = codingOf (s .args .figures)
 
 -- the layout that was answered
-learnt : (c : tie.After-known-told2) → (figuresOf (c .before .answer2 .given .0 .0) ≡ f (c .before .before .before .before)) × Fitting (c .before .answer2 .given .0 .0)
+learnt : (c : tie.After-known-told2) → (d (c .before .before .before .before) .inRange ≡ true) × (d (c .before .before .before .before) .fits ≡ true)
+    × HasNumbers (d (c .before .before .before .before)) (c .before .answer2 .given .0 .0) × Small (d (c .before .before .before .before))
 learnt c =
-    let r = c .before .before .before .figures in
+    let r = c .before .before .before .layout in
     let told = c .before .answer2 .given in
-    layout-fits (f (c .before .before .before .before)) (r .result) (told .0 .0) (told .1) (r .ensures .0) (r .ensures .1)
+    laid-learnt (c .before .before .before .before .args .figures) (r .result) (told .0 .0) (told .1) (r .ensures .0) (r .ensures .1)
 
--- its figures fit, and its payloads are theirs
-as-given : (c : tie.After-known-told2) → (inRange (f (c .before .before .before .before)) ≡ true) × (fits (f (c .before .before .before .before)) ≡ true)
-    × (payloadLen (c .before .answer2 .given .0 .0 .q) (c .before .answer2 .given .0 .0 .«message_len») ≡ payloadLen (f (c .before .before .before .before) .q) (messageLen (f (c .before .before .before .before))))
-as-given c =
-    let l = c .before .answer2 .given .0 .0 in
-    let e = learnt c .0 in
-    let g = learnt c .1 in
-    (ap inRange (sym e) ∙ g .range, ap fits (sym e) ∙ g .fit, ap (payloadLen (l .q)) (g .laid .len-is) ∙ ap (λ (x : Params). payloadLen (x .q) (messageLen x)) e)
+-- its payloads are those of the figures
+same : (c : tie.After-known-told2)
+    → payloadLen (c .before .answer2 .given .0 .0 .q) (c .before .answer2 .given .0 .0 .«message_len»)
+    ≡ payloadLen (d (c .before .before .before .before) .codec .alphabet) (d (c .before .before .before .before) .codec .messageLen)
+same c = ap₂ payloadLen (learnt c .2 .alphabet-is) (learnt c .2 .len-is)
 
-figures-requires : tie.Need-figures-requires
-figures-requires c κs = search needs
+layout-requires : tie.Need-layout-requires
+layout-requires c κs = search needs
 
 enum-known-answer : tie.Need-enum-known-answer
 enum-known-answer c = search needs
@@ -42,29 +39,29 @@ enum-known-answer-2 : tie.Need-enum-known-answer-2
 enum-known-answer-2 c = search needs
 
 payload-len-requires : tie.Need-payload-len-requires
-payload-len-requires c κs = bound (c .before .answer2 .given .0 .0) (learnt c .1) .q-most
+payload-len-requires c κs = let known = learnt c in omega (arith, known .2 .alphabet-is, known .3 .alphabet-most)
 
 returns : tie.Need-returns
 returns c =
-    let k = as-given (c .before .before) in
-    without-payload (f (c .before .before .before .before .before .before)) (k .0) (k .1) (omega (arith, k .2, c .before .payload-len .ensures))
+    let known = learnt (c .before .before) in
+    without-payload (d (c .before .before .before .before .before .before)) (known .0) (known .1) (omega (arith, same (c .before .before), c .before .payload-len .ensures))
 
 returns-2 : tie.Need-returns-2
 returns-2 c =
-    let r = c .before .before .before .figures in
+    let r = c .before .before .before .layout in
     let told = c .before .answer .given in
-    without-unfit (f (c .before .before .before .before)) (told .0 .0) (refused-learnt (f (c .before .before .before .before)) (r .result) (told .0 .0) (told .1) (r .ensures .0))
+    without-unfit (d (c .before .before .before .before)) (told .0 .0) (sym (r .ensures .0) ∙ ap figuredAs (told .1))
 
 returns-3 : tie.Need-returns-3
 returns-3 c =
-    let k = as-given (c .before .before) in
-    without-length (f (c .before .before .before .before .before .before)) (k .0) (k .1) (omega (arith, k .2, c .before .payload-len .ensures))
+    let known = learnt (c .before .before) in
+    without-length (d (c .before .before .before .before .before .before)) (known .0) (known .1) (omega (arith, same (c .before .before), c .before .payload-len .ensures))
 
 pub without-table-spec : {M : Type 1} → statement M
 without-table-spec =
     tie.close
     (tie.spec
-    figures-requires
+    layout-requires
     enum-known-answer
     enum-known-answer-2
     payload-len-requires

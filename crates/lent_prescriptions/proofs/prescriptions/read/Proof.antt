@@ -2,7 +2,7 @@
 use mathlib.Core.Path.{sym, ap, _∙_}
 use mathlib.Core.List.{List}
 use borrow.Author.Tests.{not-true, not-false}
-use Rattle.params.specs.Bridge.{given}
+use Rattle.params.specs.Bridge.{codingOf}
 use Rattle.jobs.specs.declared.Entry.{Entry}
 use Rattle.lent_prescriptions.specs.Eyes.{powersLent}
 use Rattle.lent_prescriptions.specs.Prescriptions.{prescriptionReadLent}
@@ -18,7 +18,7 @@ returns : tie.Need-returns
 returns c =
     let a = c .before .before .before .before .before .before .args in
     ap (powersLent (a .marks .now) (a .powers .now)) (c .without-table .ensures)
-    ∙ read-other (given (a .figures)) (a .table .now) (a .word .now) (a .marks .now) (a .powers .now) (c .before .if1 .taken)
+    ∙ read-other (codingOf (a .figures)) (a .table .now) (a .word .now) (a .marks .now) (a .powers .now) (c .before .if1 .taken)
 
 states-known-requires : tie.Need-states-known-requires
 states-known-requires c κs = search needs
@@ -26,7 +26,7 @@ states-known-requires c κs = search needs
 returns-2 : tie.Need-returns-2
 returns-2 c =
     let a = c .before .before .before .before .before .before .before .args in
-    read-state (given (a .figures)) (a .table .now) (a .word .now) (a .marks .now) (a .powers .now) (c .before .before .if1 .left)
+    read-state (codingOf (a .figures)) (a .table .now) (a .word .now) (a .marks .now) (a .powers .now) (c .before .before .if1 .left)
     (sym (c .before .states-known .ensures) ∙ not-true _ (c .if2 .taken))
 
 table-in-requires : tie.Need-table-in-requires
@@ -45,8 +45,8 @@ returns-3 : tie.Need-returns-3
 returns-3 c =
     let a = c .before .before .before .before .before .before .before .before .before .before .before .before .before .before .before .args in
     c .before .before .before .before .read-held .ensures
-    ∙ ap (λ (es : List Entry). prescriptionReadLent (given (a .figures)) es (a .word .now) (a .marks .now) (a .powers .now)) (c .before .before .before .before .before .before .before .table-in .ensures)
-    ∙ read-whole (given (a .figures)) (a .table .now) (a .word .now) (a .marks .now) (a .powers .now) (c .before .before .before .before .before .before .before .before .before .before .if1 .left)
+    ∙ ap (λ (es : List Entry). prescriptionReadLent (codingOf (a .figures)) es (a .word .now) (a .marks .now) (a .powers .now)) (c .before .before .before .before .before .before .before .table-in .ensures)
+    ∙ read-whole (codingOf (a .figures)) (a .table .now) (a .word .now) (a .marks .now) (a .powers .now) (c .before .before .before .before .before .before .before .before .before .before .if1 .left)
     (sym (c .before .before .before .before .before .before .before .before .before .states-known .ensures) ∙ not-false _ (c .before .before .before .before .before .before .before .before .if2 .left))
 
 pub read-spec : {M : Type 1} → statement M

@@ -3,9 +3,8 @@ use mathlib.Core.Path.{sym, ap, ap₂, _∙_}
 use mathlib.Core.List.{List}
 use Prim.Native.Nat.{ℕ}
 use lib.Ieee.{Float}
-use Rattle.prescriptioncodec.specs.PrescriptionRead.{prescriptionReadOut}
 use Rattle.refusals.specs.Refusals.{served}
-use Rattle.params.specs.Bridge.{given}
+use Rattle.params.specs.Bridge.{codingOf}
 use Rattle.jobs.specs.Slots.{entries}
 use Rattle.prescriptioncodec.specs.PrescriptionRead.{readAnswered}
 use Rattle.lent_prescriptions.specs.Eyes.{powersLent}
@@ -21,7 +20,7 @@ returns : tie.Need-returns
 returns c =
     let a = c .before .before .before .before .before .args in
     ap (powersLent (a .marks .now) (a .powers .now)) (c .without-room .ensures)
-    ∙ read-without-room (a .marks .now) (a .powers .now) (given (a .figures)) (entries (a .table)) (a .word .now) (no-marks (a .marks .now) (a .powers .now) (c .before .if1 .taken))
+    ∙ read-without-room (a .marks .now) (a .powers .now) (codingOf (a .figures)) (entries (a .table)) (a .word .now) (no-marks (a .marks .now) (a .powers .now) (c .before .if1 .taken))
 
 without-room-requires-2 : tie.Need-without-room-requires-2
 without-room-requires-2 c κs = search needs
@@ -30,7 +29,7 @@ returns-2 : tie.Need-returns-2
 returns-2 c =
     let a = c .before .before .before .before .before .before .args in
     ap (powersLent (a .marks .now) (a .powers .now)) (c .without-room2 .ensures)
-    ∙ read-without-room (a .marks .now) (a .powers .now) (given (a .figures)) (entries (a .table)) (a .word .now) (no-powers (a .marks .now) (a .powers .now) (c .before .if2 .taken))
+    ∙ read-without-room (a .marks .now) (a .powers .now) (codingOf (a .figures)) (entries (a .table)) (a .word .now) (no-powers (a .marks .now) (a .powers .now) (c .before .if2 .taken))
 
 prescription-read-requires : tie.Need-prescription-read-requires
 prescription-read-requires c κs = search needs
@@ -48,10 +47,9 @@ put-powers-requires : tie.Need-put-powers-requires
 put-powers-requires c κs = search needs
 
 returns-3 : tie.Need-returns-3
-unfolding prescriptionReadOut
 returns-3 c =
     let a = c .before .before .before .before .before .before .before .before .before .args in
-    read-with-room (a .marks .now) (a .powers .now) (given (a .figures)) (entries (a .table)) (a .word .now)
+    read-with-room (a .marks .now) (a .powers .now) (codingOf (a .figures)) (entries (a .table)) (a .word .now)
     (have-room (a .marks .now) (a .powers .now) (c .before .before .before .before .before .if1 .left) (c .before .before .before .before .if2 .left))
     (sym (ap readAnswered (c .before .answer .given .1)) ∙ c .before .before .before .prescription-read .ensures)
 
@@ -62,11 +60,10 @@ same-length-2 : tie.Need-same-length-2
 same-length-2 c = search needs
 
 returns-4 : tie.Need-returns-4
-unfolding prescriptionReadOut
 returns-4 c =
     let a = c .before .before .before .before .before .before .before .before .before .before .before .before .before .before .before .before .before .args in
     ap₂ (λ (ms : List ℕ) (ps : List Float). powersLent ms ps served) (c .before .before .before .before .before .before .put-marks .ensures) (c .before .before .put-powers .ensures)
-    ∙ read-with-room (a .marks .now) (a .powers .now) (given (a .figures)) (entries (a .table)) (a .word .now)
+    ∙ read-with-room (a .marks .now) (a .powers .now) (codingOf (a .figures)) (entries (a .table)) (a .word .now)
     (have-room (a .marks .now) (a .powers .now) (c .before .before .before .before .before .before .before .before .before .before .before .before .before .if1 .left) (c .before .before .before .before .before .before .before .before .before .before .before .before .if2 .left))
     (sym (ap readAnswered (c .before .before .before .before .before .before .before .before .before .answer2 .given .1)) ∙ c .before .before .before .before .before .before .before .before .before .before .before .prescription-read .ensures)
 

@@ -2,12 +2,12 @@
 use mathlib.Core.Path.{sym, ap, ap₂, _∙_}
 use mathlib.Core.List.{List}
 use borrow.Author.Tests.{not-true, not-false}
-use Rattle.construction_a.specs.Outcomes.{Held, unwritten}
-use Rattle.params.specs.Bridge.{given}
+use Rattle.cells.specs.Outcomes.{Held, unwritten}
+use Rattle.params.specs.Bridge.{codingOf}
 use Rattle.placements.specs.Bridge.{heldAs}
 use Rattle.jobs.specs.declared.Entry.{Entry}
 use Rattle.jobs.specs.Slots.{entries}
-use Rattle.prescriptioncodec.specs.PrescriptionWrite.{prescriptionWriteOut}
+use Rattle.prescriptioncodec.specs.PrescriptionWrite.{prescriptionWriteUnder}
 use Rattle.lent_prescriptions.proofs.PrescriptionLaws.{write-other, write-state, write-whole}
 use borrow.Author.Needs.{needs}
 use Rattle.lent.proofs.WithTable.{all-told}
@@ -21,7 +21,7 @@ returns : tie.Need-returns
 returns c =
     let a = c .before .before .before .before .before .args in
     ap (unwritten (a .word .now)) (c .without-table .ensures)
-    ∙ write-other (given (a .figures)) (a .table .now) (a .starts .now) (a .number) (a .prescription) (a .word .now) (c .before .if1 .taken)
+    ∙ write-other (a .figures) (a .table .now) (a .starts .now) (a .number) (a .prescription) (a .word .now) (c .before .if1 .taken)
 
 states-known-requires : tie.Need-states-known-requires
 states-known-requires c κs = search needs
@@ -29,11 +29,11 @@ states-known-requires c κs = search needs
 returns-2 : tie.Need-returns-2
 returns-2 c =
     let a = c .before .before .before .before .before .before .args in
-    write-state (given (a .figures)) (a .table .now) (a .starts .now) (a .number) (a .prescription) (a .word .now) (c .before .before .if1 .left)
+    write-state (a .figures) (a .table .now) (a .starts .now) (a .number) (a .prescription) (a .word .now) (c .before .before .if1 .left)
     (sym (c .before .states-known .ensures) ∙ not-true _ (c .if2 .taken))
 
-placement-from-requires : tie.Need-placement-from-requires
-placement-from-requires c κs = search needs
+placement-under-requires : tie.Need-placement-under-requires
+placement-under-requires c κs = search needs
 
 table-in-requires : tie.Need-table-in-requires
 table-in-requires c κs = search needs
@@ -45,14 +45,13 @@ same-length : tie.Need-same-length
 same-length c = search needs
 
 returns-3 : tie.Need-returns-3
-unfolding prescriptionWriteOut
 returns-3 c =
     let a = c .before .before .before .before .before .before .before .before .before .before .before .before .args in
     let call = c .before .before .prescription-write in
-    all-told (prescriptionWriteOut (given (a .figures)) (entries (c .before .before .before .before .table-in .result)) (heldAs (c .before .before .before .before .before .placement-from .result)) (a .number) (a .prescription) (a .word .now)) (call .ensures .1) (call .ensures .0)
-    ∙ ap₂ (λ (es : List Entry) (h : Held). prescriptionWriteOut (given (a .figures)) es h (a .number) (a .prescription) (a .word .now))
-    (c .before .before .before .before .table-in .ensures) (c .before .before .before .before .before .placement-from .ensures)
-    ∙ write-whole (given (a .figures)) (a .table .now) (a .starts .now) (a .number) (a .prescription) (a .word .now) (c .before .before .before .before .before .before .before .before .if1 .left)
+    all-told (prescriptionWriteUnder (codingOf (a .figures)) (entries (c .before .before .before .before .table-in .result)) (heldAs (c .before .before .before .before .before .placement-under .result)) (a .number) (a .prescription) (a .word .now)) (call .ensures .1) (call .ensures .0)
+    ∙ ap₂ (λ (es : List Entry) (h : Held). prescriptionWriteUnder (codingOf (a .figures)) es h (a .number) (a .prescription) (a .word .now))
+    (c .before .before .before .before .table-in .ensures) (c .before .before .before .before .before .placement-under .ensures)
+    ∙ write-whole (a .figures) (a .table .now) (a .starts .now) (a .number) (a .prescription) (a .word .now) (c .before .before .before .before .before .before .before .before .if1 .left)
     (sym (c .before .before .before .before .before .before .before .states-known .ensures) ∙ not-false _ (c .before .before .before .before .before .before .if2 .left))
 
 pub write-spec : {M : Type 1} → statement M
@@ -63,7 +62,7 @@ write-spec =
     returns
     states-known-requires
     returns-2
-    placement-from-requires
+    placement-under-requires
     table-in-requires
     prescription-write-requires
     same-length

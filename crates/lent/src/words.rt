@@ -1,0 +1,56 @@
+// Words for programs in other languages, under the figures of either construction: written and read with starts as bytes, and their lengths. Inner
+// functions. Assumes nothing.
+ghost use mathlib.Core.Path.{_≡_};
+ghost use Rattle.cells.specs.Outcomes.{unwritten};
+ghost use Rattle.params.specs.Bridge.{codingOf};
+ghost use Rattle.decoder.specs.Exported.{lentAs, exportedUnder};
+ghost use Rattle.lent.specs.Words.{encodeBytesUnder, messageLenUnder, payloadLenUnder};
+use crate::starts;
+use decoder::starts::decode_bytes;
+use params::Figures;
+use params::LayoutAnswer;
+use params::bytes;
+
+// A length that no message and no payload has.
+const NO_LENGTH: u32 = 4294967295;
+
+// How many symbols a message has; NO_LENGTH for figures that are refused.
+pub fn message_len(figures: Figures) -> u32
+    ensures { λ r. ⌜ r ≡ messageLenUnder (codingOf figures) ⌝ }
+{
+    let answer = figures.layout();
+    match answer {
+        LayoutAnswer::Refused(_) => NO_LENGTH,
+        LayoutAnswer::Fit(layout) => layout.message_len as u32,
+    }
+}
+
+// How many bytes a payload has, the job number's four included; NO_LENGTH for figures that are refused.
+pub fn payload_len(figures: Figures) -> u32
+    ensures { λ r. ⌜ r ≡ payloadLenUnder (codingOf figures) ⌝ }
+{
+    let answer = figures.layout();
+    match answer {
+        LayoutAnswer::Refused(_) => NO_LENGTH,
+        LayoutAnswer::Fit(layout) => bytes::payload_len(layout.q, layout.message_len) as u32,
+    }
+}
+
+// Word write with the starts as bytes. Refusals: 1 2 3 5 4.
+pub fn encode(figures: Figures, starts: &[u8], message: &[u8], word: &mut [u8]) -> u8
+    ensures { λ r. ⌜ unwritten (now (word .exit)) r ≡ encodeBytesUnder (codingOf figures) (now (starts .entry)) (now (message .entry)) (now (word .entry)) ⌝ }
+{
+    let at = starts::placement_under(figures, starts);
+    encoder::encode(figures, at, message, word)
+}
+
+// Word read with the starts as bytes. Refusals: 1 2 3 4 7 19 8 9 19.
+pub fn decode(figures: Figures, word: &[u8], message: &mut [u8], starts: &mut [u8]) -> u8
+    ensures { λ r. ⌜ lentAs r (now (message .exit)) (now (starts .exit)) ≡ exportedUnder (codingOf figures) (now (word .entry)) (now (message .entry)) (now (starts .entry)) ⌝ }
+{
+    let answer = figures.layout();
+    match answer {
+        LayoutAnswer::Refused(number) => number,
+        LayoutAnswer::Fit(layout) => decode_bytes(layout, word, message, starts),
+    }
+}
