@@ -1,4 +1,5 @@
--- Where a placement was read, its message has no erasure exactly when the bursts cover all of them: of either construction. Assumes nothing.
+-- Where a placement was read, its message has no erasure exactly when the bursts cover all of them: of any code that reads exactly, and of either
+-- construction. Assumes nothing.
 use mathlib.Core.Path.{_≡_, refl, sym, ap, _∙_}
 use mathlib.Core.Bool.{true, false, not, true≢false, false≢true}
 use mathlib.Core.List.{List}
@@ -9,10 +10,11 @@ use lib.Dec.{ltb}
 use lib.ListN.{length, getD}
 use Rattle.combinatorics.specs.Bursts.{inBurst, covers}
 use Rattle.combinatorics.specs.Lists.{allBelow}
+use Rattle.combinatorics.specs.Stretch.{tabulate}
 use Rattle.combinatorics.proofs.Cases.{by-bool, leb-holds}
 use Rattle.combinatorics.proofs.Cover.{covers-of, of-covers}
 use Rattle.combinatorics.proofs.Lists.{below-at}
-use Rattle.cells.specs.Cells.{message, is, pick}
+use Rattle.cells.specs.Cells.{Cell, burst, message, is, pick}
 use Rattle.cells.specs.Codec.{accepted, Codec, Word, ReadsExactly}
 use Rattle.cells.specs.Erasures.{foundBound, erasedAt}
 use Rattle.cells.specs.Plan.{kindIn, planIn}
@@ -39,45 +41,45 @@ outside c Listed two some w ss ms word e x l t =
     let symbols = two .written ss ms (leads .placement) (leads .count) (leads .symbols) .1 in
     omega (arith, leads .outside x l t, below-at (c .alphabet) (c .encode ss ms) some symbols x)
 
+-- a word whose message, where it has no erasure, a code that reads exactly accepts with the placement
+module _ (c : Codec) (Listed : List ℕ → ℕ → Type 0) (two : ReadsExactly c Listed) (some : 0 < c .alphabet) (b : ℕ) (kind : ℕ → Cell) (w ss : List ℕ) (word : Word c w)
+    (bursts : (x : ℕ) → is burst (kind x) ≡ inBurst b ss x) (spoilt : (x : ℕ) → c .spoilt ss x ≡ inBurst b ss x)
+    (accepts : (let ms = pick message (tabulate (c .wordLen) 0 kind) w in allBelow (c .alphabet) ms ≡ true → c .decode w ≡ accepted ss ms)) where
+  all-covered : allBelow (c .alphabet) (pick message (tabulate (c .wordLen) 0 kind) w) ≡ true → covers (c .wordLen) b (erasedAt (c .alphabet) w) ss ≡ true
+  all-covered e =
+      let ms = pick message (tabulate (c .wordLen) 0 kind) w in
+      of-covers (c .wordLen) b (erasedAt (c .alphabet) w) ss
+      (λ x h t. by-bool (inBurst b ss x) (λ t. t)
+      (λ o. absurd (false≢true (rw (leb-holds (suc (getD w x 0)) (c .alphabet) (outside c Listed two some w ss ms word (accepts e) x h (spoilt x ∙ o))) at t))))
+
+  -- a message cell lies in no burst
+  none-taken : covers (c .wordLen) b (erasedAt (c .alphabet) w) ss ≡ true → (x : ℕ) → x < c .wordLen → is message (kind x) ≡ true → getD w x 0 < c .alphabet
+  none-taken t x h m =
+      by-bool (ltb (getD w x 0) (c .alphabet)) (λ e. leb-true (suc (getD w x 0)) (c .alphabet) e)
+      (λ e. absurd (true≢false (sym (covers-of (c .wordLen) b (erasedAt (c .alphabet) w) ss t x h (ap not e)) ∙ sym (bursts x) ∙ no-burst message (kind x) refl m)))
+
+  pub message-covered : covers (c .wordLen) b (erasedAt (c .alphabet) w) ss ≡ allBelow (c .alphabet) (pick message (tabulate (c .wordLen) 0 kind) w)
+  message-covered =
+      by-bool (allBelow (c .alphabet) (pick message (tabulate (c .wordLen) 0 kind) w)) (λ e. all-covered e ∙ sym e)
+      (λ e. by-bool (covers (c .wordLen) b (erasedAt (c .alphabet) w) ss)
+      (λ t. absurd (true≢false (sym (pick-small message (c .wordLen) kind w (c .alphabet) (none-taken t)) ∙ e)))
+      (λ t. t ∙ sym e))
+
 module _ (l : Layout) (g : Serves l) (w : List ℕ) (complete : length w ≡ l .n) (found : allBelow (foundBound (l .q)) w ≡ true) (ss : List ℕ)
     (read-as : codingIn l .codec .decode w ≡ readMessage l w ss) where
-  ms : List ℕ
-  ms = pick message (planIn (frameOf l ss)) w
-
   some-symbol : 0 < l .q
   some-symbol = omega (arith, bound l (in-shape l g) .q-least)
 
-  -- a message without an erasure is accepted
-  accepts : allBelow (l .q) ms ≡ true → codingIn l .codec .decode w ≡ accepted ss ms
-  unfolding ms
-  accepts e = read-as ∙ rw (below-whole (l .q) (pick message (planIn (frameOf l ss)) w) e)
-
-  alphabet : (s : Spells) → FittingWith s l → codingWith s (figuresOf l) .codec .decode w ≡ accepted ss ms
-      → (x : ℕ) → x < l .n → inBurst (l .b) ss x ≡ false → getD w x 0 < l .q
-  alphabet Rank h =
+  covered-by : (s : Spells) → FittingWith s l → codingWith s (figuresOf l) .codec .decode w ≡ readMessage l w ss
+      → covers (l .n) (l .b) (erasedAt (l .q) w) ss ≡ allBelow (l .q) (pick message (planIn (frameOf l ss)) w)
+  covered-by Rank h e =
       let f = figuresOf l in
-      outside (A.constructionA f) (A.Listed f) (A′.demand-two f (h .range) (h .fit)) some-symbol w ss ms (record { complete = complete; symbols = found })
-  alphabet EndOffset h =
+      message-covered (A.constructionA f) (A.Listed f) (A′.demand-two f (h .range) (h .fit)) some-symbol (l .b) (kindIn (frameOf l ss)) w ss (record { complete = complete; symbols = found })
+      (kind-burst (frameOf l ss)) (λ x. refl) (λ t. e ∙ rw (below-whole (l .q) (pick message (planIn (frameOf l ss)) w) t))
+  covered-by EndOffset h e =
       let f = longOf (figuresOf l) in
-      outside (B.constructionB f) (B.Listed f) (B′.demand-two f (h .range) (h .fit)) some-symbol w ss ms (record { complete = complete; symbols = found })
-
-  all-covered : allBelow (l .q) ms ≡ true → covers (l .n) (l .b) (erasedAt (l .q) w) ss ≡ true
-  all-covered e =
-      of-covers (l .n) (l .b) (erasedAt (l .q) w) ss
-      (λ x h t. by-bool (inBurst (l .b) ss x) (λ t. t)
-      (λ o. absurd (false≢true (rw (leb-holds (suc (getD w x 0)) (l .q) (alphabet (l .spells) g (accepts e) x h o)) at t))))
-
-  -- a message cell lies in no burst
-  none-taken : covers (l .n) (l .b) (erasedAt (l .q) w) ss ≡ true → (x : ℕ) → x < l .n → is message (kindIn (frameOf l ss) x) ≡ true → getD w x 0 < l .q
-  none-taken t x h m =
-      by-bool (ltb (getD w x 0) (l .q)) (λ e. leb-true (suc (getD w x 0)) (l .q) e)
-      (λ e. absurd
-      (true≢false (sym (covers-of (l .n) (l .b) (erasedAt (l .q) w) ss t x h (ap not e)) ∙ sym (kind-burst (frameOf l ss) x) ∙ no-burst message (kindIn (frameOf l ss) x) refl m)))
+      message-covered (B.constructionB f) (B.Listed f) (B′.demand-two f (h .range) (h .fit)) some-symbol (l .b) (kindIn (frameOf l ss)) w ss (record { complete = complete; symbols = found })
+      (kind-burst (frameOf l ss)) (λ x. refl) (λ t. e ∙ rw (below-whole (l .q) (pick message (planIn (frameOf l ss)) w) t))
 
   pub erasures-covered : covers (l .n) (l .b) (erasedAt (l .q) w) ss ≡ allBelow (l .q) (pick message (planIn (frameOf l ss)) w)
-  unfolding ms
-  erasures-covered =
-      by-bool (allBelow (l .q) (pick message (planIn (frameOf l ss)) w)) (λ e. all-covered e ∙ sym e)
-      (λ e. by-bool (covers (l .n) (l .b) (erasedAt (l .q) w) ss)
-      (λ t. absurd (true≢false (sym (pick-small message (l .n) (kindIn (frameOf l ss)) w (l .q) (none-taken t)) ∙ e)))
-      (λ t. t ∙ sym e))
+  erasures-covered = covered-by (l .spells) g read-as

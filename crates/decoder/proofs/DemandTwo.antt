@@ -68,9 +68,15 @@ number-is : (r : WordAnswer) → wordNumber r ≡ answerNumber (answerAs r)
 number-is (Accepted v) = refl
 number-is (Refused a) = refl
 
--- the clauses of the reader's contract
+-- the clauses of a reader's contract, under any figures
+pub by-outcome-under : (d : Coding) (Listed : List ℕ → ℕ → Type 0) (w out : List ℕ) → DecodesExactlyUnder d Listed w out (decodeUnder d w out)
+    → (r : Answered) (left : List ℕ) → decodedAs r left ≡ decodeUnder d w out
+    → (decodedAs r left ≡ decodeUnder d w out)
+    × (DecodesExactlyUnder d Listed w out (decodedAs r left) × (wordNumber (r .answer) ≡ answerNumber (decodeUnder d w out .answer)))
+by-outcome-under d Listed w out exact r left e =
+    (e, (subst (DecodesExactlyUnder d Listed w out) (sym e) exact, number-is (r .answer) ∙ ap (λ (d : Decoded). answerNumber (d .answer)) e))
+
 pub by-outcome : (f : Figures) (w out : List ℕ) (r : Answered) (left : List ℕ) → decodedAs r left ≡ decodeUnder (codingOf f) w out
     → (decodedAs r left ≡ decodeUnder (codingOf f) w out)
     × (DecodesExactly f w out (decodedAs r left) × (wordNumber (r .answer) ≡ answerNumber (decodeUnder (codingOf f) w out .answer)))
-by-outcome f w out r left e =
-    (e, (subst (DecodesExactly f w out) (sym e) (decodes-exactly f w out), number-is (r .answer) ∙ ap (λ (d : Decoded). answerNumber (d .answer)) e))
+by-outcome f w out = by-outcome-under (codingOf f) (ListedIn f) w out (decodes-exactly f w out)

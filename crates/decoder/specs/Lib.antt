@@ -2,4 +2,3 @@ pub mod Answer
 pub mod DemandTwo
 pub mod Reader
 pub mod Exported
-pub mod Take

@@ -60,12 +60,6 @@ pub record Located (l : Layout) (at : Placement) (v : ℕ) (whole : Bool) (w out
   pub ranked : v ≡ rankOf (l .b) (startsIn at)
   pub read-as : codingIn l .codec .decode w ≡ readMessage l w (startsIn at)
 
--- a complete word, a placement, and a buffer of k symbols
-pub record Takeable (l : Layout) (at : Placement) (w out : List ℕ) : Type 0 where
-  pub finding : Finding l w
-  pub room : length out ≡ l .«message_len»
-  pub placing : Placing l at
-
 -- the blocks that an array marks with a kind, as a set
 unfoldable pub ofKind : ℕ → List ℕ → ℕ → Bool
 ofKind kind kinds k = eqb (getD kinds k 0) kind

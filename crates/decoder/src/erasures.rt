@@ -2,12 +2,9 @@
 // one test of its symbols has told so. Assumes nothing.
 ghost use mathlib.Core.Path.{_≡_};
 ghost use lib.ListN.{take};
-ghost use Rattle.combinatorics.specs.Bursts.{covers};
 ghost use Rattle.combinatorics.specs.Lists.{allBelow};
-ghost use Rattle.cells.specs.Erasures.{foundBound, erasedAt};
+ghost use Rattle.cells.specs.Erasures.{foundBound};
 ghost use Rattle.params.specs.Given.{figuresOf, HeadsOf};
-ghost use Rattle.placements.specs.Bridge.{startsIn, Placing};
-ghost use Rattle.heads.specs.Given.{Finding};
 ghost use Rattle.heads.specs.Written.{headsIn, Shown};
 use params::Layout;
 use placements::Placement;
@@ -38,15 +35,4 @@ pub fn index_whole(
         return true;
     }
     heads::written::heads_below(layout, heads, word, index)
-}
-
-// Whether every erasure lies in a burst: otherwise the message has one, which is refusal 19, since heads were looked at before.
-pub fn message_whole(layout: Layout, at: Placement, whole: bool, word: &[u8]) -> bool
-    requires { ⌜ (whole ≡ allBelow (layout .q) (now word)) × Finding layout (now word) × Placing layout at ⌝ }
-    ensures { λ r. ⌜ r ≡ covers (layout .n) (layout .b) (erasedAt (layout .q) (now (word .entry))) (startsIn at) ⌝ }
-{
-    if whole {
-        return true;
-    }
-    placements::bursts::cover_erasures(at, layout.b as u32, layout.q, word)
 }

@@ -19,12 +19,13 @@ use params::Spells;
 use params::heads::heads_of;
 use placements::Placement;
 use refusals::Refusal;
+use stretches::taking::message_whole;
+use stretches::taking::take_message;
 
 mod agree;
 mod erasures;
 mod offset;
 pub mod starts;
-mod taking;
 
 // What a found word is answered with: its rank where it is accepted, or the refusal.
 pub enum WordAnswer {
@@ -138,10 +139,11 @@ fn decode_placed(
     requires { ⌜ Located layout placement rank whole (now word) (now message) × Tables layout placement (now heads) (now kinds) ⌝ }
     ensures { λ r. ⌜ decodedAs r (now (message .exit)) ≡ decodedFrom (layout .b) (now (message .entry)) (readMessage layout (now (word .entry)) (startsIn placement)) ⌝ }
 {
-    if !erasures::message_whole(layout, placement, whole, word) {
+    let walk = stretches::walk_of(layout);
+    if !message_whole(walk, layout.q, placement, whole, word) {
         return unread(Refusal::ERASED);
     }
-    taking::take_message(layout, placement, heads, kinds, word, message);
+    take_message(walk, placement, heads, kinds, word, message);
     Decoded {
         answer: WordAnswer::Accepted(rank),
         placement,
@@ -149,7 +151,7 @@ fn decode_placed(
 }
 
 // A refusal, with no placement.
-fn unread(number: u8) -> Decoded
+pub fn unread(number: u8) -> Decoded
     ensures { λ r. ⌜ ((out : List ℕ) → decodedAs r out ≡ unreadAs out number) ⌝ }
 {
     Decoded {

@@ -1,6 +1,4 @@
 pub mod Spelling
-pub mod Filling
 pub mod Room
 pub mod Offset
 pub mod Outcomes
-mod Resuming

@@ -10,7 +10,7 @@ use params::LayoutAnswer;
 use placements::Placement;
 use refusals::Refusal;
 
-mod digits;
+pub mod digits;
 mod fill;
 mod value;
 

@@ -6,58 +6,70 @@ use mathlib.Core.List.{List, [], _∷_, append-nil}
 use Prim.Native.Nat.{ℕ, suc, _+_, _-_, _*_, _≤_, _<_, min}
 use native.Mathlib.Numerals.{add-one}
 use native.Mathlib.Omega.{arith}
-use lib.ListN.{length, getD, take, drop, replicate}
+use lib.ListN.{length, getD, take, drop, replicate, length-replicate}
 use lib.Seq.{drop-cons}
 use Rattle.combinatorics.proofs.Cases.{eqb-false}
 use Rattle.combinatorics.proofs.Loops.{left-next}
 use Rattle.cells.specs.Digits.{plain, span, value, places}
-use Rattle.cells.proofs.Digits.{horner, horner-is, horner-capped, horner-blocks}
+use Rattle.cells.proofs.Digits.{horner, horner-is, horner-capped, horner-same, horner-blocks}
 use Rattle.construction_a.specs.Figures.{Params, headOf}
 use Rattle.construction_a.specs.Reading.{looksFixed, headsWith, writtenWith}
+use Rattle.heads.specs.Written.{plainPlaces}
 
 -- ---- Digit by digit
 
--- the lead digit of a block and its first i plain digits stand behind a value
-pub record Taken (q r cap high : ℕ) (block : List ℕ) (i v : ℕ) : Type 0 where
+-- the first i of some plain digits stand behind a value
+pub record Taken (q cap high : ℕ) (ds : List ℕ) (i v : ℕ) : Type 0 where
   pub most : v ≤ cap
-  pub same : min (horner q (replicate (r - i) plain) (drop (i + 1) block) v) cap ≡ min (horner q (places 1 r) block high) cap
+  pub same : min (horner q (replicate (length ds - i) plain) (drop i ds) v) cap ≡ min (horner q (plainPlaces ds) ds high) cap
 
-module _ (q r cap high : ℕ) (h : 2 ≤ q) where
-  pub taken-lead : (block : List ℕ) → r < length block → Taken q r cap high block 0 (min (high * (q - 1) + (getD block 0 0 - 1)) cap)
-  unfolding horner places
-  taken-lead [] l = absurd (omega arith)
-  taken-lead (x ∷ xs) l =
-      let e : r - 0 ≡ r = omega arith in
-      record {
-        most = omega arith;
-        same = rw e (horner-capped q (replicate r plain) xs (high * (q - 1) + (x - 1)) cap h ∙ (rw (append-nil (replicate r plain))));
-      }
+module _ (q cap high : ℕ) (h : 2 ≤ q) (ds : List ℕ) where
+  pub taken-none : high ≤ cap → Taken q cap high ds 0 high
+  taken-none l =
+      let e : length ds - 0 ≡ length ds = omega arith in
+      record { most = l; same = rw e }
 
-  module _ (block : List ℕ) (i v : ℕ) where
-    one-digit : i < r → r < length block
-        → horner q (replicate (r - i) plain) (drop (i + 1) block) v ≡ horner q (replicate (r - (i + 1)) plain) (drop (i + 1 + 1) block) (v * q + getD block (i + 1) 0)
+  module _ (i v : ℕ) where
+    one-digit : i < length ds
+        → horner q (replicate (length ds - i) plain) (drop i ds) v ≡ horner q (replicate (length ds - (i + 1)) plain) (drop (i + 1) ds) (v * q + getD ds i 0)
     unfolding horner
-    one-digit l g =
-        let e : r - i ≡ suc (r - (i + 1)) = omega arith in
-        let k : i + 1 < length block = omega arith in
-        let z : getD block (i + 1) 0 - 0 ≡ getD block (i + 1) 0 = omega arith in
-        rw (e, drop-cons block (i + 1) 0 k, ← add-one (i + 1))
-        (ap (λ (y : ℕ). horner q (replicate (r - (i + 1)) plain) (drop (i + 1 + 1) block) (v * q + y)) z)
+    one-digit l =
+        let e : length ds - i ≡ suc (length ds - (i + 1)) = omega arith in
+        let z : getD ds i 0 - 0 ≡ getD ds i 0 = omega arith in
+        rw (e, drop-cons ds i 0 l, ← add-one i) (ap (λ (y : ℕ). horner q (replicate (length ds - (i + 1)) plain) (drop (i + 1) ds) (v * q + y)) z)
 
-    pub taken-plain : i < r → r < length block → Taken q r cap high block i v → Taken q r cap high block (i + 1) (min (v * q + getD block (i + 1) 0) cap)
-    taken-plain l g s =
+    pub taken-plain : i < length ds → Taken q cap high ds i v → Taken q cap high ds (i + 1) (min (v * q + getD ds i 0) cap)
+    taken-plain l s =
         record {
           most = omega arith;
-          same = horner-capped q (replicate (r - (i + 1)) plain) (drop (i + 1 + 1) block) (v * q + getD block (i + 1) 0) cap h
-              ∙ ap (λ (y : ℕ). min y cap) (sym (one-digit l g)) ∙ s .same;
+          same = horner-capped q (replicate (length ds - (i + 1)) plain) (drop (i + 1) ds) (v * q + getD ds i 0) cap h
+              ∙ ap (λ (y : ℕ). min y cap) (sym (one-digit l)) ∙ s .same;
         }
 
-    pub taken-all : r ≤ i → Taken q r cap high block i v → v ≡ min (high * span q (places 1 r) + value q (places 1 r) block) cap
+    pub taken-all : length ds ≤ i → Taken q cap high ds i v → v ≡ min (high * span q (plainPlaces ds) + value q (plainPlaces ds) ds) cap
     unfolding horner
     taken-all l s =
-        let e : r - i ≡ 0 = omega arith in
-        let all : min v cap ≡ min (horner q (places 1 r) block high) cap = rw e at (s .same) in
-        omega (arith, s .most, all, horner-is q (places 1 r) block high)
+        let e : length ds - i ≡ 0 = omega arith in
+        let all : min v cap ≡ min (horner q (plainPlaces ds) ds high) cap = rw e at (s .same) in
+        omega (arith, s .most, all, horner-is q (plainPlaces ds) ds high)
+
+-- a block's digits are its lead digit, and the plain ones behind it
+module _ (q r cap high : ℕ) (h : 2 ≤ q) where
+  lead-first : (block ds : List ℕ) → length ds ≡ r → ((i : ℕ) → i < r → getD ds i 0 ≡ getD block (suc i) 0) → r < length block
+      → horner q (places 1 r) block high ≡ horner q (plainPlaces ds) ds (high * (q - 1) + (getD block 0 0 - 1))
+  unfolding horner places
+  lead-first [] ds n at l = absurd (omega arith)
+  lead-first (x ∷ xs) ds n at l =
+      rw (append-nil (replicate r plain), n)
+      (horner-same q (replicate r plain) xs ds (high * (q - 1) + (x - 1)) (λ i g. sym (at i (omega (arith, length-replicate r plain)))))
+
+  pub block-digits : (block ds : List ℕ) → length ds ≡ r → ((i : ℕ) → i < r → getD ds i 0 ≡ getD block (suc i) 0) → r < length block
+      → min (min (high * (q - 1) + (getD block 0 0 - 1)) cap * span q (plainPlaces ds) + value q (plainPlaces ds) ds) cap
+      ≡ min (high * span q (places 1 r) + value q (places 1 r) block) cap
+  block-digits block ds n at l =
+      let a = high * (q - 1) + (getD block 0 0 - 1) in
+      ap (λ (y : ℕ). min y cap) (sym (horner-is q (plainPlaces ds) ds (min a cap))) ∙ horner-capped q (plainPlaces ds) ds a cap h
+      ∙ ap (λ (y : ℕ). min y cap) (sym (lead-first block ds n at l) ∙ horner-is q (places 1 r) block high)
 
 -- ---- Block by block
 

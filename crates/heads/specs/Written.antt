@@ -3,7 +3,8 @@ use mathlib.Core.Path.{_≡_}
 use mathlib.Core.Bool.{false}
 use mathlib.Core.List.{List}
 use Prim.Native.Nat.{ℕ, _≤_, _<_}
-use lib.ListN.{length, getD}
+use lib.ListN.{length, getD, replicate}
+use Rattle.cells.specs.Digits.{Place, plain}
 use Rattle.construction_a.specs.Figures.{blocks}
 use Rattle.construction_a.specs.Reading.{looksFixed, headsWith, writtenWith}
 use Rattle.params.specs.declared.Layout.{Layout}
@@ -28,3 +29,7 @@ pub record LeadsIn (q r : ℕ) (block : List ℕ) : Type 0 where
   pub alphabet : 2 ≤ q
   pub room : r < length block
   pub lead : 1 ≤ getD block 0 0
+
+-- a plain place for each of some digits
+abbrev pub plainPlaces : List ℕ → List Place
+plainPlaces ds = replicate (length ds) plain

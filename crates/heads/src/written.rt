@@ -1,12 +1,12 @@
 // What the heads of the index blocks hold: whether all of it can be read, and the value that it spells, by sums that stop at the count of placements,
 // so that none passes 64 bits. Assumes nothing.
 ghost use mathlib.Core.Path.{_≡_};
-ghost use Prim.Native.Nat.{_+_, _*_, _<_, min};
+ghost use Prim.Native.Nat.{_+_, _*_, _≤_, _<_, min};
 ghost use lib.ListN.{take};
 ghost use Rattle.cells.specs.Digits.{span, value, places};
 ghost use Rattle.combinatorics.specs.Lists.{allBelow};
 ghost use Rattle.params.specs.Given.{figuresOf, HeadsOf};
-ghost use Rattle.heads.specs.Written.{headsIn, writtenIn, Shown, LeadsIn};
+ghost use Rattle.heads.specs.Written.{headsIn, writtenIn, Shown, LeadsIn, plainPlaces};
 use params::Layout;
 use placements::Placement;
 
@@ -61,12 +61,21 @@ fn with_block(high: u64, q: u64, tail: usize, block: &[u8], cap: u64) -> u64
     ensures { λ r. ⌜ r ≡ min (high * span q (places 1 tail) + value q (places 1 tail) (now (block .entry))) cap ⌝ }
 {
     let lead = block[0] as u64;
-    let mut value = with_digit(high, q - 1, lead - 1, cap);
+    let value = with_digit(high, q - 1, lead - 1, cap);
+    with_digits(value, q, &block[1..tail + 1], cap)
+}
+
+// A value with plain digits behind it, the most significant first, or the cap where that is less.
+pub fn with_digits(high: u64, q: u64, digits: &[u8], cap: u64) -> u64
+    requires { ⌜ (2 ≤ q) × (high ≤ cap) ⌝ }
+    ensures { λ r. ⌜ r ≡ min (high * span q (plainPlaces (now (digits .entry))) + value q (plainPlaces (now (digits .entry))) (now (digits .entry))) cap ⌝ }
+{
+    let mut value = high;
     let mut i: usize = 0;
-    while i < tail {
-        i += 1;
-        let digit = block[i] as u64;
+    while i < digits.len() {
+        let digit = digits[i] as u64;
         value = with_digit(value, q, digit, cap);
+        i += 1;
     }
     value
 }

@@ -37,7 +37,7 @@ module _ (f : Params) (w : List ℕ) where
       rw (e, below-whole (f .q) ds small, value-spell (f .q) (rankPlaces f) v l)
 
   module _ (small : (x : ℕ) → getD w x 0 < foundBound (f .q)) where
-    symbols-small : (i : ℕ) → allBelow (foundBound (f .q)) (subSymbols f w i) ≡ true
+    pub symbols-small : (i : ℕ) → allBelow (foundBound (f .q)) (subSymbols f w i) ≡ true
     unfolding subSymbols
     symbols-small i =
         at-below (foundBound (f .q)) (subSymbols f w i)

@@ -1,10 +1,10 @@
 -- Laws that a walk over the word, and a search for the majority, go by. Assumes nothing.
 use mathlib.Core.Path.{_≡_, refl, sym, ap, ap₂, _∙_}
 use mathlib.Core.Bool.{Bool, true, false, not, _&&_, _||_, true≢false}
-use mathlib.Core.List.{List, [], _∷_, _++_, flatMap}
+use mathlib.Core.List.{List, [], _∷_, _++_, flatMap, append-nil}
 use mathlib.Core.Option.{none, some}
 use Prim.Native.Nat.{ℕ, zero, suc, _+_, _-_, _*_, _≤_, _<_, max}
-use native.Mathlib.Nat.{pow-zero}
+use native.Mathlib.Nat.{mul-le-mul-right, div-eq-of-lt, mod-eq-of-lt, pow-zero, pow-le-pow-left}
 use native.Mathlib.Omega.{arith}
 use borrow.Author.Tests.{leb-true}
 use lib.Dec.{leb, ltb}
@@ -23,16 +23,17 @@ use Rattle.combinatorics.proofs.Majority.{is-value, value-is, majority-is, none
 use Rattle.combinatorics.proofs.Stretch.{sum-one, sum-append, count-le, count-not, has-none, has-some, has-or, first-in, first-true}
 use Rattle.cells.specs.Cells.{Cell, burst, weave}
 use Rattle.cells.specs.Codec.{accepted}
+use Rattle.cells.specs.Digits.{span, spell, places}
 use Rattle.cells.specs.Erasures.{foundBound}
 use Rattle.cells.proofs.Walk.{tabulate-same, weave-replicate}
 use Rattle.construction_a.specs.Figures.{Params, placementCount}
-use Rattle.construction_a.specs.Writing.{placementOf}
+use Rattle.construction_a.specs.Writing.{rank, placementOf}
 use Rattle.larsson.specs.Figures.{subLen, subBlocks, subStart}
-use Rattle.larsson.specs.Writing.{untouched, bears, bearers, isBorne, cellOf, kindAt, plan, rankDigits, digits, word}
+use Rattle.larsson.specs.Writing.{untouched, bears, bearers, isBorne, cellOf, kindAt, plan, rankPlaces, rankDigits, digits, word}
 use Rattle.larsson.specs.Reading.{subSymbols, subValue, found, read}
-use Rattle.larsson.proofs.Figures.{Served, rank-room}
+use Rattle.larsson.proofs.Figures.{Served, rank-room, rank-least}
 use Rattle.larsson.proofs.Plan.{bearers-many, borne-in, borne-past, borne-other, messages-count}
-use Rattle.larsson.proofs.Complete.{length-rank, complete}
+use Rattle.larsson.proofs.Complete.{length-rank, rank-spelled, complete}
 use Rattle.larsson.proofs.SubBlocks.{found-value}
 
 -- ---- Over the word
@@ -56,6 +57,11 @@ choose-some : (n k : ℕ) → k ≤ n → 1 ≤ choose n k
 choose-some n zero h = omega (arith, choose-zero n)
 choose-some zero (suc k) h = absurd (omega arith)
 choose-some (suc n) (suc k) h = omega (arith, pascal n k, choose-some n k (omega arith))
+
+-- there is a placement wherever the runs fit in n
+pub count-some : (f : Params) → f .m * f .b ≤ f .n → 0 < placementCount f
+unfolding placements
+count-some f total = choose-some (contracted (f .n) (f .m) (f .b)) (f .m) (omega arith)
 
 -- R is 0 where there is but one placement: the runs have the whole word
 pub none-spelled : (f : Params) → Served f → subLen f ≡ 0 → f .m * f .b ≡ f .n
@@ -94,10 +100,8 @@ module _ (f : Params) (ok : Served f) (e : subLen f ≡ 0) where
       ∙ weave-replicate burst (f .n) (digits f ss) ms tt
 
   pub every-word : (w : List ℕ) → read f w ≡ accepted (placementOf f 0) []
-  unfolding placements
   every-word w =
-      let enough : 0 < placementCount f = choose-some (contracted (f .n) (f .m) (f .b)) (f .m) (omega arith) in
-      let s = rank-of-starts (f .n) (f .m) (f .b) (ok .range .b-least) (ok .total) 0 enough in
+      let s = rank-of-starts (f .n) (f .m) (f .b) (ok .range .b-least) (ok .total) 0 (count-some f (ok .total)) in
       complete f ok (placementOf f 0) (s .placed) (s .count) [] w (omega (arith, none-spelled f ok e, ap (λ (r : ℕ). suc (f .m) * r) e))
       (unfold all in refl)
       (λ x l out. absurd (true≢false (sym (all-burst (placementOf f 0) (s .placed) (s .count) x l) ∙ out)))
@@ -154,13 +158,30 @@ digits-at f ok ss e j l =
     let k : j < length (bearers f ss) = omega (arith, bearers-many f ok ss e) in
     rw (← n, flat-drop ds j (bearers f ss), drop-cons (bearers f ss) j 0 k) (take-append-seam ds (flatMap (λ _. ds) (drop (suc j) (bearers f ss))))
 
+-- a writer that spells over a lead place and R plain ones has the rank's digits behind the lead's, which is 0, stored plus 1
+module _ (f : Params) (ok : Served f) (ss : List ℕ) (h : Placed (f .b) (f .n) 0 ss) (e : length ss ≡ f .m) where
+  pub digits-behind : spell (f .q) (places 1 (subLen f)) (rank f ss) ≡ 1 ∷ rankDigits f ss
+  unfolding rankDigits places spell
+  digits-behind =
+      let l = rank-spelled f ok ss h e in
+      rw (append-nil (rankPlaces f), div-eq-of-lt l, mod-eq-of-lt l)
+
+  -- which such places have room for
+  pub rank-behind : rank f ss < span (f .q) (places 1 (subLen f))
+  unfolding places span
+  rank-behind =
+      rw (append-nil (rankPlaces f))
+      (omega (arith, rank-spelled f ok ss h e, mul-le-mul-right {m = 1} {n = f .q - 1} (span (f .q) (rankPlaces f)) (omega (arith, ok .range .q-least))))
+
+-- so few that an array has room: two symbols tell 2 ^ 63 values apart
+pub digits-few : (f : Params) → Served f → subLen f ≤ 63
+digits-few f ok = rank-least f 63 (omega (arith, ok .counted, pow-le-pow-left (ok .range .q-least) 63))
+
 -- ---- Nothing is taken from n that n does not have
 
 pub message-room : (f : Params) → Served f → f .m * f .b + suc (f .m) * subLen f ≤ f .n
-unfolding placements
 message-room f ok =
-    let enough : 0 < placementCount f = choose-some (contracted (f .n) (f .m) (f .b)) (f .m) (omega arith) in
-    let s = rank-of-starts (f .n) (f .m) (f .b) (ok .range .b-least) (ok .total) 0 enough in
+    let s = rank-of-starts (f .n) (f .m) (f .b) (ok .range .b-least) (ok .total) 0 (count-some f (ok .total)) in
     omega (arith, messages-count f ok (placementOf f 0) (s .placed) (s .count))
 
 -- ---- The majority by symbols

@@ -19,8 +19,8 @@ use Rattle.construction_a.specs.Figures.{maxBursts}
 use Rattle.params.specs.declared.Layout.{Layout}
 use Rattle.params.specs.Given.{codingIn, Serves}
 use Rattle.params.proofs.Either.{in-order, numbers-in}
-use Rattle.placements.specs.Bridge.{coverable}
-use Rattle.placements.proofs.Calls.{room-in, cover-length, cover-symbol, cover-none, cover-some}
+use Rattle.placements.specs.Bridge.{coverable, coverWithin}
+use Rattle.placements.proofs.Calls.{room-in, cover-length, cover-symbol, cover-none, cover-some, covers-within}
 use Rattle.decoder.specs.Exported.{startBytes}
 use Rattle.lent.specs.Starts.{startsFrom, placementFrom}
 use Rattle.lent.specs.Covering.{covers, coveredAs, coverBytesUnder}
@@ -72,14 +72,18 @@ module _ (l : Layout) (g : Serves l) (map bytes : List ℕ) where
     cover-bytes-served c e a = sym (as-covered ∙ ap (coveredAs bytes) (sym e) ∙ rw (eqb-same (c .answer) served a))
 
 pub covered-count : (l : Layout) → Serves l → (map : List ℕ) (c : Covered) → c ≡ coverUnder (codingIn l) map → c .answer ≡ served → c .placement .count ≡ l .m
-covered-count l g map c is r =
+covered-count l g map c e r =
+    let n = l .n in
+    let m = l .m in
+    let b = l .b in
+    let is : c ≡ coverWithin n m b map = e ∙ sym (covers-within l g map) in
     by-eq (length map) (l .n) (λ _. c .placement .count ≡ l .m)
     (λ size. by-bool (allBelow 2 map)
     (λ low. by-bool (coverable (l .n) (l .m) (l .b) map)
-    (λ some. ap (λ (c : Covered). c .placement .count) (is ∙ cover-some l g map size low some) ∙ rw some (count some))
-    (λ none. refused-not c 5 (is ∙ cover-none l g map size low none) r))
-    (λ high. refused-not c 3 (is ∙ cover-symbol l g map size high) r))
-    (λ other. refused-not c 2 (is ∙ cover-length l g map other) r)
+    (λ some. ap (λ (c : Covered). c .placement .count) (is ∙ cover-some n m b map size low some) ∙ rw some (count some))
+    (λ none. refused-not c 5 (is ∙ cover-none n m b map size low none) r))
+    (λ high. refused-not c 3 (is ∙ cover-symbol n m b map size high) r))
+    (λ other. refused-not c 2 (is ∙ cover-length n m b map other) r)
   where
     v : ℕ
     v = coverRank (l .n) (l .m) (l .b) (worn map)

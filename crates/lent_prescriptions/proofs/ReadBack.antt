@@ -86,7 +86,7 @@ back-under : (d : Coding) → FewBursts d → ReadBackUnder d → (table starts 
     → n < 2 ^ 32 → prescriptionFits p ≡ true → haveRoom marks powers ≡ true
     → prescriptionWriteBytesUnder d table starts n p out .answer ≡ served → Word (d .codec) w
     → ((i : ℕ) → i < d .codec .wordLen → d .codec .spoilt (startsFrom starts) i ≡ false
-      → getD w i 0 ≡ getD (prescriptionWriteBytesUnder d table starts n p out .word) i 0)
+    → getD w i 0 ≡ getD (prescriptionWriteBytesUnder d table starts n p out .word) i 0)
     → prescriptionReadBytesUnder d table w marks powers ≡ powersLent (handedMarks n p) (handedPowers p) served
 back-under d few-bursts back table starts n p out w marks powers number floats room e found outside =
     let ss = startsFrom starts in

@@ -91,5 +91,5 @@ LentReadsBack =
     → let d = codingOf f in
     prescriptionWriteBytesUnder d table starts n p out .answer ≡ served → Word (d .codec) w
     → ((i : ℕ) → i < d .codec .wordLen → d .codec .spoilt (startsFrom starts) i ≡ false
-      → getD w i 0 ≡ getD (prescriptionWriteBytesUnder d table starts n p out .word) i 0)
+    → getD w i 0 ≡ getD (prescriptionWriteBytesUnder d table starts n p out .word) i 0)
     → prescriptionReadBytesUnder d table w marks powers ≡ powersLent (handedMarks n p) (handedPowers p) served

@@ -1,9 +1,10 @@
 -- Products that stop at a cap: stopping on the way changes nothing at the end. Assumes nothing.
-use mathlib.Core.Path.{_≡_, _∙_}
-use Prim.Native.Nat.{ℕ, zero, suc, _*_, _/_, _≤_, _<_, min}
-use native.Mathlib.Nat.{min-le-left, min-eq-left, min-eq-right, mul-comm, le-mul-of-pos-right, div-mul-le-self, mul-le-mul-right, lt-div-mul-add}
+use mathlib.Core.Path.{_≡_, sym, ap, _∙_}
+use Prim.Native.Nat.{ℕ, zero, suc, _*_, _/_, _^_, _≤_, _<_, min}
+use native.Mathlib.Nat.{min-le-left, min-eq-left, min-eq-right, mul-comm, mul-assoc, pow-zero, pow-suc, le-mul-of-pos-right, div-mul-le-self, mul-le-mul-right, lt-div-mul-add}
 use native.Mathlib.Omega.{arith}
-use Rattle.combinatorics.proofs.Cases.{by-le}
+use lib.Dec.{leb}
+use Rattle.combinatorics.proofs.Cases.{by-le, leb-holds, leb-fails}
 
 -- a product whose first factor was stopped
 pub cap-left : (x y cap : ℕ) → min (min x cap * y) cap ≡ min (x * y) cap
@@ -33,6 +34,20 @@ cap-reached x cap h = omega (arith, min-le-left x cap)
 
 pub cap-missed : (x cap : ℕ) → min x cap < cap → x < cap
 cap-missed x cap h = by-le cap x (λ _. x < cap) (λ l. absurd (omega (arith, min-eq-right l))) (λ l. l)
+
+-- so that numbers which stop alike reach it alike
+pub reached-alike : (x y cap : ℕ) → min x cap ≡ min y cap → leb cap x ≡ leb cap y
+reached-alike x y cap e =
+    by-le cap y (λ t. leb cap x ≡ t) (λ l. leb-holds cap x (cap-reached x cap (omega (arith, e, min-eq-right l))))
+    (λ l. leb-fails cap x (cap-missed x cap (omega (arith, e, min-le-left y cap))))
+
+-- a product of factors that were all stopped
+pub factors-capped : (x y cap r : ℕ) → min (min x cap * min y cap ^ r) cap ≡ min (x * y ^ r) cap
+factors-capped x y cap zero = rw (pow-zero (min y cap), pow-zero y) (cap-left x 1 cap)
+factors-capped x y cap (suc r) =
+    let z = min x cap * min y cap ^ r in
+    rw (pow-suc (min y cap) r, pow-suc y r, ← mul-assoc (min x cap) (min y cap ^ r) (min y cap), ← mul-assoc x (y ^ r) y)
+    (sym (cap-left z (min y cap) cap) ∙ ap (λ (t : ℕ). min (t * min y cap) cap) (factors-capped x y cap r) ∙ cap-both (x * y ^ r) y cap)
 
 -- a division tells whether a product passes the cap
 pub cap-passed : (a b cap : ℕ) → 0 < b → cap / b < a → cap ≤ a * b

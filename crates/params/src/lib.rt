@@ -19,7 +19,7 @@ pub mod bytes;
 pub mod cut;
 pub mod heads;
 pub mod long;
-mod tail;
+pub mod tail;
 
 // The figures as a caller passes them: any numbers.
 pub struct Params {
@@ -99,7 +99,7 @@ impl Params {
     }
 
     // Whether each figure is in range.
-    fn in_range(self) -> bool
+    pub fn in_range(self) -> bool
         ensures { λ r. ⌜ r ≡ inRange (given self) ⌝ }
     {
         if self.n < Params::MIN_WORD {

@@ -11,7 +11,7 @@ use lib.Seq.{take-append-seam}
 use Rattle.refusals.specs.Refusals.{must, served, wrongLength, badSymbol, uncovered}
 use Rattle.combinatorics.specs.Bursts.{apart, placements, rankOf, startsOf, coverRank}
 use Rattle.combinatorics.specs.Lists.{allBelow}
-use Rattle.combinatorics.proofs.Cases.{eqb-same, eqb-other}
+use Rattle.combinatorics.proofs.Cases.{by-bool, eqb-same, eqb-other}
 use Rattle.combinatorics.proofs.Loops.{apart-longer}
 use Rattle.cells.specs.Outcomes.{Coding, inUse, held, worn, unserved, figuresUnder, unplaced, coverUnder}
 use Rattle.cells.proofs.Outcomes.{refused-alike}
@@ -24,7 +24,7 @@ use Rattle.params.specs.declared.Layout.{Layout}
 use Rattle.params.specs.Given.{figuresOf, longOf, codingWith, codingIn, FittingWith, Serves}
 use Rattle.params.proofs.Either.{in-shape, in-order, numbers-in}
 use Rattle.placements.specs.declared.Placement.{Placement}
-use Rattle.placements.specs.Bridge.{heldAs, startsIn, coverable, leastCover, Rankable, Room}
+use Rattle.placements.specs.Bridge.{heldAs, startsIn, coverable, leastCover, coverWithin, Rankable, Room}
 
 pub room-of : (f : Params) → Served f → Room (f .n) (f .m) (f .b)
 room-of f ok = record { short = ok .range .n-most; few = ok .range .m-most; some = ok .long; within = ok .total }
@@ -49,6 +49,29 @@ cover-unfit d map a e =
     (must (ltb v (d .placementCount)) (unplaced uncovered)
     (record { answer = served; placement = held (startsOf n (d .bursts) (d .burstLen) v) })))) e
 
+-- the cover that is given, where there is one
+by-cover : (n m b : ℕ) (map : List ℕ) → coverWithin n m b map
+    ≡ must (eqb (length map) n) (unplaced wrongLength)
+    (must (allBelow 2 map) (unplaced badSymbol)
+    (must (coverable n m b map) (unplaced uncovered)
+    (record { answer = served; placement = held (startsOf n m b (coverRank n m b (worn map))) })))
+by-cover n m b map = by-bool (coverable n m b map) (λ t. rw t) (λ t. rw t)
+
+-- 3, 4 and 6, and a cover
+module _ (n m b : ℕ) (map : List ℕ) where
+  pub cover-length : length map ≢ n → coverWithin n m b map ≡ unplaced wrongLength
+  cover-length size = rw (eqb-other (length map) n size)
+
+  module _ (size : length map ≡ n) where
+    pub cover-symbol : allBelow 2 map ≡ false → coverWithin n m b map ≡ unplaced badSymbol
+    cover-symbol bytes = rw (eqb-same (length map) n size, bytes)
+
+    pub cover-none : allBelow 2 map ≡ true → coverable n m b map ≡ false → coverWithin n m b map ≡ unplaced uncovered
+    cover-none bytes none = rw (eqb-same (length map) n size, bytes, none)
+
+    pub cover-some : allBelow 2 map ≡ true → coverable n m b map ≡ true → coverWithin n m b map ≡ record { answer = served; placement = leastCover n m b map }
+    cover-some bytes some = rw (eqb-same (length map) n size, bytes, some)
+
 module _ (l : Layout) (g : Serves l) where
   -- T counts all placements, whichever construction laid the figures out
   counts-all : codingIn l .placementCount ≡ placements (l .n) (l .m) (l .b)
@@ -66,29 +89,9 @@ module _ (l : Layout) (g : Serves l) where
       let r = ranged (figuresOf l) (h .range) in
       record { short = r .n-most; few = r .m-most; some = r .b-least; within = h .total }
 
-  module _ (map : List ℕ) where
-    -- by the layout's own numbers
-    by-numbers : coverUnder (codingIn l) map
-        ≡ must (eqb (length map) (l .n)) (unplaced wrongLength)
-        (must (allBelow 2 map) (unplaced badSymbol)
-        (must (coverable (l .n) (l .m) (l .b) map) (unplaced uncovered)
-        (record { answer = served; placement = held (startsOf (l .n) (l .m) (l .b) (coverRank (l .n) (l .m) (l .b) (worn map))) })))
-    by-numbers =
-        let order = in-order l g in
-        let is = numbers-in l g in
-        rw (order .0, order .1, sym (is .word-is), sym (is .bursts-is), sym (is .burst-is), counts-all)
-
-    -- 3, 4 and 6, and a cover
-    pub cover-length : length map ≢ l .n → coverUnder (codingIn l) map ≡ unplaced wrongLength
-    cover-length size = by-numbers ∙ rw (eqb-other (length map) (l .n) size)
-
-    module _ (size : length map ≡ l .n) where
-      pub cover-symbol : allBelow 2 map ≡ false → coverUnder (codingIn l) map ≡ unplaced badSymbol
-      cover-symbol bytes = by-numbers ∙ rw (eqb-same (length map) (l .n) size, bytes)
-
-      pub cover-none : allBelow 2 map ≡ true → coverable (l .n) (l .m) (l .b) map ≡ false → coverUnder (codingIn l) map ≡ unplaced uncovered
-      cover-none bytes none = by-numbers ∙ rw (eqb-same (length map) (l .n) size, bytes, none)
-
-      pub cover-some : allBelow 2 map ≡ true → coverable (l .n) (l .m) (l .b) map ≡ true
-          → coverUnder (codingIn l) map ≡ record { answer = served; placement = leastCover (l .n) (l .m) (l .b) map }
-      cover-some bytes some = by-numbers ∙ rw (eqb-same (length map) (l .n) size, bytes, some)
+  -- behind 1 and 2 it is covering by the layout's own numbers
+  pub covers-within : (map : List ℕ) → coverWithin (l .n) (l .m) (l .b) map ≡ coverUnder (codingIn l) map
+  covers-within map =
+      let order = in-order l g in
+      let is = numbers-in l g in
+      by-cover (l .n) (l .m) (l .b) map ∙ rw (order .0, order .1, sym (is .word-is), sym (is .bursts-is), sym (is .burst-is), counts-all)

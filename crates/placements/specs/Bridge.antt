@@ -5,9 +5,11 @@ use mathlib.Core.List.{List, []}
 use Prim.Native.Nat.{ℕ, _+_, _*_, _≤_}
 use lib.Dec.{leb, ltb, eqb}
 use lib.ListN.{length, getD}
+use Rattle.refusals.specs.Refusals.{must, served, wrongLength, badSymbol, uncovered}
+use Rattle.combinatorics.specs.Lists.{allBelow}
 use Rattle.combinatorics.specs.Bursts.{apart, placements, rankOf, startsOf, coverRank}
 use Rattle.construction_a.specs.Figures.{maxWord, maxBursts, maxCount, isPlacement}
-use Rattle.construction_a.specs.Outcomes.{Held, inUse, held, worn, Covered}
+use Rattle.construction_a.specs.Outcomes.{Held, inUse, held, worn, Covered, unplaced}
 use Rattle.params.specs.Given.{figuresOf, Shaped}
 use Rattle.params.specs.declared.Layout.{Layout}
 use Rattle.placements.specs.declared.Placement.{Placement}
@@ -55,6 +57,14 @@ coverable n m b map = ltb (coverRank n m b (worn map)) (placements n m b)
 -- "the planner gives the placement of least rank whose runs cover every worn position"; no starts where none covers
 abbrev pub leastCover : ℕ → ℕ → ℕ → List ℕ → Held
 leastCover n m b map = cond (coverable n m b map) (held (startsOf n m b (coverRank n m b (worn map)))) (held [])
+
+-- covering behind the figures, "3 4 6"
+abbrev pub coverWithin : ℕ → ℕ → ℕ → List ℕ → Covered
+coverWithin n m b map =
+    must (eqb (length map) n) (unplaced wrongLength)
+    (must (allBelow 2 map) (unplaced badSymbol)
+    (must (coverable n m b map) (unplaced uncovered)
+    (record { answer = served; placement = leastCover n m b map })))
 
 -- the answer of covering, and the placement beside it
 abbrev pub coveredAs : CoverAnswer → Covered

@@ -13,7 +13,7 @@ ghost use Rattle.cells.specs.Outcomes.{held, worn, unplaced as unplacedAs, cove
 ghost use Rattle.construction_a.specs.Figures.{maxWord, maxBursts, maxCount};
 ghost use Rattle.params.specs.Bridge.{codingOf};
 ghost use Rattle.params.specs.Given.{codingIn, Serves};
-ghost use Rattle.placements.specs.Bridge.{heldAs, coveredAs, startsIn, coverable, leastCover, Rankable, Room};
+ghost use Rattle.placements.specs.Bridge.{heldAs, coveredAs, startsIn, coverable, leastCover, coverWithin, Rankable, Room};
 use params::Figures;
 use params::Layout;
 use params::LayoutAnswer;
@@ -172,13 +172,21 @@ pub fn cover_fitting(layout: Layout, map: &[u8]) -> CoverAnswer
     requires { ⌜ Serves layout ⌝ }
     ensures { λ r. ⌜ coveredAs r ≡ coverUnder (codingIn layout) (now (map .entry)) ⌝ }
 {
-    if map.len() != layout.n {
+    cover_within(layout.n, layout.m, layout.b, map)
+}
+
+// Covering by m bursts of b among n positions, whatever lays the strip out. Refusals: 3 4 6.
+pub fn cover_within(n: usize, m: usize, b: usize, map: &[u8]) -> CoverAnswer
+    requires { ⌜ Room n m b ⌝ }
+    ensures { λ r. ⌜ coveredAs r ≡ coverWithin n m b (now (map .entry)) ⌝ }
+{
+    if map.len() != n {
         return unplaced(Refusal::LENGTH);
     }
     if !symbols::all_below(map, 2) {
         return unplaced(Refusal::SYMBOL);
     }
-    let found = least_cover(layout.n, layout.m, layout.b, map);
+    let found = least_cover(n, m, b, map);
     if !found.covered {
         return unplaced(Refusal::UNCOVERED);
     }

@@ -1,2 +1,4 @@
 pub mod Walk
 pub mod ByBlock
+pub mod Fill
+pub mod Take

@@ -1,0 +1,2 @@
+mod Locating
+mod Reading

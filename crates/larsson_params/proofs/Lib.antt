@@ -1,0 +1,3 @@
+pub mod Laying
+pub mod Shape
+pub mod Answered

@@ -1,0 +1,68 @@
+-- `take_cells` meets its contract. Assumes nothing.
+use mathlib.Core.Path.{_≡_, refl, ap, _∙_}
+use Prim.Native.Nat.{_+_, _-_}
+use native.Mathlib.Omega.{arith}
+use lib.ListN.{take, drop}
+use Rattle.cells.proofs.Walk.{rest-is}
+use Rattle.stretches.proofs.Part.{part-put}
+use borrow.Author.Needs.{needs}
+use Rattle.stretches.proofs.taking.take_cells.Statement.{statement}
+use Rattle.stretches.proofs.taking.take_cells.Tie as tie
+
+sub-len : tie.Need-sub-len
+sub-len c = search needs
+
+sub-copy-over : tie.Need-sub-copy-over
+sub-copy-over c = search needs
+
+part-copy-over-start : tie.Need-part-copy-over-start
+part-copy-over-start c = search needs
+
+part-copy-over-end : tie.Need-part-copy-over-end
+part-copy-over-end c = search needs
+
+sub-copy-over-2 : tie.Need-sub-copy-over-2
+sub-copy-over-2 c = search needs
+
+part-copy-over-start-2 : tie.Need-part-copy-over-start-2
+part-copy-over-start-2 c = search needs
+
+part-copy-over-end-2 : tie.Need-part-copy-over-end-2
+part-copy-over-end-2 c = search needs
+
+copy-over-requires : tie.Need-copy-over-requires
+copy-over-requires c κs = search needs
+
+add-t10 : tie.Need-add-t10
+add-t10 c = search needs
+
+same-length : tie.Need-same-length
+same-length c = search needs
+
+returns : tie.Need-returns
+returns c =
+    let a = c .before .before .before .before .before .before .before .args in
+    let x = a .from .at in
+    let taken = a .from .taken in
+    let len = a .to - x in
+    let part = c .before .before .copy-over in
+    let long : taken + len - taken ≡ len = omega arith in
+    let put = part-put taken (taken + len) (a .message .now) (part .last .0) (take len (drop x (a .word .now))) (omega arith) (omega arith) (search needs)
+    (rw long (part .ensures ∙ ap (take len) (rest-is x (a .word .now)))) in
+    record { at-is = refl; taken-is = refl; passed-is = refl; made = put .0; size = put .1 }
+
+pub take-cells-spec : {M : Type 1} → statement M
+take-cells-spec =
+    tie.close
+    (tie.spec
+    sub-len
+    sub-copy-over
+    part-copy-over-start
+    part-copy-over-end
+    sub-copy-over-2
+    part-copy-over-start-2
+    part-copy-over-end-2
+    copy-over-requires
+    add-t10
+    same-length
+    returns)
