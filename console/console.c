@@ -13,6 +13,10 @@
  *
  *     console N Q L B WORD [JOB]   e.g. console 15 256 L 5 010000000700FFFFFFFFFF41424344
  *
+ * The word larsson before the figures is for strips of the older trays. Their prescriptions are not read here.
+ *
+ *     console larsson N Q M B WORD e.g. console larsson 15 256 1 2 060000000741FFFF42434445464706
+ *
  * Exit status: 0 for a word that is accepted, 1 for one that is refused, 2 for a call that can't be understood.
  */
 #include "burgzemi.h"
@@ -36,6 +40,7 @@ static const char *refusal_text(unsigned answer)
     case BURGZEMI_PATTERN: return "first symbols in no listed pattern";
     case BURGZEMI_VALUE: return "the written value is too large";
     case BURGZEMI_DISAGREES: return "the placement disagrees with the blocks";
+    case BURGZEMI_MAJORITY: return "no value in most of the sub-blocks";
     case BURGZEMI_PAYLOAD: return "no room for a job, or symbols that spell none";
     case BURGZEMI_NOT_OPEN: return "the strip of another job";
     case BURGZEMI_PRESCRIPTION: return "the job's text is no prescription";
@@ -46,7 +51,8 @@ static const char *refusal_text(unsigned answer)
 
 static int usage(const char *what)
 {
-    fprintf(stderr, "console: %s\nusage: console N Q M B WORD [JOB], where WORD has two hex digits for each symbol, and M is L for one long burst\n", what);
+    fprintf(stderr, "console: %s\nusage: console N Q M B WORD [JOB], where WORD has two hex digits for each symbol, and M is L for one long burst\n"
+                    "       console larsson N Q M B WORD, for the older trays\n", what);
     return 2;
 }
 
@@ -140,10 +146,13 @@ static void open_alone(uint8_t *table, uint32_t job)
         table[1 + i] = (uint8_t)(job >> (24 - 8 * i));
 }
 
+/* What a strip is written in: Construction A, Construction B for one long burst, or the Larsson code of the older trays. */
+enum code { CONSTRUCTION_A, CONSTRUCTION_B, LARSSON };
+
 /* The figures of a strip; one long burst has m 1. */
 struct figures {
     uint32_t n, q, m, b;
-    int one_long;
+    enum code code;
 };
 
 static unsigned read_prescription(struct figures f, const uint8_t *word, size_t word_len, uint32_t job)
@@ -152,7 +161,7 @@ static unsigned read_prescription(struct figures f, const uint8_t *word, size_t 
     double powers[BURGZEMI_POWERS_LEN];
 
     open_alone(table, job);
-    unsigned answer = f.one_long
+    unsigned answer = f.code == CONSTRUCTION_B
         ? burgzemi_long_prescription_read(f.n, f.q, f.b, table, sizeof table, word, word_len, marks, BURGZEMI_MARKS_LEN, powers, BURGZEMI_POWERS_LEN)
         : burgzemi_prescription_read(f.n, f.q, f.m, f.b, table, sizeof table, word, word_len, marks, BURGZEMI_MARKS_LEN, powers, BURGZEMI_POWERS_LEN);
     if (answer != BURGZEMI_SERVED)
@@ -164,16 +173,33 @@ static unsigned read_prescription(struct figures f, const uint8_t *word, size_t 
     return answer;
 }
 
+static uint32_t message_length(struct figures f)
+{
+    switch (f.code) {
+    case CONSTRUCTION_B: return burgzemi_long_message_len(f.n, f.q, f.b);
+    case LARSSON: return burgzemi_larsson_message_len(f.n, f.q, f.m, f.b);
+    default: return burgzemi_message_len(f.n, f.q, f.m, f.b);
+    }
+}
+
+static unsigned decode(struct figures f, const uint8_t *word, size_t word_len, uint8_t *message, size_t message_len, uint8_t *starts, size_t starts_len)
+{
+    switch (f.code) {
+    case CONSTRUCTION_B: return burgzemi_long_decode(f.n, f.q, f.b, word, word_len, message, message_len, starts, starts_len);
+    case LARSSON: return burgzemi_larsson_decode(f.n, f.q, f.m, f.b, word, word_len, message, message_len, starts, starts_len);
+    default: return burgzemi_decode(f.n, f.q, f.m, f.b, word, word_len, message, message_len, starts, starts_len);
+    }
+}
+
 static unsigned read_word(struct figures f, const uint8_t *word, size_t word_len)
 {
     static uint8_t message[BURGZEMI_MAX_WORD], starts[2 * BURGZEMI_MAX_BURSTS];
 
     /* Figures without a length are refused by the reader, whatever the buffers are. */
-    uint32_t k = f.one_long ? burgzemi_long_message_len(f.n, f.q, f.b) : burgzemi_message_len(f.n, f.q, f.m, f.b);
+    uint32_t k = message_length(f);
     size_t message_len = k == BURGZEMI_NO_LENGTH ? 0 : k;
     size_t starts_len = k == BURGZEMI_NO_LENGTH ? 0 : 2 * (size_t)f.m;
-    unsigned answer = f.one_long ? burgzemi_long_decode(f.n, f.q, f.b, word, word_len, message, message_len, starts, starts_len)
-                                 : burgzemi_decode(f.n, f.q, f.m, f.b, word, word_len, message, message_len, starts, starts_len);
+    unsigned answer = decode(f, word, word_len, message, message_len, starts, starts_len);
     if (answer == BURGZEMI_SERVED)
         print_accepted(starts, starts_len, message, message_len);
     return answer;
@@ -185,10 +211,16 @@ int main(int argc, char **argv)
     struct figures f = {.m = 1};
     uint32_t job = 0;
 
-    if (argc != 6 && argc != 7)
-        return usage("four figures and a word are wanted, and a job number may follow");
-    f.one_long = strcmp(argv[3], "L") == 0;
-    if (!figure(argv[1], &f.n) || !figure(argv[2], &f.q) || !(f.one_long || figure(argv[3], &f.m)) || !figure(argv[4], &f.b))
+    if (argc > 1 && strcmp(argv[1], "larsson") == 0) {
+        f.code = LARSSON;
+        argc--;
+        argv++;
+    }
+    if (argc != 6 && (argc != 7 || f.code == LARSSON))
+        return usage("four figures and a word are wanted, and a job number may follow but for the older trays");
+    if (f.code != LARSSON && strcmp(argv[3], "L") == 0)
+        f.code = CONSTRUCTION_B;
+    if (!figure(argv[1], &f.n) || !figure(argv[2], &f.q) || !(f.code == CONSTRUCTION_B || figure(argv[3], &f.m)) || !figure(argv[4], &f.b))
         return usage("a figure is no number of 32 bits");
     int len = symbols(argv[5], word);
     if (len < 0)

@@ -1,5 +1,5 @@
-/* Calls the functions of libexports.a on document 01's bench strips, its transfer example, on prescriptions and on strips with one long burst, and sees
- * that each refusal comes in its place and leaves every buffer as it was. Ends with 0 where all is right. */
+/* Calls the functions of libexports.a on document 01's bench strips, its transfer example, on prescriptions, on strips with one long burst and on those of the
+ * older trays, and sees that each refusal comes in its place and leaves every buffer as it was. Ends with 0 where all is right. */
 #include "burgzemi.h"
 
 #include <stdio.h>
@@ -124,12 +124,22 @@ static void words(void)
 /* A call under the figures n, q 256, m and b, or, where one_long is 1, of one long burst. */
 #define EITHER(call, ...) (one_long ? burgzemi_long_##call(n, 256, b, __VA_ARGS__) : burgzemi_##call(n, 256, m, b, __VA_ARGS__))
 
-static void large_strip(const char *what, int one_long, uint32_t n, uint32_t m, uint32_t b, uint32_t k)
+/* What a strip is written in, and a call of one of these. */
+enum code { CONSTRUCTION_A, CONSTRUCTION_B, LARSSON };
+#define ANY(call, ...) (code == LARSSON ? burgzemi_larsson_##call(n, 256, m, b, __VA_ARGS__) : EITHER(call, __VA_ARGS__))
+
+static void large_strip(const char *what, enum code code, uint32_t n, uint32_t m, uint32_t b, uint32_t k)
 {
     static uint8_t word[BURGZEMI_MAX_WORD], damaged[BURGZEMI_MAX_WORD], message[BURGZEMI_MAX_WORD], map[BURGZEMI_MAX_WORD], got[BURGZEMI_MAX_WORD];
     uint8_t table[BURGZEMI_TABLE_LEN] = {0}, starts[2 * BURGZEMI_MAX_BURSTS + 2] = {0}, other[2 * BURGZEMI_MAX_BURSTS + 2] = {0};
-    length(what, one_long ? burgzemi_long_message_len(n, 256, b) : burgzemi_message_len(n, 256, m, b), k);
-    length(what, one_long ? burgzemi_long_payload_len(n, 256, b) : burgzemi_payload_len(n, 256, m, b), k);
+    const int one_long = code == CONSTRUCTION_B;
+    if (code == LARSSON) {
+        length(what, burgzemi_larsson_message_len(n, 256, m, b), k);
+        length(what, burgzemi_larsson_payload_len(n, 256, m, b), k);
+    } else {
+        length(what, one_long ? burgzemi_long_message_len(n, 256, b) : burgzemi_message_len(n, 256, m, b), k);
+        length(what, one_long ? burgzemi_long_payload_len(n, 256, b) : burgzemi_payload_len(n, 256, m, b), k);
+    }
     for (uint32_t i = 0; i < k; i++)
         message[i] = (uint8_t)(i * 7 + 1);
     memset(map, 0, n);
@@ -139,18 +149,20 @@ static void large_strip(const char *what, int one_long, uint32_t n, uint32_t m, 
         starts[2 * i + 1] = (uint8_t)start;
         map[start] = map[start + b - 1] = 1;
     }
-    see(what, EITHER(cover, map, n, other, 2 * m), BURGZEMI_SERVED, other, starts, sizeof starts);
+    see(what, ANY(cover, map, n, other, 2 * m), BURGZEMI_SERVED, other, starts, sizeof starts);
 
     memset(word, 0xA5, n);
     memset(got, 0xA5, n);
-    see(what, EITHER(encode, starts, 2 * m + 2, message, k, word, n), BURGZEMI_LENGTH, word, got, n);
-    unsigned answer = EITHER(encode, starts, 2 * m, message, k, word, n);
+    see(what, ANY(encode, starts, 2 * m + 2, message, k, word, n), BURGZEMI_LENGTH, word, got, n);
+    unsigned answer = ANY(encode, starts, 2 * m, message, k, word, n);
     memcpy(damaged, word, n);
     for (uint32_t i = 0; i < m; i++)
         memset(damaged + n - (m - i) * (b + 1), 0xFF, b);
     memset(other, 0, sizeof other);
-    see(what, EITHER(decode, damaged, n, got, k, other, 2 * m), answer, got, message, k);
+    see(what, ANY(decode, damaged, n, got, k, other, 2 * m), answer, got, message, k);
     see(what, answer, BURGZEMI_SERVED, other, starts, sizeof starts);
+    if (code == LARSSON)
+        return;
 
     /* The job whose number the message begins with. */
     see(what, burgzemi_call(table, sizeof table, 'O', 0x01080F16), BURGZEMI_SERVED, got, message, k);
@@ -937,13 +949,159 @@ static void long_prescriptions(void)
 #undef READ
 }
 
+/* ---- The older trays: n 20, q 2, m 1, b 3; start 9, message all 1. Sub-blocks of 5 begin at 0, 7 and 15. The burst touches the second, so the first and
+ * the third spell 9. */
+
+static const char larsson_word[21] = "01001111100011101001";
+
+static void larsson_lengths(void)
+{
+    length("an older tray", burgzemi_larsson_message_len(20, 2, 1, 3), 7);
+    length("a burst above the gap", burgzemi_larsson_message_len(20, 2, 1, 4), BURGZEMI_NO_LENGTH);
+    length("sub-blocks longer than the word", burgzemi_larsson_message_len(8, 2, 1, 1), BURGZEMI_NO_LENGTH);
+    length("bursts longer than the word", burgzemi_larsson_message_len(3, 256, 4, 1), BURGZEMI_NO_LENGTH);
+    length("too many placements", burgzemi_larsson_message_len(888, 256, 8, 1), BURGZEMI_NO_LENGTH);
+    length("one placement", burgzemi_larsson_message_len(3, 2, 3, 1), 0);
+    length("one placement of bursts of 2", burgzemi_larsson_message_len(6, 2, 3, 2), 0);
+    length("one placement of bursts of 3", burgzemi_larsson_message_len(9, 2, 3, 3), BURGZEMI_NO_LENGTH);
+    length("m of 9", burgzemi_larsson_message_len(20, 2, 9, 1), BURGZEMI_NO_LENGTH);
+    /* Which code figures fit: Construction A alone, this one alone (above), both. */
+    length("Construction A alone", burgzemi_message_len(6, 5, 2, 1), 0);
+    length("Construction A alone, not an older tray", burgzemi_larsson_message_len(6, 5, 2, 1), BURGZEMI_NO_LENGTH);
+    length("an older tray alone", burgzemi_message_len(3, 2, 3, 1), BURGZEMI_NO_LENGTH);
+    length("either", burgzemi_message_len(3, 4, 1, 1), 0);
+    length("either, an older tray", burgzemi_larsson_message_len(3, 4, 1, 1), 0);
+    length("payload of an older tray", burgzemi_larsson_payload_len(15, 256, 1, 2), 11);
+    length("payload of one bit a symbol", burgzemi_larsson_payload_len(30, 2, 1, 3), 2);
+    length("payload of a burst above the gap", burgzemi_larsson_payload_len(20, 2, 1, 4), BURGZEMI_NO_LENGTH);
+}
+
+static void larsson_written(void)
+{
+    uint8_t start[4] = {0, 18, 0, 0}, message[8], word[24], expected[24];
+    memset(message, 1, sizeof message);
+    message[6] = 2;
+    memcpy(word, untouched, sizeof word);
+    memcpy(expected, untouched, sizeof expected);
+#define WRITE(what, wanted, n, q, m, b, starts_len, message_len, word_len) \
+    see(what, burgzemi_larsson_encode(n, q, m, b, start, starts_len, message, message_len, word, word_len), wanted, word, expected, sizeof word)
+    /* 1 2 3 5 4, each beside what would be refused later */
+    WRITE("n of 4097", BURGZEMI_INVALID, 4097, 2, 1, 4, 1, 8, 19);
+    WRITE("q of 257", BURGZEMI_INVALID, 20, 257, 1, 4, 1, 8, 19);
+    WRITE("m of 0", BURGZEMI_INVALID, 20, 2, 0, 4, 1, 8, 19);
+    WRITE("b of 0", BURGZEMI_INVALID, 20, 2, 1, 0, 1, 8, 19);
+    WRITE("b of 4", BURGZEMI_UNFIT, 20, 2, 1, 4, 1, 8, 19);
+    WRITE("half a start", BURGZEMI_LENGTH, 20, 2, 1, 3, 1, 7, 20);
+    WRITE("two starts", BURGZEMI_LENGTH, 20, 2, 1, 3, 4, 7, 20);
+    WRITE("message long", BURGZEMI_LENGTH, 20, 2, 1, 3, 2, 8, 20);
+    WRITE("word short", BURGZEMI_LENGTH, 20, 2, 1, 3, 2, 7, 19);
+    WRITE("word long", BURGZEMI_LENGTH, 20, 2, 1, 3, 2, 7, 21);
+    WRITE("start past the end", BURGZEMI_STARTS, 20, 2, 1, 3, 2, 7, 20);
+    start[1] = 9;
+    WRITE("a symbol of 2", BURGZEMI_SYMBOL, 20, 2, 1, 3, 2, 7, 20);
+    message[6] = 1;
+    symbols_of(larsson_word, expected);
+    WRITE("an older tray written", BURGZEMI_SERVED, 20, 2, 1, 3, 2, 7, 20);
+
+    /* Sub-blocks of one symbol at 0, 2, 4, 7 and 10, starts 2 and 5: the second is touched, and the last is past the first 3 that aren't. Rank 2 + 10. */
+    static const uint8_t two_bursts[11] = {12, 1, 0, 1, 12, 0, 1, 12, 1, 1, 1};
+    memcpy(start, (const uint8_t[]){0, 2, 0, 5}, sizeof start);
+    memcpy(expected, two_bursts, sizeof two_bursts);
+    WRITE("starts 2 and 5", BURGZEMI_SERVED, 11, 256, 2, 1, 4, 6, 11);
+    start[3] = 2;
+    WRITE("starts 2 and 2", BURGZEMI_STARTS, 11, 256, 2, 1, 4, 6, 11);
+#undef WRITE
+}
+
+/* Reads a word of 20 characters: the start and a message all 0 or all 1, or the refusal with both buffers as they were. */
+static void larsson_read(const char *what, unsigned wanted, uint32_t q, uint32_t b, const char *text, size_t word_len, size_t message_len, size_t starts_len,
+                         uint8_t start, uint8_t symbol)
+{
+    uint8_t word[21] = {0}, message[9], expected[9], starts[4], kept[4] = {0, start, 0xA5, 0x5A};
+    symbols_of(text, word);
+    memcpy(message, untouched, sizeof message);
+    memcpy(expected, untouched, sizeof expected);
+    memcpy(starts, untouched, sizeof starts);
+    if (wanted == BURGZEMI_SERVED)
+        memset(expected, symbol, 7);
+    unsigned answer = burgzemi_larsson_decode(20, q, 1, b, word, word_len, message, message_len, starts, starts_len);
+    see(what, answer, wanted, starts, wanted == BURGZEMI_SERVED ? kept : untouched, sizeof starts);
+    see(what, answer, wanted, message, expected, sizeof message);
+}
+
+static void larsson_found(void)
+{
+    larsson_read("as it is written", BURGZEMI_SERVED, 2, 3, larsson_word, 20, 7, 2, 9, 1);
+    larsson_read("damage in the burst", BURGZEMI_SERVED, 2, 3, "01001111101011101001", 20, 7, 2, 9, 1);
+    larsson_read("a silent burst", BURGZEMI_SERVED, 2, 3, "01001111122211101001", 20, 7, 2, 9, 1);
+    larsson_read("a value in all three sub-blocks", BURGZEMI_SERVED, 2, 3, "00000000000000000000", 20, 7, 2, 0, 0);
+    larsson_read("the last placement", BURGZEMI_SERVED, 2, 3, "10001111000111111222", 20, 7, 2, 17, 1);
+    /* 1 2 3 4 21 8 9 19, each beside what would be refused later */
+    larsson_read("q of 257", BURGZEMI_INVALID, 257, 4, "33333333333333333333", 19, 6, 1, 0, 0);
+    larsson_read("b of 4", BURGZEMI_UNFIT, 2, 4, "33333333333333333333", 19, 6, 1, 0, 0);
+    larsson_read("word short", BURGZEMI_LENGTH, 2, 3, "33333333333333333333", 19, 7, 2, 0, 0);
+    larsson_read("message long", BURGZEMI_LENGTH, 2, 3, "33333333333333333333", 20, 8, 2, 0, 0);
+    larsson_read("starts short", BURGZEMI_LENGTH, 2, 3, "33333333333333333333", 20, 7, 1, 0, 0);
+    larsson_read("starts long", BURGZEMI_LENGTH, 2, 3, "33333333333333333333", 20, 7, 4, 0, 0);
+    larsson_read("a value of 3 in the burst", BURGZEMI_SYMBOL, 2, 3, "01001211133311101011", 20, 7, 2, 0, 0);
+    larsson_read("three values", BURGZEMI_MAJORITY, 2, 3, "01001211100011101011", 20, 7, 2, 0, 0);
+    larsson_read("three values that are no rank", BURGZEMI_MAJORITY, 2, 3, "11111111110011111101", 20, 7, 2, 0, 0);
+    larsson_read("two sub-blocks with the same silent cell", BURGZEMI_MAJORITY, 2, 3, "01002111100011101002", 20, 7, 2, 0, 0);
+    larsson_read("a value of 18 in two sub-blocks", BURGZEMI_VALUE, 2, 3, "10010211100011110010", 20, 7, 2, 0, 0);
+    larsson_read("a value of 31 in all three", BURGZEMI_VALUE, 2, 3, "11111111111111111111", 20, 7, 2, 0, 0);
+    larsson_read("a value in the touched sub-block", BURGZEMI_DISAGREES, 2, 3, "01001210100111111111", 20, 7, 2, 0, 0);
+    larsson_read("a silent cell in a bearer", BURGZEMI_DISAGREES, 2, 3, "01001110100111101002", 20, 7, 2, 0, 0);
+    larsson_read("a silent message cell", BURGZEMI_ERASED, 2, 3, "01001111100011201001", 20, 7, 2, 0, 0);
+    larsson_read("a silent message cell of the touched sub-block", BURGZEMI_ERASED, 2, 3, "01001112100011101001", 20, 7, 2, 0, 0);
+
+    /* One placement: no symbol tells of it, and every word is accepted. */
+    static const uint8_t all_starts[6] = {0, 0, 0, 1, 0, 2};
+    uint8_t word[3] = {2, 1, 0}, message[1] = {7}, kept[1] = {7}, starts[6], expected[6];
+    memcpy(starts, untouched, sizeof starts);
+    memcpy(expected, untouched, sizeof expected);
+    word[2] = 3;
+    unsigned answer = burgzemi_larsson_decode(3, 2, 3, 1, word, 3, message, 0, starts, 6);
+    see("a value of 3 in the one placement", answer, BURGZEMI_SYMBOL, starts, expected, sizeof starts);
+    word[2] = 0;
+    memcpy(expected, all_starts, sizeof expected);
+    answer = burgzemi_larsson_decode(3, 2, 3, 1, word, 3, message, 0, starts, 6);
+    see("the one placement", answer, BURGZEMI_SERVED, starts, expected, sizeof starts);
+    see("the one placement's message", 0, 0, message, kept, sizeof message);
+}
+
+static void larsson_maps(void)
+{
+    uint8_t map[21] = {0}, starts[4], expected[4];
+    memcpy(starts, untouched, sizeof starts);
+    memcpy(expected, untouched, sizeof expected);
+#define COVER(what, wanted, b, map_len, starts_len) \
+    see(what, burgzemi_larsson_cover(20, 2, 1, b, map, map_len, starts, starts_len), wanted, starts, expected, sizeof starts)
+    /* 1 2 3 4 6, each beside what would be refused later */
+    map[9] = map[12] = 2;
+    COVER("b of 0", BURGZEMI_INVALID, 0, 21, 4);
+    COVER("b of 4", BURGZEMI_UNFIT, 4, 21, 4);
+    COVER("map long", BURGZEMI_LENGTH, 3, 21, 2);
+    COVER("two starts", BURGZEMI_LENGTH, 3, 20, 4);
+    COVER("bytes of 2", BURGZEMI_SYMBOL, 3, 20, 2);
+    map[9] = map[12] = 1;
+    COVER("9 and 12", BURGZEMI_UNCOVERED, 3, 20, 2);
+    map[12] = 0;
+    map[11] = 1;
+    expected[0] = 0;
+    expected[1] = 9;
+    COVER("9 and 11", BURGZEMI_SERVED, 3, 20, 2);
+#undef COVER
+}
+
 int main(void)
 {
     words();
     checks();
-    large_strip("4096 symbols, 6 bursts", 0, BURGZEMI_MAX_WORD, 6, 112, 3388);
-    large_strip("999 symbols, 8 bursts", 0, 999, BURGZEMI_MAX_BURSTS, 15, 823);
-    large_strip("4096 symbols, one long burst", 1, BURGZEMI_MAX_WORD, 1, 1365, 2728);
+    large_strip("4096 symbols, 6 bursts", CONSTRUCTION_A, BURGZEMI_MAX_WORD, 6, 112, 3388);
+    large_strip("999 symbols, 8 bursts", CONSTRUCTION_A, 999, BURGZEMI_MAX_BURSTS, 15, 823);
+    large_strip("4096 symbols, one long burst", CONSTRUCTION_B, BURGZEMI_MAX_WORD, 1, 1365, 2728);
+    large_strip("4096 symbols, 6 bursts, an older tray", LARSSON, BURGZEMI_MAX_WORD, 6, 333, 2042);
+    large_strip("1631 symbols, 8 bursts, an older tray", LARSSON, 1631, BURGZEMI_MAX_BURSTS, 94, 807);
     maps();
     for (int one_long = 0; one_long <= 1; one_long++) {
         side_by_side(one_long);
@@ -967,5 +1125,9 @@ int main(void)
     long_maps();
     long_jobs();
     long_prescriptions();
+    larsson_lengths();
+    larsson_written();
+    larsson_found();
+    larsson_maps();
     return wrong;
 }

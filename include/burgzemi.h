@@ -20,19 +20,21 @@ enum burgzemi_answer {
     /* from the input */
     BURGZEMI_INVALID = 1,      /* a figure out of range, or a job table with one number twice or with an unknown state */
     BURGZEMI_UNFIT = 2,        /* the figures don't fit: m * b is above n, there are more than 9223372036854775807 placements, or the shortest block
-                                  has fewer than b + r symbols, r as document 01 has it */
+                                  has fewer than b + r symbols, r as document 01 has it; for one long burst and for older trays as said below */
     BURGZEMI_LENGTH = 3,       /* a list, a placement or a buffer has another length than the figures give */
     BURGZEMI_SYMBOL = 4,       /* a symbol of q or more; in a found word a value above q; a byte above 1 in a defect map */
     BURGZEMI_STARTS = 5,       /* starts too close, descending, or past the end */
     BURGZEMI_UNCOVERED = 6,    /* no placement covers the defect map */
     BURGZEMI_PATTERN = 7,      /* the blocks' first symbols are in no listed pattern */
-    BURGZEMI_VALUE = 8,        /* the value at the heads of the index blocks is no rank */
-    BURGZEMI_DISAGREES = 9,    /* the placement of that rank has other index blocks, or a fixed block that doesn't start with 0 */
+    BURGZEMI_VALUE = 8,        /* the value at the heads of the index blocks, or in most of an older tray's sub-blocks, is no rank */
+    BURGZEMI_DISAGREES = 9,    /* the placement of that rank has other index blocks, or a fixed block that doesn't start with 0; on an older tray's strip, a
+                                  sub-block that should hold the value and doesn't */
     BURGZEMI_PAYLOAD = 10,     /* no room for a job, a byte's symbols that spell 256 or more, or a leftover symbol other than 0 */
     BURGZEMI_RECORD = 11,      /* a record unreadable or one too many, or a call's letter that is none of O, C, F, I, H, U */
     BURGZEMI_PRESCRIPTION = 16, /* an eye, a pupil distance or a job's text outside the rules of prescriptions, or a payload below 17 bytes */
     BURGZEMI_DEPTH = 18,       /* a depth outside 1 to 16 */
     BURGZEMI_ERASED = 19,      /* a silent cell, q, in an index block's first r + 1 symbols or among the message */
+    BURGZEMI_MAJORITY = 21,    /* no value stands in at least m + 1 of an older tray's sub-blocks */
     /* from the state of the job table */
     BURGZEMI_CANCELLED = 12,   /* the job number is cancelled */
     BURGZEMI_ALREADY_OPEN = 13,
@@ -47,7 +49,7 @@ enum burgzemi_answer {
 /*
  * The largest figures: no word, and so no message and no payload, is longer, and no placement has more bursts. BURGZEMI_MAX_WORD bytes hold any of
  * those, 2 * BURGZEMI_MAX_BURSTS bytes the starts of any placement; the length that is passed is still exactly n, k, K or 2 * m. Not all go together:
- * figures with 7 bursts fit up to n 1999, with 8 up to n 999, as longer words have too many placements.
+ * figures with 7 bursts fit up to n 1999, with 8 up to n 999, those of the older trays up to n 3343 and 1631, as longer words have too many placements.
  */
 #define BURGZEMI_MAX_WORD 4096
 #define BURGZEMI_MAX_BURSTS 8
@@ -58,7 +60,7 @@ enum burgzemi_answer {
 /* What burgzemi_verify answers for a word that disagrees; no refusal has this number. */
 #define BURGZEMI_DIFFERS 255
 
-/* What burgzemi_message_len and burgzemi_payload_len answer for figures that are refused. */
+/* What burgzemi_message_len, burgzemi_payload_len and those beside them answer for figures that are refused. */
 #define BURGZEMI_NO_LENGTH UINT32_MAX
 
 /*
@@ -320,6 +322,40 @@ uint8_t burgzemi_long_prescription_read(uint32_t n, uint32_t q, uint32_t b,
                                         const uint8_t *word, size_t word_len,
                                         uint8_t *marks, size_t marks_len,
                                         double *powers, size_t powers_len);
+
+/*
+ * Strips of the older trays: the Larsson code, with the figures n, q, m and b. Each of these functions does what the one without "larsson_" in its name does,
+ * and refuses the same in the same order, but for what the figures give and for what a word is refused with. The lengths are its own: a message has
+ * burgzemi_larsson_message_len symbols.
+ *
+ * R is the least number of symbols that spell at least as many values as there are placements. There are 2 * m + 1 sub-blocks of R symbols, the first at
+ * position 0 and the last at the end of the word, with gaps between them as equal as possible, shorter ones first. 2 is for m * b above n, for more than
+ * 9223372036854775807 placements, for sub-blocks that are together longer than n, or for a b above the shortest gap plus 1. k is n - m * b - (m + 1) * R.
+ * The first m + 1 sub-blocks that no burst touches bear the rank of the placement.
+ *
+ * burgzemi_larsson_decode refuses with, behind 4: 21 where no value stands in at least m + 1 sub-blocks, one with a silent cell having none; 8 where that
+ * value is no rank; 9 where the placement of that rank has a bearer that doesn't hold it; 19 for a silent cell among the message.
+ *
+ * Figures may fit this code, Construction A, both or neither. These strips have no functions for jobs, prescriptions, words side by side or the check of a
+ * word.
+ */
+uint32_t burgzemi_larsson_message_len(uint32_t n, uint32_t q, uint32_t m, uint32_t b);
+
+uint32_t burgzemi_larsson_payload_len(uint32_t n, uint32_t q, uint32_t m, uint32_t b);
+
+uint8_t burgzemi_larsson_encode(uint32_t n, uint32_t q, uint32_t m, uint32_t b,
+                                const uint8_t *starts, size_t starts_len,
+                                const uint8_t *message, size_t message_len,
+                                uint8_t *word, size_t word_len);
+
+uint8_t burgzemi_larsson_decode(uint32_t n, uint32_t q, uint32_t m, uint32_t b,
+                                const uint8_t *word, size_t word_len,
+                                uint8_t *message, size_t message_len,
+                                uint8_t *starts, size_t starts_len);
+
+uint8_t burgzemi_larsson_cover(uint32_t n, uint32_t q, uint32_t m, uint32_t b,
+                               const uint8_t *map, size_t map_len,
+                               uint8_t *starts, size_t starts_len);
 
 #ifdef __cplusplus
 }

@@ -1,12 +1,12 @@
 //! Figures on a grid with every boundary, through each call that takes figures.
 
-use burgzemi::{Long, Ranked};
+use burgzemi::{Larsson, Long, Ranked};
 use second::choose::choose;
 use second::figures::{MAX_N, MAX_RUNS};
 use second::Figures;
 
 use crate::judge::Judge;
-use crate::sides::{Numbers, PrescriptionNumbers};
+use crate::sides::{AnyNumbers, Numbers, PrescriptionNumbers};
 
 const EDGES: [u32; 4] = [65535, 65536, 1 << 31, u32::MAX];
 
@@ -57,11 +57,11 @@ fn least_counted(n: u32, m: u32) -> Option<u32> {
 
 /// Burst lengths around the largest that fits, around the least whose T is within its limit, around n / m, and so large
 /// that products wrap.
-fn bursts(n: u32, q: u32, m: u32) -> Vec<u32> {
+fn bursts(n: u32, m: u32, fits: impl Fn(u32) -> bool) -> Vec<u32> {
     let mut bursts = vec![0, 1, 2, 3];
-    let fits = |b: &u32| Figures::new(n, q, m, *b).is_ok();
-    // b is at most L, a third of n at most.
-    if let Some(largest) = (1..=n.min(MAX_N as u32) / 3).rev().find(fits) {
+    // Where figures fit, 3 * b is at most n, or 2 * (b - 1) by the Larsson code.
+    let most = n.min(MAX_N as u32) / 2 + 1;
+    if let Some(largest) = (1..=most).rev().find(|&b| fits(b)) {
         bursts.extend([largest - 1, largest, largest + 1]);
     }
     if let Some(least) = least_counted(n, m) {
@@ -93,17 +93,30 @@ pub fn each_long(mut visit: impl FnMut(Long)) {
     }
 }
 
-/// Calls `visit` with all of Construction A's figures of the grid.
-pub fn each(mut visit: impl FnMut(Ranked)) {
+/// Calls `visit` with all figures n, q, m and b of the grid, b around what `fits` tells of.
+fn each_of(fits: fn(Ranked) -> bool, mut visit: impl FnMut(Ranked)) {
     for n in lengths() {
         for q in alphabets() {
             for m in (0..=9).chain(EDGES) {
-                for b in bursts(n, q, m) {
+                for b in bursts(n, m, |b| fits((n, q, m, b))) {
                     visit((n, q, m, b));
                 }
             }
         }
     }
+}
+
+/// Calls `visit` with all of Construction A's figures of the grid.
+pub fn each(visit: impl FnMut(Ranked)) {
+    each_of(|(n, q, m, b)| Figures::new(n, q, m, b).is_ok(), visit);
+}
+
+/// The same of the Larsson code's.
+fn each_larsson(mut visit: impl FnMut(Larsson)) {
+    each_of(
+        |(n, q, m, b)| Figures::larsson(n, q, m, b).is_ok(),
+        |(n, q, m, b)| visit(Larsson(n, q, m, b)),
+    );
 }
 
 /// Outside the rules.
@@ -117,13 +130,19 @@ pub fn run(judge: &mut Judge) {
         judge.verify(f, &[], &[], &[]);
     });
     each_long(|f| figures_alone(judge, Numbers::Long(f), depths.next().unwrap_or(0)));
+    each_larsson(|f| any_figures_alone(judge, f.into()));
 }
 
-fn figures_alone(judge: &mut Judge, f: Numbers, depth: u32) {
+/// The calls that every code has.
+fn any_figures_alone(judge: &mut Judge, f: AnyNumbers) {
     judge.lengths(f);
     judge.decode(f, &[], 0, 0);
     judge.encode(f, &[], &[], 0);
     judge.cover(f, &[], 0);
+}
+
+fn figures_alone(judge: &mut Judge, f: Numbers, depth: u32) {
+    any_figures_alone(judge, f.into());
     judge.interleave(f, depth, &[], 0);
     judge.deinterleave(f, depth, &[], 0);
     judge.job_write(f, &[], &[], &[], 0);

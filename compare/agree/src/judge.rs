@@ -1,11 +1,12 @@
 //! The judge: makes each call on both sides, compares answers and every byte of the buffers, and counts.
 
 use burgzemi::Ranked;
+use second::figures::Code;
 use second::raw::DIFFERS;
 use second::Figures;
 
 use crate::lent::{Item, Lent};
-use crate::sides::{Numbers, Side, PROVED, SECOND};
+use crate::sides::{AnyNumbers, Numbers, Side, PROVED, SECOND};
 use crate::tally::Tally;
 
 mod prescription;
@@ -51,44 +52,63 @@ impl Op {
         }
     }
 
-    /// Whether Construction B's figures have this call too.
-    pub fn takes_long(self) -> bool {
-        matches!(
-            self,
-            Op::Figures
-                | Op::Encode
-                | Op::Decode
-                | Op::Cover
-                | Op::Interleave
-                | Op::Deinterleave
-                | Op::JobWrite
-                | Op::JobRead
-                | Op::PrescriptionWrite
-                | Op::PrescriptionRead
-        )
+    /// Whether the Larsson code's figures have this call too.
+    fn takes_larsson(self) -> bool {
+        matches!(self, Op::Figures | Op::Encode | Op::Decode | Op::Cover)
+    }
+
+    /// Whether Construction B's have it.
+    fn takes_long(self) -> bool {
+        self.takes_larsson()
+            || matches!(
+                self,
+                Op::Interleave
+                    | Op::Deinterleave
+                    | Op::JobWrite
+                    | Op::JobRead
+                    | Op::PrescriptionWrite
+                    | Op::PrescriptionRead
+            )
     }
 
     /// This call under these figures.
-    fn under(self, f: Numbers) -> Kind {
-        let long = matches!(f, Numbers::Long(_));
-        Kind { op: self, long }
+    fn under(self, f: impl Into<AnyNumbers>) -> Kind {
+        let code = match f.into() {
+            AnyNumbers::Construction(Numbers::Ranked(_)) => Code::ConstructionA,
+            AnyNumbers::Construction(Numbers::Long(_)) => Code::ConstructionB,
+            AnyNumbers::Larsson(_) => Code::Larsson,
+        };
+        Kind { op: self, code }
     }
 }
 
-/// A kind of call, and whether its figures are Construction B's.
+/// A kind of call, and the code of its figures: Construction A's for one without figures.
 #[derive(Clone, Copy)]
 pub struct Kind {
     pub op: Op,
-    pub long: bool,
+    pub code: Code,
 }
 
 impl From<Op> for Kind {
     fn from(op: Op) -> Kind {
-        Kind { op, long: false }
+        let code = Code::ConstructionA;
+        Kind { op, code }
     }
 }
 
-/// Each kind of call, its name, and the answers that it can give, each of which a gate run must see.
+impl Kind {
+    /// The answers that it can give; none where the code has no such call.
+    pub fn possible(self) -> &'static [u8] {
+        match self.code {
+            Code::Larsson if self.op == Op::Decode => &[0, 1, 2, 3, 4, 8, 9, 19, 21],
+            Code::Larsson if !self.op.takes_larsson() => &[],
+            Code::ConstructionB if !self.op.takes_long() => &[],
+            _ => OPS[self.op as usize].2,
+        }
+    }
+}
+
+/// Each call, its name, and the answers that it can give under a construction's figures, each of which a gate run must see.
 pub const OPS: [(Op, &str, &[u8]); 20] = [
     (Op::Figures, "figures", &[0, 1, 2]),
     (Op::Encode, "word write", &[0, 1, 2, 3, 4, 5]),
@@ -184,7 +204,7 @@ impl Judge {
 
     fn count(&mut self, kind: Kind, number: u8, inputs: &dyn Fn() -> String) {
         self.tally.count(kind, number);
-        if !OPS[kind.op as usize].2.contains(&number) {
+        if !kind.possible().contains(&number) {
             self.report(
                 kind.op,
                 inputs,
@@ -209,7 +229,8 @@ impl Judge {
     }
 
     /// Both lengths that figures give.
-    pub fn lengths(&mut self, numbers: Numbers) {
+    pub fn lengths(&mut self, numbers: impl Into<AnyNumbers>) {
+        let numbers = numbers.into();
         let of = |side: &Side| ((side.message_len)(numbers), (side.payload_len)(numbers));
         let (ours, theirs) = (of(&PROVED), of(&SECOND));
         let inputs = || format!("figures {numbers:?}");
@@ -223,7 +244,14 @@ impl Judge {
         self.count(Op::Figures.under(numbers), number, &inputs);
     }
 
-    pub fn encode(&mut self, f: Numbers, starts: &[u8], message: &[u8], word: usize) -> Answer {
+    pub fn encode(
+        &mut self,
+        f: impl Into<AnyNumbers>,
+        starts: &[u8],
+        message: &[u8],
+        word: usize,
+    ) -> Answer {
+        let f = f.into();
         let inputs = || {
             format!(
                 "{f:?} starts {} message {} word {word}",
@@ -241,7 +269,14 @@ impl Judge {
     }
 
     /// The message comes as `out`, the starts as `also`.
-    pub fn decode(&mut self, f: Numbers, word: &[u8], message: usize, starts: usize) -> Answer {
+    pub fn decode(
+        &mut self,
+        f: impl Into<AnyNumbers>,
+        word: &[u8],
+        message: usize,
+        starts: usize,
+    ) -> Answer {
+        let f = f.into();
         let inputs = || format!("{f:?} word {} message {message} starts {starts}", hex(word));
         let lent = (Lent::new(message), Lent::new(starts));
         let answer = self.both(
@@ -274,7 +309,8 @@ impl Judge {
         answer.number
     }
 
-    pub fn cover(&mut self, f: Numbers, map: &[u8], starts: usize) -> Answer {
+    pub fn cover(&mut self, f: impl Into<AnyNumbers>, map: &[u8], starts: usize) -> Answer {
+        let f = f.into();
         let inputs = || format!("{f:?} map {} starts {starts}", hex(map));
         self.both(
             Op::Cover.under(f),

@@ -1,14 +1,15 @@
 //! Buffers whose lengths are right in their low 16 or 32 bits alone: all are refused with 3.
 
-use burgzemi::Ranked;
+use burgzemi::{Larsson, Ranked};
 
 use crate::calls::TABLE;
 use crate::judge::{Judge, Op};
-use crate::sides::{EyeNumbers, Numbers, PrescriptionNumbers, Side, PROVED, SECOND};
+use crate::sides::{AnyNumbers, EyeNumbers, Numbers, PrescriptionNumbers, Side, PROVED, SECOND};
 
-/// Document 01's transfer example: n 15, k and K 11, one start; and Construction B's figures with the same lengths.
+/// Document 01's transfer example: n 15, k and K 11, one start; and the other codes' figures with the same lengths.
 const EXAMPLE: Ranked = (15, 256, 1, 2);
 const FIGURES: [Numbers; 2] = [Numbers::Ranked(EXAMPLE), Numbers::Long((15, 256, 2))];
+const LARSSON: AnyNumbers = AnyNumbers::Larsson(Larsson(15, 256, 1, 2));
 const WORD: usize = 15;
 const PAYLOAD: usize = 11;
 const PLANO: EyeNumbers = (0, 0.0, 0.0, 0);
@@ -17,11 +18,9 @@ const ORDER: PrescriptionNumbers = (PLANO, PLANO, 60.0);
 /// A call that takes one buffer of a wrong length.
 type Call<'a> = &'a mut dyn FnMut(&mut [u8]) -> u8;
 
-/// Each call without a table, those on two words side by side included, with one length replaced; `with` lends a buffer that
-/// is too long.
-fn word_calls(side: &Side, f: Numbers, with: &mut dyn FnMut(usize, Call) -> u8) -> [u8; 12] {
+/// Each call that every code has, with one length replaced; `with` lends a buffer that is too long.
+fn word_calls(side: &Side, f: AnyNumbers, with: &mut dyn FnMut(usize, Call) -> u8) -> [u8; 8] {
     let (mut word, mut payload, mut starts) = ([0; WORD], [0; PAYLOAD], [0; 2]);
-    let mut two = [0; 2 * WORD];
     [
         with(2, &mut |long| (side.encode)(f, long, &payload, &mut word)),
         with(PAYLOAD, &mut |long| {
@@ -37,6 +36,13 @@ fn word_calls(side: &Side, f: Numbers, with: &mut dyn FnMut(usize, Call) -> u8) 
         with(2, &mut |long| (side.decode)(f, &word, &mut payload, long)),
         with(WORD, &mut |long| (side.cover)(f, long, &mut starts)),
         with(2, &mut |long| (side.cover)(f, &word, long)),
+    ]
+}
+
+/// Likewise those on two words side by side.
+fn lane_calls(side: &Side, f: Numbers, with: &mut dyn FnMut(usize, Call) -> u8) -> [u8; 4] {
+    let mut two = [0; 2 * WORD];
+    [
         with(2 * WORD, &mut |long| {
             (side.interleave)(f, 2, long, &mut two)
         }),
@@ -138,8 +144,10 @@ pub fn run(judge: &mut Judge) {
         for side in [PROVED, SECOND] {
             let mut with = |len: usize, call: Call| call(&mut long[..len + extra]);
             let mut answers = check_calls(&side, &mut with).to_vec();
+            answers.extend(word_calls(&side, LARSSON, &mut with));
             for f in FIGURES {
-                answers.extend(word_calls(&side, f, &mut with));
+                answers.extend(word_calls(&side, f.into(), &mut with));
+                answers.extend(lane_calls(&side, f, &mut with));
                 answers.extend(job_calls(&side, f, &mut with));
                 answers.extend(prescription_calls(&side, f, &mut with));
             }

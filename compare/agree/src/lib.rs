@@ -7,6 +7,7 @@ pub mod grid;
 pub mod jobs;
 pub mod judge;
 pub mod lanes;
+pub mod larsson;
 pub mod lengths;
 mod lent;
 pub mod limit;

@@ -18,7 +18,7 @@ pub fn run(judge: &mut Judge, rng: &mut Rng) {
         for n in 3..=longest {
             (1..=n / 3)
                 .filter_map(|b| Figures::construction_b(n, q, b).ok())
-                .for_each(|f| every_word(judge, &f));
+                .for_each(|f| words::every_word(judge, &f));
         }
     }
     for (n, q, b) in boundaries() {
@@ -131,16 +131,6 @@ fn boundaries() -> Vec<(u32, u32, u32)> {
         }
     }
     all
-}
-
-/// Every list of n values up to q, read.
-fn every_word(judge: &mut Judge, f: &Figures) {
-    let values = f.q as usize + 1;
-    for number in 0..values.pow(f.n as u32) {
-        let digit = |i: u32| (number / values.pow(i) % values) as u8;
-        let word: Vec<u8> = (0..f.n as u32).map(digit).collect();
-        judge.decode(numbers(f), &word, f.k, 2);
-    }
 }
 
 /// Starts through all of a short strip, and every 97th of a long one, with a message that is read back.

@@ -1,24 +1,36 @@
 //! The making of inputs: figures that fit, placements, messages, damage, and values spelled into a word.
 
-use burgzemi::Ranked;
+use std::ops::RangeInclusive;
+
+use burgzemi::{Larsson, Ranked};
 use second::blocks::Layout;
 use second::choose::unrank;
 use second::figures::{Code, MAX_N, MAX_RUNS};
 use second::job::width;
-use second::Figures;
+use second::{larsson, Figures};
 
 use crate::rng::Rng;
-use crate::sides::Numbers;
+use crate::sides::{AnyNumbers, Numbers};
 
 /// Construction A's figures as numbers.
 pub fn ranked(f: &Figures) -> Ranked {
     (f.n as u32, f.q, f.m as u32, f.b as u32)
 }
 
+/// Figures of either construction as numbers.
 pub fn numbers(f: &Figures) -> Numbers {
     match f.code {
         Code::ConstructionB => Numbers::Long((f.n as u32, f.q, f.b as u32)),
         _ => Numbers::Ranked(ranked(f)),
+    }
+}
+
+/// Figures of any code as numbers.
+pub fn any_numbers(f: &Figures) -> AnyNumbers {
+    let (n, q, m, b) = ranked(f);
+    match f.code {
+        Code::Larsson => Larsson(n, q, m, b).into(),
+        _ => numbers(f).into(),
     }
 }
 
@@ -28,8 +40,21 @@ const EDGES: [u64; 14] = [
     49, 64, 887, 888, 998, 999, 1024, 1025, 1733, 1734, 1998, 1999, 4095, 4096,
 ];
 
-/// Figures that fit: short and long words, small and large alphabets, and burst lengths up to the largest.
+/// Judges n, q, m and b.
+type Judged = fn(u32, u32, u32, u32) -> Result<Figures, u8>;
+
+/// Construction A's figures that fit. No burst is longer than a block.
 pub fn figures(rng: &mut Rng) -> Figures {
+    fitting(rng, Figures::new, |n, m| n / (m * m.max(3)))
+}
+
+/// The Larsson code's figures that fit. No burst is longer than a gap between sub-blocks, plus 1.
+pub fn larsson_figures(rng: &mut Rng) -> Figures {
+    fitting(rng, Figures::larsson, |n, m| n / (2 * m) + 1)
+}
+
+/// Figures that fit: short and long words, small and large alphabets, and burst lengths up to the largest.
+fn fitting(rng: &mut Rng, judged: Judged, most: fn(u32, u32) -> u32) -> Figures {
     loop {
         let m = rng.between(1, MAX_RUNS as u64) as u32;
         let n = match rng.below(8) {
@@ -44,25 +69,29 @@ pub fn figures(rng: &mut Rng) -> Figures {
             0 => rng.between(2, 256) as u32,
             _ => rng.pick(&[2, 2, 3, 4, 5, 7, 15, 16, 17, 255, 256, 256]),
         };
-        if let Some(f) = with_length(rng, n, q, m) {
+        let lengths = 1..=most(n, m);
+        if let Some(f) = with_length(rng, lengths, |b| judged(n, q, m, b).ok()) {
             return f;
         }
     }
 }
 
-/// These figures with some burst length that fits, often the largest or the least.
-fn with_length(rng: &mut Rng, n: u32, q: u32, m: u32) -> Option<Figures> {
-    let block = n / (m * m.max(3));
-    let fits = |b: &u32| Figures::new(n, q, m, *b).is_ok();
-    let largest = (1..=block).rev().find(fits)?;
+/// Figures with some burst length that fits, often the largest or the least.
+fn with_length(
+    rng: &mut Rng,
+    lengths: RangeInclusive<u32>,
+    judged: impl Fn(u32) -> Option<Figures>,
+) -> Option<Figures> {
+    let fits = |b: &u32| judged(*b).is_some();
+    let largest = lengths.clone().rev().find(fits)?;
     // Runs of one position may have too many placements where longer ones don't.
-    let least = (1..=block).find(fits)?;
+    let least = lengths.clone().find(fits)?;
     let b = match rng.below(4) {
         0 => largest,
         1 => least,
         _ => rng.between(least as u64, largest as u64) as u32,
     };
-    Figures::new(n, q, m, b).ok()
+    judged(b)
 }
 
 /// Construction B's figures that fit: one burst, up to a third of the word.
@@ -86,15 +115,15 @@ pub fn long_figures(rng: &mut Rng) -> Figures {
     }
 }
 
-/// A placement in one of several styles: any rank, packed, at block edges, or one run to a part.
+/// A placement in one of several styles: any rank, packed, at the edges of blocks or sub-blocks, or one run to a part.
 pub fn placement(rng: &mut Rng, f: &Figures) -> Vec<u16> {
     let style = rng.below(5);
     if style < 2 {
         return unrank(f, rng.below(f.t))[..f.m].to_vec();
     }
-    let layout = Layout::new(f);
+    let edges = edges(f);
     let edge = |rng: &mut Rng, block: usize| {
-        let last = layout.begin[block] as usize + rng.index(3);
+        let last = edges[block] + rng.index(3);
         last.saturating_sub(f.b)
     };
     let packed = rng.index(f.n);
@@ -102,14 +131,25 @@ pub fn placement(rng: &mut Rng, f: &Figures) -> Vec<u16> {
         .map(|i| match style {
             2 => packed + i * f.b + rng.index(2),
             3 => {
-                let block = rng.index(f.blocks() + 1);
+                let block = rng.index(edges.len());
                 edge(rng, block)
             }
-            _ => edge(rng, (i % f.p) * f.m + 1) + rng.index(f.n / f.p),
+            _ => edge(rng, (i % f.p) * edges.len() / f.p + 1) + rng.index((f.n / f.p).max(1)),
         })
         .collect();
     wanted.sort_unstable();
     clamp(f, &wanted)
+}
+
+/// Where blocks begin and the last one ends, or where sub-blocks begin and end.
+fn edges(f: &Figures) -> Vec<usize> {
+    if f.code == Code::Larsson {
+        let begin = |i: usize| larsson::begin(f, i);
+        return (0..f.p).flat_map(|i| [begin(i), begin(i) + f.r]).collect();
+    }
+    let layout = Layout::new(f);
+    let edge = |block: usize| layout.begin[block] as usize;
+    (0..=f.blocks()).map(edge).collect()
 }
 
 /// The wanted starts, moved just enough to make a placement.
@@ -172,8 +212,11 @@ pub fn damage(rng: &mut Rng, f: &Figures, starts: &[u16], word: &mut [u8]) {
     }
 }
 
-/// How many values the I-blocks can spell: less than T, below 2^63, times q^m, at most 2^64.
+/// How many values the I-blocks can spell: less than T, below 2^63, times q^m, at most 2^64. Of the Larsson code, a sub-block.
 pub fn values(f: &Figures) -> u128 {
+    if f.code == Code::Larsson {
+        return (f.q as u128).pow(f.r as u32);
+    }
     let one = (f.q as u128 - 1) * (f.q as u128).pow(f.r as u32);
     one.pow(f.m as u32)
 }

@@ -1,6 +1,6 @@
 //! The two implementations behind one set of calls on plain numbers and bytes.
 
-use burgzemi::{Long, Ranked};
+use burgzemi::{Larsson, Long, Ranked};
 use second::Figures;
 
 pub use second::raw::{EyeNumbers, PrescriptionNumbers};
@@ -32,6 +32,45 @@ impl TryFrom<Numbers> for Figures {
     }
 }
 
+/// The figures of any code, likewise.
+#[derive(Clone, Copy, PartialEq, Eq, Debug)]
+pub enum AnyNumbers {
+    Construction(Numbers),
+    Larsson(Larsson),
+}
+
+impl From<Numbers> for AnyNumbers {
+    fn from(numbers: Numbers) -> AnyNumbers {
+        AnyNumbers::Construction(numbers)
+    }
+}
+
+impl From<Larsson> for AnyNumbers {
+    fn from(numbers: Larsson) -> AnyNumbers {
+        AnyNumbers::Larsson(numbers)
+    }
+}
+
+impl From<AnyNumbers> for burgzemi::AnyNumbers {
+    fn from(numbers: AnyNumbers) -> burgzemi::AnyNumbers {
+        match numbers {
+            AnyNumbers::Construction(numbers) => burgzemi::AnyNumbers::Construction(numbers.into()),
+            AnyNumbers::Larsson(numbers) => numbers.into(),
+        }
+    }
+}
+
+impl TryFrom<AnyNumbers> for Figures {
+    type Error = u8;
+
+    fn try_from(numbers: AnyNumbers) -> Result<Figures, u8> {
+        match numbers {
+            AnyNumbers::Construction(numbers) => numbers.try_into(),
+            AnyNumbers::Larsson(Larsson(n, q, m, b)) => Figures::larsson(n, q, m, b),
+        }
+    }
+}
+
 type Lanes = fn(Numbers, u32, &[u8], &mut [u8]) -> u8;
 type JobWrite = fn(Numbers, &[u8], &[u8], &[u8], &mut [u8]) -> u8;
 type PrescriptionRead = fn(Numbers, &[u8], &[u8], &mut [u8], &mut [f64]) -> u8;
@@ -39,12 +78,12 @@ type PrescriptionWrite = fn(Numbers, &[u8], &[u8], u32, PrescriptionNumbers, &mu
 
 pub struct Side {
     pub name: &'static str,
-    pub message_len: fn(Numbers) -> u32,
-    pub payload_len: fn(Numbers) -> u32,
-    pub encode: fn(Numbers, &[u8], &[u8], &mut [u8]) -> u8,
-    pub decode: fn(Numbers, &[u8], &mut [u8], &mut [u8]) -> u8,
+    pub message_len: fn(AnyNumbers) -> u32,
+    pub payload_len: fn(AnyNumbers) -> u32,
+    pub encode: fn(AnyNumbers, &[u8], &[u8], &mut [u8]) -> u8,
+    pub decode: fn(AnyNumbers, &[u8], &mut [u8], &mut [u8]) -> u8,
     pub verify: fn(Ranked, &[u8], &[u8], &[u8]) -> u8,
-    pub cover: fn(Numbers, &[u8], &mut [u8]) -> u8,
+    pub cover: fn(AnyNumbers, &[u8], &mut [u8]) -> u8,
     pub interleave: Lanes,
     pub deinterleave: Lanes,
     pub call: fn(&mut [u8], u8, u32) -> u8,

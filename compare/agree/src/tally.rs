@@ -1,19 +1,29 @@
 //! What was seen so far: every answer of each kind of call, and the accepted words.
 
 use second::blocks::Layout;
-use second::figures::MAX_RUNS;
+use second::figures::{Code, MAX_RUNS};
 use second::Figures;
 
 use crate::judge::{Kind, Op, OPS};
-use crate::sides::Numbers;
+use crate::larsson::most_votes;
+use crate::sides::AnyNumbers;
+
+/// Each code, in the order of its numbers, and what its calls are named with.
+const CODES: [(Code, &str); 3] = [
+    (Code::ConstructionA, ""),
+    (Code::ConstructionB, "long "),
+    (Code::Larsson, "larsson "),
+];
 
 pub struct Tally {
-    /// Answers by kind of call, of Construction A or without figures, and of Construction B.
-    seen: [[[u64; 256]; OPS.len()]; 2],
+    /// Answers by code and call.
+    seen: [[[u64; 256]; OPS.len()]; CODES.len()],
     /// Accepted words, by m and by how many parts have no block that looks F.
     accepted: [[u64; 3]; MAX_RUNS + 1],
     /// The same of Construction B.
     accepted_long: [u64; 3],
+    /// Accepted words of the Larsson code, by m, with one placement alone, and by whether m + 1 sub-blocks or more hold the value.
+    accepted_larsson: [[u64; 3]; MAX_RUNS + 1],
     /// Words with altered message cells: with none, one, several, or all of several.
     slips: [u64; 4],
 }
@@ -21,9 +31,10 @@ pub struct Tally {
 impl Default for Tally {
     fn default() -> Tally {
         Tally {
-            seen: [[[0; 256]; OPS.len()]; 2],
+            seen: [[[0; 256]; OPS.len()]; CODES.len()],
             accepted: Default::default(),
             accepted_long: Default::default(),
+            accepted_larsson: Default::default(),
             slips: Default::default(),
         }
     }
@@ -31,15 +42,23 @@ impl Default for Tally {
 
 impl Tally {
     pub fn count(&mut self, kind: Kind, number: u8) {
-        self.seen[kind.long as usize][kind.op as usize][number as usize] += 1;
+        self.seen[kind.code as usize][kind.op as usize][number as usize] += 1;
     }
 
-    pub fn count_accepted(&mut self, f: Numbers, word: &[u8]) {
-        let kinds = match f {
-            Numbers::Ranked((_, _, m, _)) => &mut self.accepted[m as usize],
-            Numbers::Long(_) => &mut self.accepted_long,
-        };
-        kinds[parts_without_fixed(f, word)] += 1;
+    pub fn count_accepted(&mut self, f: AnyNumbers, word: &[u8]) {
+        let Ok(f) = Figures::try_from(f) else { return };
+        match f.code {
+            Code::ConstructionA => self.accepted[f.m][parts_without_fixed(&f, word)] += 1,
+            Code::ConstructionB => self.accepted_long[parts_without_fixed(&f, word)] += 1,
+            Code::Larsson => {
+                let kind = match most_votes(&f, word) {
+                    _ if f.t == 1 => 0,
+                    votes if votes == f.m + 1 => 1,
+                    _ => 2,
+                };
+                self.accepted_larsson[f.m][kind] += 1;
+            }
+        }
     }
 
     pub fn count_slips(&mut self, slips: usize, symbols: usize) {
@@ -72,11 +91,16 @@ impl Tally {
     /// Prints a line for each kind of call, and tells whether every answer that it can give was seen.
     pub fn summary(&self) -> bool {
         let mut complete = true;
-        let ops = OPS.iter().map(|row| (row, 0));
-        let long = OPS.iter().filter(|row| row.0.takes_long());
-        for (&(op, name, possible), long) in ops.chain(long.map(|row| (row, 1))) {
-            let name = format!("{}{name}", ["", "long "][long]);
-            let seen = &self.seen[long][op as usize];
+        let kinds = CODES
+            .iter()
+            .flat_map(|code| OPS.iter().map(move |row| (code, row)));
+        for (&(code, prefix), &(op, name, _)) in kinds {
+            let possible = Kind { op, code }.possible();
+            if possible.is_empty() {
+                continue;
+            }
+            let name = format!("{prefix}{name}");
+            let seen = &self.seen[code as usize][op as usize];
             let shown: Vec<String> = possible
                 .iter()
                 .map(|&number| format!("{number}: {}", seen[number as usize]))
@@ -115,6 +139,12 @@ impl Tally {
         let [_, one, two] = self.accepted_long;
         println!("accepted with one long run, by parts without an F-block: one {one}, two {two}");
         complete &= one > 0 && two > 0;
+        for (m, kinds) in self.accepted_larsson.iter().enumerate().skip(1) {
+            let [alone, least, more] = kinds;
+            println!("accepted by the Larsson code with m {m}: one placement {alone}, m + 1 sub-blocks {least}, more {more}");
+            // A word has 3 symbols or more, which one run of the 2 positions that then fit doesn't fill.
+            complete &= *least > 0 && *more > 0 && (*alone > 0 || m == 1);
+        }
         if !complete {
             println!("never seen: some kind of pattern, accepted");
         }
@@ -123,11 +153,8 @@ impl Tally {
 }
 
 /// How many parts of an accepted word have no block that starts with 0.
-fn parts_without_fixed(numbers: Numbers, word: &[u8]) -> usize {
-    let Ok(f) = Figures::try_from(numbers) else {
-        return 0;
-    };
-    let layout = Layout::new(&f);
+fn parts_without_fixed(f: &Figures, word: &[u8]) -> usize {
+    let layout = Layout::new(f);
     let looks_fixed = |block: usize| word[layout.begin[block] as usize] == 0;
     let without = |&part: &usize| !(part * f.m..(part + 1) * f.m).any(looks_fixed);
     (0..f.p).filter(without).count()

@@ -1,6 +1,8 @@
 //! What the cells of a written word are for.
 
 use second::blocks::{burst_blocks, index_blocks, Layout};
+use second::figures::Code;
+use second::larsson::bearers;
 
 use crate::words::Strip;
 
@@ -8,7 +10,7 @@ use crate::words::Strip;
 #[derive(Clone, Copy, PartialEq, Eq)]
 pub enum Use {
     Run,
-    /// One of an I-block's first r + 1 symbols.
+    /// One of an I-block's first r + 1 symbols, or of a sub-block that bears the rank.
     Index,
     /// An F-block's first symbol.
     Fixed,
@@ -17,10 +19,23 @@ pub enum Use {
 
 fn uses(strip: &Strip) -> Vec<Use> {
     let f = &strip.f;
+    let mut uses = vec![Use::Message; f.n];
+    if f.code == Code::Larsson {
+        bearers(f, &strip.starts).for_each(|at| uses[at..at + f.r].fill(Use::Index));
+    } else {
+        by_blocks(strip, &mut uses);
+    }
+    for &start in &strip.starts {
+        uses[start as usize..start as usize + f.b].fill(Use::Run);
+    }
+    uses
+}
+
+fn by_blocks(strip: &Strip, uses: &mut [Use]) {
+    let f = &strip.f;
     let layout = Layout::new(f);
     let bursts = burst_blocks(f, &layout, &strip.starts);
     let index = index_blocks(f, bursts);
-    let mut uses = vec![Use::Message; f.n];
     for block in 0..f.blocks() {
         let begin = layout.begin[block] as usize;
         if index >> block & 1 == 1 {
@@ -29,10 +44,6 @@ fn uses(strip: &Strip) -> Vec<Use> {
             uses[begin] = Use::Fixed;
         }
     }
-    for &start in &strip.starts {
-        uses[start as usize..start as usize + f.b].fill(Use::Run);
-    }
-    uses
 }
 
 /// The cells with this use, ascending.

@@ -7,12 +7,12 @@ use second::{index, Figures};
 
 use crate::judge::{Judge, Op};
 use crate::make::{
-    damage, figures, found, numbers, placement, silent_value, spell, start_bytes, symbol, symbols,
-    value, values, wrong_len,
+    any_numbers, damage, figures, found, placement, silent_value, spell, start_bytes, symbol,
+    symbols, value, values, wrong_len,
 };
 use crate::rng::Rng;
 use crate::sides::{PROVED, SECOND};
-use crate::{silent, slips, verify};
+use crate::{larsson, silent, slips, verify};
 
 /// A strip: figures, a placement, a message and its word.
 pub struct Strip {
@@ -26,16 +26,15 @@ pub struct Strip {
 pub fn round(judge: &mut Judge, rng: &mut Rng, f: Figures) {
     let strip = written(judge, rng, f);
     read_back(judge, rng, &strip);
-    for _ in 0..2 {
-        altered(judge, rng, &strip);
+    match f.code {
+        Code::Larsson => larsson::changed(judge, rng, &strip),
+        _ => changed(judge, rng, &strip),
     }
     silent::outside(judge, rng, &strip);
     if f.code == Code::ConstructionA {
         verify::round(judge, rng, &strip);
     }
     slips::round(judge, rng, &strip);
-    other_value(judge, rng, &strip);
-    any_word(judge, rng, &f);
     refused_writing(judge, rng, &strip);
     refused_reading(judge, rng, &strip);
     covering(judge, rng, &f);
@@ -44,7 +43,7 @@ pub fn round(judge: &mut Judge, rng: &mut Rng, f: Figures) {
 fn written(judge: &mut Judge, rng: &mut Rng, f: Figures) -> Strip {
     let starts = placement(rng, &f);
     let message = symbols(rng, f.q, f.k);
-    let answer = judge.encode(numbers(&f), &start_bytes(&starts), &message, f.n);
+    let answer = judge.encode(any_numbers(&f), &start_bytes(&starts), &message, f.n);
     let inputs = || format!("{f:?} {starts:?}");
     judge.expect(
         Op::Encode,
@@ -66,19 +65,28 @@ fn read_back(judge: &mut Judge, rng: &mut Rng, strip: &Strip) {
     for writer in [PROVED, SECOND] {
         let mut word = vec![0xEE; f.n];
         (writer.encode)(
-            numbers(f),
+            any_numbers(f),
             &start_bytes(&strip.starts),
             &strip.message,
             &mut word,
         );
         damage(rng, f, &strip.starts, &mut word);
-        let read = judge.decode(numbers(f), &word, f.k, 2 * f.m);
+        let read = judge.decode(any_numbers(f), &word, f.k, 2 * f.m);
         let right = read.number == 0
             && read.out == strip.message
             && read.also == start_bytes(&strip.starts);
         let inputs = || format!("{f:?} {:?} written by {}", strip.starts, writer.name);
         judge.expect(Op::Decode, right, &inputs, "not what was written");
     }
+}
+
+/// Words of a construction with other symbols, other values, and other patterns.
+fn changed(judge: &mut Judge, rng: &mut Rng, strip: &Strip) {
+    for _ in 0..2 {
+        altered(judge, rng, strip);
+    }
+    other_value(judge, rng, strip);
+    any_word(judge, rng, &strip.f);
 }
 
 /// Changes symbols outside the runs: any, or those that blocks start with.
@@ -98,7 +106,7 @@ fn altered(judge: &mut Judge, rng: &mut Rng, strip: &Strip) {
             _ => silent_value(f.q).unwrap_or(0),
         };
     }
-    judge.decode(numbers(f), &word, f.k, 2 * f.m);
+    judge.decode(any_numbers(f), &word, f.k, 2 * f.m);
 }
 
 /// Spells another value over the I-blocks: a boundary one, or that of a placement close by.
@@ -114,7 +122,7 @@ fn other_value(judge: &mut Judge, rng: &mut Rng, strip: &Strip) {
     ] {
         let mut word = strip.word.clone();
         spell(f, &layout, index, value, &mut word);
-        let read = judge.decode(numbers(f), &word, f.k, 2 * f.m);
+        let read = judge.decode(any_numbers(f), &word, f.k, 2 * f.m);
         let right = (read.number == 8) == (value >= bound as u128);
         let inputs = || format!("{f:?} value {value} word {word:?}");
         judge.expect(Op::Decode, right, &inputs, "8 is for a value too large");
@@ -123,7 +131,7 @@ fn other_value(judge: &mut Judge, rng: &mut Rng, strip: &Strip) {
 
 fn any_word(judge: &mut Judge, rng: &mut Rng, f: &Figures) {
     let word = found(rng, f.q, f.n);
-    judge.decode(numbers(f), &word, f.k, 2 * f.m);
+    judge.decode(any_numbers(f), &word, f.k, 2 * f.m);
     let fixed = likely_pattern(rng, f) & all_blocks(f);
     patterned(judge, rng, f, fixed);
 }
@@ -172,7 +180,7 @@ fn patterned(judge: &mut Judge, rng: &mut Rng, f: &Figures, fixed: u64) {
         let value = fitting_value(rng, f, &layout, index);
         spell(f, &layout, index, value, &mut word);
     }
-    judge.decode(numbers(f), &word, f.k, 2 * f.m);
+    judge.decode(any_numbers(f), &word, f.k, 2 * f.m);
 }
 
 fn fitting_value(rng: &mut Rng, f: &Figures, layout: &Layout, index: u64) -> u128 {
@@ -221,7 +229,7 @@ fn refused_writing(judge: &mut Judge, rng: &mut Rng, strip: &Strip) {
             _ => {}
         }
     }
-    judge.encode(numbers(f), &starts, &message, word);
+    judge.encode(any_numbers(f), &starts, &message, word);
 }
 
 /// Starts too close by one, descending, past the end by one or by far, or moved at will.
@@ -258,7 +266,7 @@ fn refused_reading(judge: &mut Judge, rng: &mut Rng, strip: &Strip) {
             _ => {}
         }
     }
-    judge.decode(numbers(f), &word, message, starts);
+    judge.decode(any_numbers(f), &word, message, starts);
 }
 
 /// Maps worn inside a placement's runs, with or without one cell more, at random, or with a byte above 1.
@@ -281,7 +289,17 @@ fn covering(judge: &mut Judge, rng: &mut Rng, f: &Figures) {
             1 => len = wrong_len(rng, len),
             _ => {}
         }
-        judge.cover(numbers(f), &map, len);
+        judge.cover(any_numbers(f), &map, len);
+    }
+}
+
+/// Every list of n values up to q, read.
+pub fn every_word(judge: &mut Judge, f: &Figures) {
+    let values = f.q as usize + 1;
+    for number in 0..values.pow(f.n as u32) {
+        let digit = |i: u32| (number / values.pow(i) % values) as u8;
+        let word: Vec<u8> = (0..f.n as u32).map(digit).collect();
+        judge.decode(any_numbers(f), &word, f.k, 2 * f.m);
     }
 }
 
@@ -294,7 +312,7 @@ pub fn end_ranks(judge: &mut Judge, rng: &mut Rng, f: Figures) {
         let starts = unrank(&f, rank)[..f.m].to_vec();
         let message = symbols(rng, f.q, f.k);
         let word = judge
-            .encode(numbers(&f), &start_bytes(&starts), &message, f.n)
+            .encode(any_numbers(&f), &start_bytes(&starts), &message, f.n)
             .out;
         let strip = Strip {
             f,
@@ -328,7 +346,7 @@ pub fn wrapped_values(judge: &mut Judge, rng: &mut Rng) {
         }
         let mut word = strip.word.clone();
         spell(&f, &layout, index, value, &mut word);
-        let read = judge.decode(numbers(&f), &word, f.k, 2 * f.m);
+        let read = judge.decode(any_numbers(&f), &word, f.k, 2 * f.m);
         let inputs = || format!("{f:?} value {value}");
         judge.expect(
             Op::Decode,

@@ -1,7 +1,8 @@
-//! Times of the library, the second implementation and plain copies, the loops that instructions are counted in, and
-//! the transfer programs' records a second.
+//! Times of the library, the second implementation and plain copies, the loops that instructions are counted in, the rates of
+//! the codes, and the transfer programs' records a second.
 
 mod lanes;
+mod rates;
 mod rows;
 mod timing;
 mod transfer;
@@ -14,7 +15,8 @@ fn main() -> ExitCode {
     if run(&args).is_some() {
         return ExitCode::SUCCESS;
     }
-    eprintln!("usage: bench --times | --long-times | --rows | --long-rows | --count ours|second encode|decode|silent ROW CALLS");
+    eprintln!("usage: bench --times | --long-times | --larsson-times | --rates");
+    eprintln!("       bench --rows | --long-rows | --larsson-rows | --count ours|second encode|decode|silent ROW CALLS");
     eprintln!("       bench --time ours|second encode|decode|silent ROW | --transfer OURS SECOND");
     eprintln!("       bench --lanes | --count ours-interleave|second-interleave|ours-deinterleave|second-deinterleave|copy|byte-loop Q CALLS");
     ExitCode::from(2)
@@ -25,8 +27,11 @@ fn run(args: &[&str]) -> Option<()> {
     match *args {
         ["--times"] => timing::table(&rows::rows()),
         ["--long-times"] => timing::table(&rows::long_rows()),
+        ["--larsson-times"] => larsson_times(),
+        ["--rates"] => rates::table(),
         ["--rows"] => rows::list(),
         ["--long-rows"] => rows::list_long(),
+        ["--larsson-rows"] => rows::list_larsson(),
         ["--count", side, call, row, calls] => rows::count(side, call, row, calls)?,
         ["--time", side, call, row] => timing::once(side, call, row)?,
         ["--lanes"] => lanes::table(),
@@ -35,4 +40,11 @@ fn run(args: &[&str]) -> Option<()> {
         _ => return None,
     }
     Some(())
+}
+
+fn larsson_times() {
+    let (larsson, beside): (Vec<_>, Vec<_>) = rows::larsson_rows().into_iter().unzip();
+    timing::table(&larsson);
+    println!("Construction A with the same figures:");
+    timing::table(&beside);
 }

@@ -2,9 +2,9 @@
 
 use std::hint::black_box;
 
-use agree::make::{numbers, placement, start_bytes};
+use agree::make::{any_numbers, placement, start_bytes};
 use agree::rng::Rng;
-use agree::sides::{Numbers, Side, PROVED, SECOND};
+use agree::sides::{AnyNumbers, Side, PROVED, SECOND};
 use second::Figures;
 
 /// Strips taken in turn, so that no single placement is measured.
@@ -37,6 +37,23 @@ pub fn long_rows() -> Vec<Figures> {
     rows
 }
 
+/// The figures that both the Larsson code and Construction A take, of each. Burst lengths as in `rows`.
+pub fn larsson_rows() -> Vec<(Figures, Figures)> {
+    let mut rows = Vec::new();
+    for n in [64, 256, 1024, 4096] {
+        for m in [1, 3, 6] {
+            for q in [2, 16, 256] {
+                let both = |b: &u32| {
+                    let larsson = Figures::larsson(n, q, m, *b).ok()?;
+                    Some((larsson, Figures::new(n, q, m, *b).ok()?))
+                };
+                rows.extend([16, 8, 4, 2, 1].iter().find_map(both));
+            }
+        }
+    }
+    rows
+}
+
 pub fn name(f: &Figures) -> String {
     format!("{:>5} {:>2} {:>4} {:>4}", f.n, f.m, f.q, f.b)
 }
@@ -56,6 +73,16 @@ pub fn list_long() {
     }
 }
 
+/// The same for the Larsson code's rows, each with the number of Construction A's row with these figures, which go on behind those.
+pub fn list_larsson() {
+    let before = rows().len() + long_rows().len();
+    let rows = larsson_rows();
+    for (i, (f, _)) in rows.iter().enumerate() {
+        let row = before + i;
+        println!("{row} {} {}", row + rows.len(), name(f));
+    }
+}
+
 struct Strip {
     starts: Vec<u8>,
     message: Vec<u8>,
@@ -66,7 +93,7 @@ struct Strip {
 
 /// Strips ready to be written and read, and buffers that are never cleared between calls.
 pub struct Work {
-    numbers: Numbers,
+    numbers: AnyNumbers,
     strips: Vec<Strip>,
     word: Vec<u8>,
     message: Vec<u8>,
@@ -79,7 +106,7 @@ impl Work {
         let strips = (0..STRIPS).map(|_| strip(&mut rng, f)).collect();
         let (word, message, starts) = (vec![0; f.n], vec![0; f.k], vec![0; 2 * f.m]);
         Work {
-            numbers: numbers(f),
+            numbers: any_numbers(f),
             strips,
             word,
             message,
@@ -130,7 +157,7 @@ fn strip(rng: &mut Rng, f: &Figures) -> Strip {
     let starts = start_bytes(&placement);
     let message: Vec<u8> = (0..f.k).map(|_| rng.below(f.q as u64) as u8).collect();
     let mut found = vec![0; f.n];
-    let answer = (SECOND.encode)(numbers(f), &starts, &message, &mut found);
+    let answer = (SECOND.encode)(any_numbers(f), &starts, &message, &mut found);
     assert_eq!(answer, 0, "a placement is written");
     let mut silent = found.clone();
     for &start in &placement {
@@ -165,7 +192,8 @@ pub fn asked(side: &str, call: &str, row: &str) -> Option<(Measured, Work)> {
         "silent" => Measured::Silent(side),
         _ => return None,
     };
-    let rows = [rows(), long_rows()].concat();
+    let (larsson, beside) = larsson_rows().into_iter().unzip();
+    let rows = [rows(), long_rows(), larsson, beside].concat();
     let f = rows.get(row.parse::<usize>().ok()?)?;
     Some((measured, Work::new(f)))
 }

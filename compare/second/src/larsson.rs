@@ -7,12 +7,12 @@ use crate::figures::{Figures, MAX_RUNS};
 use crate::reserved::Reserved;
 
 /// Where sub-block `i` begins: the first at 0, the last ends the word, and the gaps are as equal as possible, shorter ones first.
-fn begin(f: &Figures, i: usize) -> usize {
+pub fn begin(f: &Figures, i: usize) -> usize {
     i * f.r + cut(f.n - f.p * f.r, f.p - 1, i)
 }
 
 /// Where the first m + 1 sub-blocks that no run touches begin.
-fn bearers<'a>(f: &'a Figures, starts: &'a [u16]) -> impl Iterator<Item = usize> + 'a {
+pub fn bearers<'a>(f: &'a Figures, starts: &'a [u16]) -> impl Iterator<Item = usize> + 'a {
     let touches = move |at: usize, start: usize| at.max(start) < (at + f.r).min(start + f.b);
     (0..f.p)
         .map(|i| begin(f, i))

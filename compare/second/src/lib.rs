@@ -13,7 +13,7 @@ pub mod figures;
 pub mod index;
 pub mod job;
 pub mod lanes;
-mod larsson;
+pub mod larsson;
 pub mod moving;
 pub mod prescription;
 pub mod raw;

@@ -36,6 +36,27 @@
 //! assert_eq!(message, [1; 10]);
 //! # Ok::<(), Refusal>(())
 //! ```
+//!
+//! An older tray has the figures of the Larsson code. They are taken by `encode`, `decode` and `cover`, and by no other call.
+//!
+//! ```
+//! use burgzemi::{Figures, Refusal};
+//!
+//! let strip = Figures::larsson(20, 2, 1, 3)?;
+//! let mut word = [0; 20];
+//! burgzemi::encode(&strip, &[9], &[1; 7], &mut word)?;
+//! word[9..12].fill(2); // cells without a reading, inside the run
+//!
+//! let mut message = [0; 7];
+//! assert_eq!(burgzemi::decode(&strip, &word, &mut message)?[..], [9]);
+//! assert_eq!(message, [1; 7]);
+//! # Ok::<(), Refusal>(())
+//! ```
+//!
+//! ```compile_fail,E0277
+//! let strip = burgzemi::Figures::larsson(20, 2, 1, 3).expect("these figures fit");
+//! let _ = burgzemi::interleave(&strip, 1, &[0; 20], &mut [0; 20]);
+//! ```
 
 mod prescription;
 pub mod raw;
@@ -45,7 +66,7 @@ mod table;
 use std::ops::Deref;
 
 pub use prescription::{prescription_read, prescription_write, Eye, Prescription};
-pub use raw::{Long, Numbers, Ranked};
+pub use raw::{AnyNumbers, Larsson, Long, Numbers, Ranked};
 pub use refusal::Refusal;
 pub use table::Table;
 
@@ -56,15 +77,23 @@ pub const MAX_RUNS: usize = 8;
 /// The most words that a strip has side by side.
 pub const MAX_DEPTH: u32 = 16;
 
-/// Figures that fit, with the lengths that follow from them: Construction A's, `Figures`, or Construction B's, `Figures<Long>`.
+/// Figures that fit, with the lengths that follow from them: Construction A's, `Figures`, Construction B's, `Figures<Long>`, or the Larsson code's,
+/// `Figures<Larsson>`.
 #[derive(Clone, Copy, PartialEq, Eq, Debug)]
 pub struct Figures<N = Ranked> {
     numbers: N,
     message_len: usize,
 }
 
-/// The numbers that figures of one construction are.
-pub trait Construction: Copy + Into<Numbers> {}
+/// The numbers that figures of one code are.
+pub trait Code: Copy + Into<AnyNumbers> {}
+
+impl Code for Ranked {}
+impl Code for Long {}
+impl Code for Larsson {}
+
+/// Those of a construction, whose strips have jobs and lie side by side.
+pub trait Construction: Code + Into<Numbers> {}
 
 impl Construction for Ranked {}
 impl Construction for Long {}
@@ -83,7 +112,14 @@ impl Figures<Long> {
     }
 }
 
-impl<N: Construction> Figures<N> {
+impl Figures<Larsson> {
+    /// n symbols of a word, each below q, and m runs of b positions, on an older tray.
+    pub fn larsson(n: u32, q: u32, m: u32, b: u32) -> Result<Figures<Larsson>, Refusal> {
+        Figures::judged(Larsson(n, q, m, b))
+    }
+}
+
+impl<N: Code> Figures<N> {
     fn judged(numbers: N) -> Result<Figures<N>, Refusal> {
         let k = raw::message_len(numbers);
         if k == raw::NO_LENGTH {
@@ -99,15 +135,17 @@ impl<N: Construction> Figures<N> {
     /// n.
     pub fn word_len(&self) -> usize {
         match self.numbers.into() {
-            Numbers::Ranked((n, ..)) | Numbers::Long((n, ..)) => n as usize,
+            AnyNumbers::Construction(Numbers::Ranked((n, ..)) | Numbers::Long((n, ..)))
+            | AnyNumbers::Larsson(Larsson(n, ..)) => n as usize,
         }
     }
 
     /// m, which is 1 for Construction B.
     pub fn runs(&self) -> usize {
         match self.numbers.into() {
-            Numbers::Ranked((_, _, m, _)) => m as usize,
-            Numbers::Long(_) => 1,
+            AnyNumbers::Construction(Numbers::Ranked((_, _, m, _)))
+            | AnyNumbers::Larsson(Larsson(_, _, m, _)) => m as usize,
+            AnyNumbers::Construction(Numbers::Long(_)) => 1,
         }
     }
 
@@ -174,7 +212,7 @@ impl StartBytes {
 }
 
 /// Writes the word of a placement and a message.
-pub fn encode<N: Construction>(
+pub fn encode<N: Code>(
     f: &Figures<N>,
     starts: &[u16],
     message: &[u8],
@@ -189,7 +227,7 @@ pub fn encode<N: Construction>(
 }
 
 /// Reads a found word: its message, and the placement as the answer. A value q, for q up to 255, is a cell without a reading, which the runs may have.
-pub fn decode<N: Construction>(
+pub fn decode<N: Code>(
     f: &Figures<N>,
     word: &[u8],
     message: &mut [u8],
@@ -211,7 +249,7 @@ pub fn verify(f: &Figures, starts: &[u16], message: &[u8], word: &[u8]) -> Resul
 }
 
 /// The placement of least rank that covers every cell that is 1 in the map.
-pub fn cover<N: Construction>(f: &Figures<N>, map: &[u8]) -> Result<Placement, Refusal> {
+pub fn cover<N: Code>(f: &Figures<N>, map: &[u8]) -> Result<Placement, Refusal> {
     let mut starts = [0; 2 * MAX_RUNS];
     let starts = &mut starts[..2 * f.runs()];
     Refusal::of(raw::cover(f.numbers, map, starts))?;

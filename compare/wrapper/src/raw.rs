@@ -7,11 +7,22 @@ pub type Ranked = (u32, u32, u32, u32);
 /// Construction B's, of one long run: n, q and b.
 pub type Long = (u32, u32, u32);
 
+/// The Larsson code's n, q, m and b.
+#[derive(Clone, Copy, PartialEq, Eq, Debug)]
+pub struct Larsson(pub u32, pub u32, pub u32, pub u32);
+
 /// The figures of either construction.
 #[derive(Clone, Copy, PartialEq, Eq, Debug)]
 pub enum Numbers {
     Ranked(Ranked),
     Long(Long),
+}
+
+/// The figures of any code: a construction's, or the Larsson code's.
+#[derive(Clone, Copy, PartialEq, Eq, Debug)]
+pub enum AnyNumbers {
+    Construction(Numbers),
+    Larsson(Larsson),
 }
 
 impl From<Ranked> for Numbers {
@@ -23,6 +34,24 @@ impl From<Ranked> for Numbers {
 impl From<Long> for Numbers {
     fn from(numbers: Long) -> Numbers {
         Numbers::Long(numbers)
+    }
+}
+
+impl From<Ranked> for AnyNumbers {
+    fn from(numbers: Ranked) -> AnyNumbers {
+        AnyNumbers::Construction(numbers.into())
+    }
+}
+
+impl From<Long> for AnyNumbers {
+    fn from(numbers: Long) -> AnyNumbers {
+        AnyNumbers::Construction(numbers.into())
+    }
+}
+
+impl From<Larsson> for AnyNumbers {
+    fn from(numbers: Larsson) -> AnyNumbers {
+        AnyNumbers::Larsson(numbers)
     }
 }
 
@@ -40,7 +69,7 @@ pub const DIFFERS: u8 = 255;
 
 #[rustfmt::skip]
 mod c {
-    use super::Numbers;
+    use super::{AnyNumbers, Larsson, Numbers};
 
     /// Declares the call of each construction, and the function that makes the one of given figures.
     macro_rules! of_either {
@@ -58,23 +87,46 @@ mod c {
         };
     }
 
-    of_either! {
-        message_len: burgzemi_message_len, burgzemi_long_message_len() -> u32;
-        payload_len: burgzemi_payload_len, burgzemi_long_payload_len() -> u32;
-        encode: burgzemi_encode, burgzemi_long_encode(
+    /// The same with the Larsson code's call too.
+    macro_rules! of_any {
+        ($($name:ident: $ranked:ident, $long:ident, $larsson:ident($($argument:ident: $kind:ty),*) -> $answer:ty;)*) => {
+            mod either {
+                use super::Numbers;
+
+                of_either! { $($name: $ranked, $long($($argument: $kind),*) -> $answer;)* }
+            }
+            extern "C" {
+                $(fn $larsson(n: u32, q: u32, m: u32, b: u32, $($argument: $kind),*) -> $answer;)*
+            }
+            $(pub unsafe fn $name(f: AnyNumbers, $($argument: $kind),*) -> $answer {
+                match f {
+                    AnyNumbers::Construction(f) => either::$name(f, $($argument),*),
+                    AnyNumbers::Larsson(Larsson(n, q, m, b)) => $larsson(n, q, m, b, $($argument),*),
+                }
+            })*
+        };
+    }
+
+    of_any! {
+        message_len: burgzemi_message_len, burgzemi_long_message_len, burgzemi_larsson_message_len() -> u32;
+        payload_len: burgzemi_payload_len, burgzemi_long_payload_len, burgzemi_larsson_payload_len() -> u32;
+        encode: burgzemi_encode, burgzemi_long_encode, burgzemi_larsson_encode(
             starts: *const u8, starts_len: usize,
             message: *const u8, message_len: usize,
             word: *mut u8, word_len: usize
         ) -> u8;
-        decode: burgzemi_decode, burgzemi_long_decode(
+        decode: burgzemi_decode, burgzemi_long_decode, burgzemi_larsson_decode(
             word: *const u8, word_len: usize,
             message: *mut u8, message_len: usize,
             starts: *mut u8, starts_len: usize
         ) -> u8;
-        cover: burgzemi_cover, burgzemi_long_cover(
+        cover: burgzemi_cover, burgzemi_long_cover, burgzemi_larsson_cover(
             map: *const u8, map_len: usize,
             starts: *mut u8, starts_len: usize
         ) -> u8;
+    }
+
+    of_either! {
         interleave: burgzemi_interleave, burgzemi_long_interleave(
             depth: u32,
             words: *const u8, words_len: usize,
@@ -132,19 +184,19 @@ mod c {
 }
 
 /// k, or `NO_LENGTH` where the figures are refused.
-pub fn message_len(f: impl Into<Numbers>) -> u32 {
+pub fn message_len(f: impl Into<AnyNumbers>) -> u32 {
     // SAFETY: takes and returns numbers only, and touches no memory.
     unsafe { c::message_len(f.into()) }
 }
 
 /// K, or `NO_LENGTH` where the figures are refused.
-pub fn payload_len(f: impl Into<Numbers>) -> u32 {
+pub fn payload_len(f: impl Into<AnyNumbers>) -> u32 {
     // SAFETY: takes and returns numbers only, and touches no memory.
     unsafe { c::payload_len(f.into()) }
 }
 
 /// Writes a word.
-pub fn encode(f: impl Into<Numbers>, starts: &[u8], message: &[u8], word: &mut [u8]) -> u8 {
+pub fn encode(f: impl Into<AnyNumbers>, starts: &[u8], message: &[u8], word: &mut [u8]) -> u8 {
     let (s, t) = (starts.as_ptr(), starts.len());
     let (from, len) = (message.as_ptr(), message.len());
     // SAFETY: each pointer is a slice's own, never null, with its length; the one written to is lent alone.
@@ -152,7 +204,7 @@ pub fn encode(f: impl Into<Numbers>, starts: &[u8], message: &[u8], word: &mut [
 }
 
 /// Reads a word into the message and starts.
-pub fn decode(f: impl Into<Numbers>, word: &[u8], message: &mut [u8], starts: &mut [u8]) -> u8 {
+pub fn decode(f: impl Into<AnyNumbers>, word: &[u8], message: &mut [u8], starts: &mut [u8]) -> u8 {
     let (from, len) = (word.as_ptr(), word.len());
     let (to, room) = (message.as_mut_ptr(), message.len());
     let (s, t) = (starts.as_mut_ptr(), starts.len());
@@ -161,7 +213,7 @@ pub fn decode(f: impl Into<Numbers>, word: &[u8], message: &mut [u8], starts: &m
 }
 
 /// Finds the starts that cover a map.
-pub fn cover(f: impl Into<Numbers>, map: &[u8], starts: &mut [u8]) -> u8 {
+pub fn cover(f: impl Into<AnyNumbers>, map: &[u8], starts: &mut [u8]) -> u8 {
     let (s, t) = (starts.as_mut_ptr(), starts.len());
     // SAFETY: each pointer is a slice's own, never null, with its length; the one written to is lent alone.
     unsafe { c::cover(f.into(), map.as_ptr(), map.len(), s, t) }

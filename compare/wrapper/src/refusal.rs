@@ -2,11 +2,11 @@
 
 use std::fmt;
 
-/// The number of a refusal: 1 to 20, 23 or 24.
+/// The number of a refusal: 1 to 21, 23 or 24.
 #[derive(Clone, Copy, PartialEq, Eq, Hash, Debug)]
 pub struct Refusal(u8);
 
-const TEXTS: [(u8, &str); 22] = [
+const TEXTS: [(u8, &str); 23] = [
     (
         1,
         "a figure is out of range, or a job table has an unknown state or one number twice",
@@ -25,11 +25,11 @@ const TEXTS: [(u8, &str); 22] = [
     (7, "the blocks' first symbols are in no listed pattern"),
     (
         8,
-        "the value at the heads of the index blocks is too large",
+        "the value at the heads of the index blocks, or in most sub-blocks, is too large",
     ),
     (
         9,
-        "the placement disagrees with the index or fixed blocks, or begins before the word",
+        "the placement disagrees with the index or fixed blocks or with the sub-blocks, or begins before the word",
     ),
     (10, "no room for a job, or the message spells no payload"),
     (11, "a record is unreadable, or one too many"),
@@ -50,6 +50,7 @@ const TEXTS: [(u8, &str); 22] = [
         "a cell without a reading in an index block's head or in the message",
     ),
     (20, "the job number is not cancelled"),
+    (21, "no value is in most of the sub-blocks"),
     (23, "the job number is on hold"),
     (24, "the job number is not on hold"),
 ];
@@ -75,6 +76,7 @@ impl Refusal {
     pub const DEPTH: Refusal = Refusal(18);
     pub const SILENT: Refusal = Refusal(19);
     pub const NOT_CANCELLED: Refusal = Refusal(20);
+    pub const MAJORITY: Refusal = Refusal(21);
     pub const ON_HOLD: Refusal = Refusal(23);
     pub const NOT_ON_HOLD: Refusal = Refusal(24);
 

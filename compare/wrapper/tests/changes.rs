@@ -370,3 +370,87 @@ fn jobs_with_one_long_run() {
     let cancelled = job_read(&strip, &table, &word, &mut payload);
     assert_eq!(cancelled, Err(Refusal::CANCELLED));
 }
+
+/// Change request 8.
+#[test]
+fn older_trays() {
+    let strip = Figures::larsson(20, 2, 1, 3).expect("these figures fit");
+    let lens = (strip.word_len(), strip.runs(), strip.message_len());
+    assert_eq!((lens, strip.payload_len()), ((20, 1, 7), 0));
+    let mut word = [0xEE; 20];
+    for (starts, message, refusal) in [
+        (&[][..], &[2; 7][..], Refusal::LENGTH),
+        (&[9, 12], &[2; 7], Refusal::LENGTH),
+        (&[18], &[2; 6], Refusal::LENGTH),
+        (&[18], &[2; 7], Refusal::STARTS),
+        (&[9], &[2; 7], Refusal::SYMBOL),
+    ] {
+        assert_eq!(encode(&strip, starts, message, &mut word), Err(refusal));
+    }
+    assert_eq!(word, [0xEE; 20]);
+    assert_eq!(encode(&strip, &[9], &[1; 7], &mut word), Ok(()));
+    assert_eq!(word, b"01001111100011101001".map(|digit| digit - b'0'));
+    // Any values up to q inside the run.
+    word[9..12].copy_from_slice(&[1, 2, 0]);
+    let mut message = [0; 7];
+    let placement = decode(&strip, &word, &mut message).expect("a written word is read");
+    assert_eq!((&placement[..], message), (&[9][..], [1; 7]));
+    // Every cell of the run is worn, or one more.
+    let mut map = [0; 20];
+    map[9..12].fill(1);
+    assert_eq!(cover(&strip, &map).map(|covered| covered[0]), Ok(9));
+    map[12] = 1;
+    assert_eq!(cover(&strip, &map), Err(Refusal::UNCOVERED));
+}
+
+#[test]
+fn figures_of_older_trays() {
+    let fits = |n, q, m, b| Figures::larsson(n, q, m, b).map(|f| f.message_len());
+    assert_eq!(fits(20, 2, 1, 4), Err(Refusal::UNFIT));
+    assert_eq!(fits(20, 2, 1, 0), Err(Refusal::INVALID));
+    assert_eq!(fits(4096, 256, 6, 333), Ok(2042));
+    assert_eq!(fits(4096, 256, 6, 334), Err(Refusal::UNFIT));
+    assert_eq!(fits(4097, 256, 6, 333), Err(Refusal::INVALID));
+    // This code alone, Construction A alone, both.
+    assert_eq!(fits(3, 2, 3, 1), Ok(0));
+    assert_eq!(Figures::new(3, 2, 3, 1), Err(Refusal::UNFIT));
+    assert_eq!(fits(6, 5, 2, 1), Err(Refusal::UNFIT));
+    assert!(Figures::new(6, 5, 2, 1).is_ok());
+    assert_eq!(fits(3, 4, 1, 1), Ok(0));
+    assert!(Figures::new(3, 4, 1, 1).is_ok());
+}
+
+#[test]
+fn refused_words_of_older_trays() {
+    let strip = Figures::larsson(20, 2, 1, 3).expect("these figures fit");
+    let mut message = [0xEE; 7];
+    for (word, refusal) in [
+        (b"01001211100011101011", Refusal::MAJORITY),
+        (b"01002111100011101002", Refusal::MAJORITY),
+        (b"10010211100011110010", Refusal::VALUE),
+        (b"01001210100111111111", Refusal::DISAGREES),
+        (b"01001110100111101002", Refusal::DISAGREES),
+        (b"01001111100011201001", Refusal::SILENT),
+        (b"01001211133311101011", Refusal::SYMBOL),
+    ] {
+        let word = word.map(|digit| digit - b'0');
+        assert_eq!(decode(&strip, &word, &mut message), Err(refusal));
+    }
+    assert_eq!(message, [0xEE; 7]);
+    assert_eq!(
+        Refusal::MAJORITY.to_string(),
+        "refused with 21: no value is in most of the sub-blocks"
+    );
+}
+
+/// No symbol tells of the one placement that there is, and every word is accepted.
+#[test]
+fn one_placement_on_an_older_tray() {
+    let strip = Figures::larsson(3, 2, 3, 1).expect("these figures fit");
+    for number in 0..27u8 {
+        let word = [number % 3, number / 3 % 3, number / 9];
+        let placement = decode(&strip, &word, &mut []).expect("every word is accepted");
+        assert_eq!(placement[..], [0, 1, 2]);
+    }
+    assert_eq!(decode(&strip, &[0, 3, 0], &mut []), Err(Refusal::SYMBOL));
+}

@@ -97,7 +97,8 @@ coverUnder d map =
     (must (ltb v (d .placementCount)) (unplaced uncovered)
     (record { answer = served; placement = held (startsOf n (d .bursts) (d .burstLen) v) })))))
 
--- ---- "word read 1 2 3 4 7 8 9", with 19 "between 7 and 8" and "after 9": the answer, the placement beside it, and the lent message
+-- ---- "word read 1 2 3 4 7 8 9", with 19 "between 7 and 8" and "after 9": the answer, the placement beside it, and the lent message. The Larsson code's
+-- order is 1 2 3 4 21 8 9 19
 
 -- "An accepted word is answered with its rank as a number"
 pub data WordAnswer : Type 0 where

@@ -1,9 +1,9 @@
 -- Laws of the reader for C: starts as bytes, and its refusals. Assumes nothing.
-use mathlib.Core.Path.{_≡_, refl, _∙_}
+use mathlib.Core.Path.{_≡_, refl, sym, ap, _∙_}
 use mathlib.Core.Logic.{_≢_}
 use mathlib.Core.Bool.{true}
 use mathlib.Core.List.{List, [], _∷_}
-use Prim.Native.Nat.{ℕ, zero, suc, _+_, _*_, _/_, _%_, _<_}
+use Prim.Native.Nat.{ℕ, zero, suc, _+_, _*_, _/_, _%_, _≤_, _<_}
 use native.Mathlib.Omega.{arith}
 use lib.Dec.{eqb}
 use lib.ListN.{length, getD, take, set, length-set}
@@ -12,13 +12,14 @@ use Rattle.refusals.specs.Refusals.{must, served, wrongLength}
 use Rattle.combinatorics.proofs.Cases.{eqb-same, eqb-other}
 use Rattle.combinatorics.proofs.Lists.{fill-turn, fill-done}
 use Rattle.cells.specs.Bytes.{byteValues}
-use Rattle.cells.specs.Outcomes.{Coding, unserved, figuresUnder, decodeUnder}
+use Rattle.cells.specs.Outcomes.{Coding, maxBursts, unserved, figuresUnder, rankIs, Decoded as Outcome, decodeUnder}
 use Rattle.cells.proofs.Outcomes.{refused-alike}
 use Rattle.placements.specs.Bridge.{startsIn}
 use Rattle.decoder.specs.declared.Decoded.{Decoded}
 use Rattle.decoder.specs.declared.WordAnswer.the-variants.{Accepted, Refused}
-use Rattle.decoder.specs.Answer.{decodedAs}
+use Rattle.decoder.specs.Answer.{answerAs, decodedAs}
 use Rattle.decoder.specs.Exported.{lentAs, startBytes, exportedAs, exportedUnder}
+use Rattle.decoder.specs.Reader.{StartsFit}
 
 -- ---- Starts as bytes
 
@@ -74,8 +75,21 @@ module _ (d : Coding) (w out bytes : List ℕ) where
     exported-length size = rw (range, fit, eqb-other (length bytes) (2 * d .bursts) size)
 
     -- and what the word reader answers
-    pub exported-read : length bytes ≡ 2 * d .bursts → exportedUnder d w out bytes ≡ exportedAs bytes (decodeUnder d w out)
+    exported-read : length bytes ≡ 2 * d .bursts → exportedUnder d w out bytes ≡ exportedAs bytes (decodeUnder d w out)
     exported-read size = rw (range, fit, eqb-same (length bytes) (2 * d .bursts) size)
+
+    -- put into the lent buffers
+    pub exported-put : length bytes ≡ 2 * d .bursts → (r : Decoded) (left : List ℕ) → decodedAs r left ≡ decodeUnder d w out
+        → (a : ℕ) (starts : List ℕ) → lentAs a left starts ≡ exportedAs bytes (decodedAs r left) → lentAs a left starts ≡ exportedUnder d w out bytes
+    exported-put size r left e a starts put = put ∙ ap (exportedAs bytes) e ∙ sym (exported-read size)
+
+  -- an accepted word has as many starts as the figures have bursts
+  pub starts-fit : (m : ℕ) → ((v : ℕ) → decodeUnder d w out .answer ≡ rankIs v → decodeUnder d w out .placement .count ≡ m) → m ≤ maxBursts → length bytes ≡ 2 * m
+      → (r : Decoded) (left : List ℕ) → decodedAs r left ≡ decodeUnder d w out → StartsFit r bytes
+  starts-fit m counts few size r left e v told =
+      let count : r .placement .count ≡ m =
+      ap (λ (o : Outcome). o .placement .count) e ∙ counts v (sym (ap (λ (o : Outcome). o .answer) e) ∙ ap answerAs told) in
+      (omega (arith, count), omega (arith, count))
 
 -- the word reader's answer in code, taken apart
 module _ (bytes out : List ℕ) (d : Decoded) where

@@ -129,7 +129,7 @@ refused-not out d a v e r =
 
 module _ (d : Coding) (Listed : List ℕ → ℕ → Type 0) (reads : ReadsExactly (d .codec) Listed) (counts : (ss : List ℕ) → d .codec .placed ss ≡ true → length ss ≡ d .bursts)
     (range : d .inRange ≡ true) (fit : d .fits ≡ true) (w out : List ℕ) (v : ℕ) (r : decodeUnder d w out .answer ≡ rankIs v) where
-  counts-under : decodeUnder d w out .placement .count ≡ d .bursts
+  pub counts-under : decodeUnder d w out .placement .count ≡ d .bursts
   counts-under =
       by-eq (length w) (d .codec .wordLen) (λ _. o .placement .count ≡ d .bursts)
       (λ whole. by-eq (length out) (d .codec .messageLen) (λ _. o .placement .count ≡ d .bursts)

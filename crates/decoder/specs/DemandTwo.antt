@@ -1,4 +1,5 @@
--- Demand 2 of what the word reader answers, under any figures and for either construction. Assumes nothing.
+-- Demand 2 of what a word reader answers, under any figures and whatever the code: for either construction here, and in larsson_decoder for the Larsson code.
+-- Assumes nothing.
 use mathlib.Core.Path.{_≡_}
 use mathlib.Core.Logic.{_↔_}
 use mathlib.Core.Bool.{true}
@@ -28,7 +29,7 @@ pub record ReadsAsWritten (d : Coding) (Listed : List ℕ → ℕ → Type 0) (w
   pub one-pair : (ss ms ss′ ms′ : List ℕ) → LeadsTo (d .codec) w ss ms → LeadsTo (d .codec) w ss′ ms′ → (ss ≡ ss′) × (ms ≡ ms′)
   -- and refused where there is none
   pub others : ((ss ms : List ℕ) → LeadsTo (d .codec) w ss ms → ⊥) → (a : ℕ) × (r ≡ unread out a)
-  -- with 7, 19, 8 or 9: "Each number comes under its condition and under no other."
+  -- with 7, 19, 8 or 9, by the Larsson code with 21, 8, 9 or 19: "Each number comes under its condition and under no other."
   pub listed : (a : ℕ) → (r ≡ unread out a) ↔ Listed w a
 
 abbrev pub DecodesExactlyUnder : Coding → (List ℕ → ℕ → Type 0) → List ℕ → List ℕ → Decoded → Type 0

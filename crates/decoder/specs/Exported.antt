@@ -31,7 +31,7 @@ answered bytes (refusal a) at ms = lentAs (answerNumber (refusal a)) ms bytes
 abbrev pub exportedAs : List ℕ → Decoded → Exported
 exportedAs bytes d = answered bytes (d .answer) (d .placement) (d .message)
 
--- "word read 1 2 3 4 7 8 9", with 19 "between 7 and 8" and "after 9", where 3 stands for the buffer of starts too
+-- "word read 1 2 3 4 7 8 9", with 19 "between 7 and 8" and "after 9", by the Larsson code 1 2 3 4 21 8 9 19, where 3 stands for the buffer of starts too
 abbrev pub exportedUnder : Coding → List ℕ → List ℕ → List ℕ → Exported
 exportedUnder d w out bytes =
     must (d .inRange) (lentAs invalid out bytes)

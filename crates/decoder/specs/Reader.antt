@@ -2,7 +2,7 @@
 use mathlib.Core.Path.{_≡_}
 use mathlib.Core.Bool.{Bool, true, not}
 use mathlib.Core.List.{List}
-use Prim.Native.Nat.{ℕ, _<_, min}
+use Prim.Native.Nat.{ℕ, _*_, _≤_, _<_, min}
 use lib.Dec.{eqb}
 use lib.ListN.{length, getD}
 use Rattle.refusals.specs.Refusals.{must, erased}
@@ -14,6 +14,7 @@ use Rattle.cells.specs.Erasures.{foundBound, hasErasure}
 use Rattle.cells.specs.Outcomes.{held}
 use Rattle.cells.specs.Plan.{planIn}
 use Rattle.construction_a.specs.DemandTwo.{IndexRead}
+use Rattle.construction_a.specs.Figures.{maxBursts}
 use Rattle.construction_a.specs.Reading.{written}
 use Rattle.construction_b.specs.DemandTwo as B
 use Rattle.construction_b.specs.Reading as B′
@@ -22,6 +23,8 @@ use Rattle.params.specs.Given.{figuresOf, longOf, frameOf, codingIn, Fitting, L
 use Rattle.placements.specs.declared.Placement.{Placement}
 use Rattle.placements.specs.Bridge.{heldAs, startsIn, Placing}
 use Rattle.heads.specs.Given.{Finding}
+use Rattle.decoder.specs.declared.Decoded.{Decoded}
+use Rattle.decoder.specs.declared.WordAnswer.the-variants.{Accepted}
 
 -- "a q among message symbols, after 9" (02, 6): what is left to refuse once the placement is known; otherwise its message is taken
 abbrev pub readMessage : Layout → List ℕ → List ℕ → Reading
@@ -59,6 +62,10 @@ pub record Located (l : Layout) (at : Placement) (v : ℕ) (whole : Bool) (w out
   pub is-held : heldAs at ≡ held (startsIn at)
   pub ranked : v ≡ rankOf (l .b) (startsIn at)
   pub read-as : codingIn l .codec .decode w ≡ readMessage l w (startsIn at)
+
+-- two bytes for each start of an accepted word
+abbrev pub StartsFit : Decoded → List ℕ → Type 0
+StartsFit d bytes = (v : ℕ) → d .answer ≡ Accepted v → (d .placement .count ≤ maxBursts) × (length bytes ≡ 2 * d .placement .count)
 
 -- the blocks that an array marks with a kind, as a set
 unfoldable pub ofKind : ℕ → List ℕ → ℕ → Bool

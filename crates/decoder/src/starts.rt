@@ -1,11 +1,15 @@
 // The word reader with its placement as bytes: what the reader for C does once the figures are known to fit. Inner functions. Assumes nothing.
 ghost use mathlib.Core.Path.{_≡_};
-ghost use Prim.Native.Nat.{_*_, _≤_};
+ghost use mathlib.Core.List.{List};
+ghost use Prim.Native.Nat.{ℕ, _*_, _≤_};
 ghost use lib.ListN.{length};
 ghost use Rattle.construction_a.specs.Figures.{maxBursts};
 ghost use Rattle.params.specs.Given.{codingIn, Serves};
 ghost use Rattle.placements.specs.Bridge.{startsIn};
-ghost use Rattle.decoder.specs.Exported.{lentAs, startBytes, exportedUnder};
+ghost use Rattle.decoder.specs.Answer.{decodedAs};
+ghost use Rattle.decoder.specs.Exported.{lentAs, startBytes, exportedAs, exportedUnder};
+ghost use Rattle.decoder.specs.Reader.{StartsFit};
+use crate::Decoded;
 use crate::WordAnswer;
 use crate::decode_fitting;
 use params::Layout;
@@ -22,6 +26,14 @@ pub fn decode_bytes(layout: Layout, word: &[u8], message: &mut [u8], starts: &mu
         return Refusal::LENGTH;
     }
     let decoded = decode_fitting(layout, word, message);
+    put_decoded(decoded, starts)
+}
+
+// What the word reader answered, under any figures: its number, and the placement of an accepted word as bytes.
+pub fn put_decoded(decoded: Decoded, starts: &mut [u8]) -> u8
+    requires { ⌜ StartsFit decoded (now starts) ⌝ }
+    ensures { λ r. ⌜ ((out : List ℕ) → lentAs r out (now (starts .exit)) ≡ exportedAs (now (starts .entry)) (decodedAs decoded out)) ⌝ }
+{
     let answer = decoded.answer;
     match answer {
         WordAnswer::Refused(number) => number,

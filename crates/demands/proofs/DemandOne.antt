@@ -8,14 +8,15 @@ use Prim.Native.Nat.{ℕ, suc, _*_}
 use native.Mathlib.Omega.{arith}
 use lib.Dec.{eqb, ltb}
 use lib.ListN.{length, take, drop, replicate}
-use Rattle.refusals.specs.Refusals.{must, served, invalid, unfit, wrongLength, badRecord}
+use Rattle.refusals.specs.Refusals.{must, served, invalid, unfit, wrongLength, badSymbol, badRecord}
 use Rattle.combinatorics.specs.Lists.{all, any, allBelow}
 use Rattle.combinatorics.specs.Bursts.{apart, coverRank}
 use Rattle.combinatorics.proofs.Cases.{by-bool, by-eq, eqb-true, eqb-other}
 use Rattle.combinatorics.proofs.Lists.{both}
 use Rattle.cells.specs.Bytes.{payloadLen}
-use Rattle.cells.specs.Cells.{message}
-use Rattle.cells.specs.Erasures.{foundBound}
+use Rattle.cells.specs.Cells.{message, pick}
+use Rattle.cells.specs.Codec.{Reading}
+use Rattle.cells.specs.Erasures.{foundBound, hasErasure}
 use Rattle.cells.specs.Ranking.{CoversLeast}
 use Rattle.construction_a.specs.Figures.{Params, inRange, fits, placementCount, messageLen}
 use Rattle.cells.specs.Outcomes.{Coding, Held, held, inUse, FiguresOut, figuresNumber, figuresUnder, unwritten, encodeUnder, worn, Covered, coverUnder, WordAnswer, rankIs, refusal, answerNumber, Decoded, decodedFrom, decodeUnder}
@@ -27,6 +28,13 @@ use Rattle.construction_a.proofs.DemandTwo.{demand-two}
 use Rattle.construction_b.proofs.DemandTwo.{demand-two as demand-two-b}
 use Rattle.construction_a.proofs.Ranking.{faithful}
 use Rattle.construction_b.proofs.Ranking.{faithful as faithful-b}
+use Rattle.construction_a.specs.Writing.{placementOf}
+use Rattle.larsson.specs.Outcomes.{coding as larssonCoding}
+use Rattle.larsson.specs.Reading.{found, agrees, readValue, readFrom, read}
+use Rattle.larsson.specs.Writing.{plan}
+use Rattle.larsson.proofs.Exact.{larsson-exact}
+use Rattle.larsson.proofs.Figures.{serve}
+use Rattle.larsson.proofs.Ranking.{covers-least}
 use Rattle.ledger.proofs.Simulates.{simulation}
 use Rattle.jobs.specs.declared.Entry.{Entry}
 use Rattle.jobs.specs.declared.Entry.the-variants.{Free, Open, OnHold, Cancelled}
@@ -54,7 +62,7 @@ use Rattle.records.specs.Session.{Session, maxRecords, after}
 use Rattle.lines.specs.Lines.{refusalLine, servedLine, letterS, letterL, letterW, letterR}
 use Rattle.records.specs.Records.{headLen, letterOf, isEmpty, current, payloadLenOf, figuresIn, longFiguresIn, startsIn, payloadOf, readable}
 use Rattle.transfer.specs.Steps.{Step, stopped, ended, goesOn, figuresStep, callStep, jobStep, writeOut, readOut, serveOut, stepOut}
-use Rattle.demands.specs.Orders.{figuresAlone, wordWrite, covering, wordRead, rearrangement, jobWrite, jobRead, call, callByLetter, callOnBytes, listOfCalls}
+use Rattle.demands.specs.Orders.{figuresAlone, wordWrite, covering, wordRead, larssonRead, rearrangement, jobWrite, jobRead, call, callByLetter, callOnBytes, listOfCalls}
 use Rattle.demands.proofs.Answering.{keep, done, tested, where-open, Judges, by-read, judges, with-table, one-more, Writes}
 use Rattle.demands.proofs.Prescriptions.{transpose, spherical-equivalent, read-text, write-text, prescription-write, prescription-read, transpose-lent, equivalent-lent, prescription-write-bytes, prescription-read-bytes}
 use Rattle.demands.specs.DemandOne.{AnswersBy, ChecksBy, ListAnswers, StepAnswers, at-end, stops, refuses, serves, DemandOne}
@@ -94,20 +102,60 @@ cover d map =
     (tested Covers (ltb (coverRank n (d .bursts) (d .burstLen) (worn map)) (d .placementCount)) (keep refl refl)
     (done refl)))))
 
-abbrev Reads : List ℕ → Decoded → Type 0
-Reads out o = AnswersBy {A = Held × List ℕ} wordRead (answerNumber (o .answer)) (held [], out) (o .placement, o .message)
+-- an order that begins with 1 2 3 4, as every word read's does
+record Begins (order : List ℕ) : Type 0 where
+  pub numbers : all isRefusal order ≡ true
+  pub one : any (eqb invalid) (served ∷ order) ≡ true
+  pub two : any (eqb unfit) (served ∷ order) ≡ true
+  pub three : any (eqb wrongLength) (served ∷ order) ≡ true
+  pub four : any (eqb badSymbol) (served ∷ order) ≡ true
 
-word-read : (d : Coding) → Judges d → (w out : List ℕ) → Reads out (decodeUnder d w out)
-unfolding isRefusal all any
-word-read d judge w out =
-    let P = Reads out in
+abbrev Reads : List ℕ → List ℕ → Decoded → Type 0
+Reads order out o = AnswersBy {A = Held × List ℕ} order (answerNumber (o .answer)) (held [], out) (o .placement, o .message)
+
+-- behind them the code's own reading answers by the order
+abbrev ReadsBehind : List ℕ → Coding → Type 0
+ReadsBehind order d = (w out : List ℕ) → Reads order out (decodedFrom (d .burstLen) out (d .codec .decode w))
+
+word-read : (order : List ℕ) → Begins order → (d : Coding) → ReadsBehind order d → (w out : List ℕ) → Reads order out (decodeUnder d w out)
+word-read order b d behind w out =
+    let P = Reads order out in
     let c = d .codec in
-    tested P (d .inRange) (keep refl refl)
-    (tested P (d .fits) (keep refl refl)
-    (tested P (eqb (length w) (c .wordLen) && eqb (length out) (c .messageLen)) (keep refl refl)
-    (tested P (allBelow (c .foundBound) w) (keep refl refl)
-    (by-read (λ r. P (decodedFrom (d .burstLen) out r)) (keep refl refl) (keep refl refl) (keep refl refl) (keep refl refl) (λ ss ms. done refl)
-    (c .decode w) (judge w)))))
+    tested P (d .inRange) (keep (b .numbers) (b .one))
+    (tested P (d .fits) (keep (b .numbers) (b .two))
+    (tested P (eqb (length w) (c .wordLen) && eqb (length out) (c .messageLen)) (keep (b .numbers) (b .three))
+    (tested P (allBelow (c .foundBound) w) (keep (b .numbers) (b .four))
+    (behind w out))))
+
+-- of Constructions A and B
+begins : Begins wordRead
+unfolding isRefusal all any
+begins = record { numbers = refl; one = refl; two = refl; three = refl; four = refl }
+
+behind : (d : Coding) → Judges d → ReadsBehind wordRead d
+unfolding isRefusal all any
+behind d judge w out =
+    by-read (λ r. Reads wordRead out (decodedFrom (d .burstLen) out r)) (keep refl refl) (keep refl refl) (keep refl refl) (keep refl refl) (λ ss ms. done refl)
+    (d .codec .decode w) (judge w)
+
+-- of the Larsson code
+begins-larsson : Begins larssonRead
+unfolding isRefusal all any
+begins-larsson = record { numbers = refl; one = refl; two = refl; three = refl; four = refl }
+
+behind-larsson : (f : Params) → ReadsBehind larssonRead (larssonCoding f)
+unfolding read readValue isRefusal all any
+behind-larsson f w out = go (found f w)
+  where
+    P : Reading → Type 0
+    P r = Reads larssonRead out (decodedFrom (f .b) out r)
+
+    go : (v : Option ℕ) → P (readFrom f w v)
+    go none = keep refl refl
+    go (some v) =
+        tested P (ltb v (placementCount f)) (keep refl refl)
+        (tested P (agrees f w v (placementOf f v)) (keep refl refl)
+        (tested P (not (hasErasure (f .q) (pick message (plan f (placementOf f v)) w))) (keep refl refl) (done refl)))
 
 -- a refusal of the check: its number is not 0
 turned-away : (a : ℕ) → any (eqb (suc a)) (served ∷ wordWrite) ≡ true → any (eqb (suc a)) (served ∷ differs ∷ wordWrite) ≡ true → ChecksBy (unchecked (suc a))
@@ -332,23 +380,23 @@ module _ (starts : List ℕ) where
       (tested CoversIn (eqb (coverUnder d map .answer) served) (keep (h .numbers) (h .answer)) (done (h .numbers)))))
 
 module _ (out starts : List ℕ) where
-  abbrev ReadsIn : Exported → Type 0
-  ReadsIn o = AnswersBy {A = List ℕ × List ℕ} wordRead (o .answer) (out, starts) (o .message, o .starts)
+  abbrev ReadsIn : List ℕ → Exported → Type 0
+  ReadsIn order o = AnswersBy {A = List ℕ × List ℕ} order (o .answer) (out, starts) (o .message, o .starts)
 
-  read-in : (a : WordAnswer) (at : Held) (ms : List ℕ)
-      → AnswersBy {A = Held × List ℕ} wordRead (answerNumber a) (held [], out) (at, ms) → ReadsIn (answered starts a at ms)
-  read-in (rankIs v) at ms h = done (h .numbers)
-  read-in (refusal a) at ms h =
+  read-in : (order : List ℕ) (a : WordAnswer) (at : Held) (ms : List ℕ)
+      → AnswersBy {A = Held × List ℕ} order (answerNumber a) (held [], out) (at, ms) → ReadsIn order (answered starts a at ms)
+  read-in order (rankIs v) at ms h = done (h .numbers)
+  read-in order (refusal a) at ms h =
       record { numbers = h .numbers; answer = h .answer; keeps = λ d. ap (λ (x : Held × List ℕ). (x .1, starts)) (h .keeps d) }
 
-  word-read-bytes : (d : Coding) → Judges d → (w : List ℕ) → ReadsIn (exportedUnder d w out starts)
-  unfolding isRefusal all any
-  word-read-bytes d judge w =
+  word-read-bytes : (order : List ℕ) → Begins order → (d : Coding) → ReadsBehind order d → (w : List ℕ) → ReadsIn order (exportedUnder d w out starts)
+  word-read-bytes order b d behind w =
+      let P = ReadsIn order in
       let r = decodeUnder d w out in
-      tested ReadsIn (d .inRange) (keep refl refl)
-      (tested ReadsIn (d .fits) (keep refl refl)
-      (tested ReadsIn (eqb (length starts) (2 * d .bursts)) (keep refl refl)
-      (read-in (r .answer) (r .placement) (r .message) (word-read d judge w out))))
+      tested P (d .inRange) (keep (b .numbers) (b .one))
+      (tested P (d .fits) (keep (b .numbers) (b .two))
+      (tested P (eqb (length starts) (2 * d .bursts)) (keep (b .numbers) (b .three))
+      (read-in order (r .answer) (r .placement) (r .message) (word-read order b d behind w out))))
 
 job-write-bytes : (d : Coding) (table starts payload out : List ℕ) → Writes jobWrite out (jobWriteBytesUnder d table starts payload out)
 unfolding jobWriteBytesUnder isRefusal all any
@@ -503,9 +551,13 @@ demand-one =
       figures-alone = λ f. figures-alone (codingOf f);
       word-write = λ f. word-write (codingOf f);
       cover = λ f. cover (codingOf f);
-      word-read = λ f. word-read (codingOf f) (judges f);
+      word-read = λ f. word-read wordRead begins (codingOf f) (behind (codingOf f) (judges f));
       interleave = λ f. interleave (codingOf f);
       deinterleave = λ f. deinterleave (codingOf f);
+      larsson-figures = λ f. figures-alone (larssonCoding f);
+      larsson-write = λ f. word-write (larssonCoding f);
+      larsson-cover = λ f. cover (larssonCoding f);
+      larsson-read = λ f. word-read larssonRead begins-larsson (larssonCoding f) (behind-larsson f);
       verify = verify;
       open-job = open-job;
       cancel-job = cancel-job;
@@ -524,10 +576,13 @@ demand-one =
       write-text = λ p text. write-text text p;
       prescription-write = λ f es at n p out. prescription-write (codingOf f) es at n out p;
       prescription-read = λ f. prescription-read (codingOf f) (judges f);
-      word-read-bytes = λ f w out starts. word-read-bytes out starts (codingOf f) (judges f) w;
+      word-read-bytes = λ f w out starts. word-read-bytes out starts wordRead begins (codingOf f) (behind (codingOf f) (judges f)) w;
       word-write-bytes = λ f. word-write-bytes (codingOf f);
       verify-bytes = verify-bytes;
       cover-bytes = λ f map starts. cover-bytes starts (codingOf f) map;
+      larsson-read-bytes = λ f w out starts. word-read-bytes out starts larssonRead begins-larsson (larssonCoding f) (behind-larsson f) w;
+      larsson-write-bytes = λ f. word-write-bytes (larssonCoding f);
+      larsson-cover-bytes = λ f map starts. cover-bytes starts (larssonCoding f) map;
       call-bytes = call-bytes;
       job-write-bytes = λ f. job-write-bytes (codingOf f);
       job-read-bytes = λ f. job-read-bytes (codingOf f) (judges f);
@@ -538,6 +593,8 @@ demand-one =
       step = step;
       table-conditions = simulation;
       cover-conditions = cover-conditions;
+      larsson-cover-conditions = λ f i h map. covers-least f (serve f i h) (worn map);
       read-conditions = demand-two;
       long-read-conditions = demand-two-b;
+      larsson-read-conditions = larsson-exact;
     }

@@ -17,6 +17,8 @@ use Rattle.cells.specs.Ranking.{CoversLeast}
 use Rattle.construction_a.specs.Figures.{Params}
 use Rattle.construction_a.specs.DemandTwo.{DemandTwo}
 use Rattle.construction_b.specs.DemandTwo as B
+use Rattle.larsson.specs.Codec.{LarssonExact}
+use Rattle.larsson.specs.Outcomes.{coding as larssonCoding}
 use Rattle.params.specs.declared.Figures.{Figures}
 use Rattle.params.specs.Bridge.{codingOf}
 use Rattle.jobs.specs.declared.Entry.{Entry}
@@ -48,7 +50,7 @@ use Rattle.records.specs.Session.{Session, after}
 use Rattle.lines.specs.Lines.{refusalLine, servedLine}
 use Rattle.records.specs.Records.{letterOf}
 use Rattle.transfer.specs.Steps.{Step, stopped, ended, goesOn, stepOut}
-use Rattle.demands.specs.Orders.{figuresAlone, wordWrite, covering, wordRead, rearrangement, jobWrite, jobRead, prescriptionAlone, prescriptionWrite, prescriptionRead, prescriptionLent, call, callByLetter, callOnBytes, listOfCalls}
+use Rattle.demands.specs.Orders.{figuresAlone, wordWrite, covering, wordRead, larssonRead, rearrangement, jobWrite, jobRead, prescriptionAlone, prescriptionWrite, prescriptionRead, prescriptionLent, call, callByLetter, callOnBytes, listOfCalls}
 
 -- A call whose order is given answers a; what was lent is then `left`.
 pub record AnswersBy {A : Type 0} (order : List ℕ) (a : ℕ) (lent left : A) : Type 0 where
@@ -102,6 +104,15 @@ pub record DemandOne : Type 0 where
       → AnswersBy rearrangement (interleaveUnder (codingOf f) d words out .answer) out (interleaveUnder (codingOf f) d words out .buffer)
   pub deinterleave : (f : Figures) (d : ℕ) (strip out : List ℕ)
       → AnswersBy rearrangement (deinterleaveUnder (codingOf f) d strip out .answer) out (deinterleaveUnder (codingOf f) d strip out .buffer)
+  -- ---- Words of the Larsson code
+  pub larsson-figures : (f : Params) → AnswersBy {A = Unit {0}} figuresAlone (figuresNumber (figuresUnder (larssonCoding f))) tt tt
+  pub larsson-write : (f : Params) (at : Held) (ms out : List ℕ)
+      → AnswersBy wordWrite (encodeUnder (larssonCoding f) at ms out .answer) out (encodeUnder (larssonCoding f) at ms out .word)
+  pub larsson-cover : (f : Params) (map : List ℕ)
+      → AnswersBy covering (coverUnder (larssonCoding f) map .answer) (held []) (coverUnder (larssonCoding f) map .placement)
+  pub larsson-read : (f : Params) (w out : List ℕ)
+      → AnswersBy {A = Held × List ℕ} larssonRead (answerNumber (decodeUnder (larssonCoding f) w out .answer)) (held [], out)
+      (decodeUnder (larssonCoding f) w out .placement, decodeUnder (larssonCoding f) w out .message)
   -- ---- The check of a word, under Construction A's figures; nothing that is lent to it is written
   pub verify : (f : Params) (at : Held) (ms w : List ℕ) → ChecksBy (verifyOut f at ms w)
   -- ---- The job table
@@ -140,6 +151,13 @@ pub record DemandOne : Type 0 where
   pub verify-bytes : (f : Params) (starts ms w : List ℕ) → ChecksBy (verifyBytesOut f starts ms w)
   pub cover-bytes : (f : Figures) (map starts : List ℕ)
       → AnswersBy covering (coverBytesUnder (codingOf f) map starts .answer) starts (coverBytesUnder (codingOf f) map starts .starts)
+  pub larsson-read-bytes : (f : Params) (w out starts : List ℕ)
+      → AnswersBy {A = List ℕ × List ℕ} larssonRead (exportedUnder (larssonCoding f) w out starts .answer) (out, starts)
+      (exportedUnder (larssonCoding f) w out starts .message, exportedUnder (larssonCoding f) w out starts .starts)
+  pub larsson-write-bytes : (f : Params) (starts ms out : List ℕ)
+      → AnswersBy wordWrite (encodeBytesUnder (larssonCoding f) starts ms out .answer) out (encodeBytesUnder (larssonCoding f) starts ms out .word)
+  pub larsson-cover-bytes : (f : Params) (map starts : List ℕ)
+      → AnswersBy covering (coverBytesUnder (larssonCoding f) map starts .answer) starts (coverBytesUnder (larssonCoding f) map starts .starts)
   pub call-bytes : (table : List ℕ) (letter number : ℕ)
       → AnswersBy (callOnBytes (listKind letter)) (callBytesOut table letter number .answer) table (callBytesOut table letter number .table)
   pub job-write-bytes : (f : Figures) (table starts payload out : List ℕ)
@@ -158,8 +176,11 @@ pub record DemandOne : Type 0 where
   -- ---- The transfer program
   pub step : (s : Session) (bytes : List ℕ) → StepAnswers s (letterOf bytes) (stepOut s bytes)
   -- ---- "Each number comes under its condition and under no other": those of the table as the ledger has them, 6 where no placement covers the map,
-  -- and 7, 8, 9 and 19 as the found word has them. The others' conditions are the tests in the outcomes themselves.
+  -- and 7, 8, 9, 19 and 21 as the found word has them. The others' conditions are the tests in the outcomes themselves.
   pub table-conditions : Simulation
   pub cover-conditions : (f : Figures) → codingOf f .inRange ≡ true → codingOf f .fits ≡ true → (map : List ℕ) → CoversLeast (codingOf f) (worn map)
+  pub larsson-cover-conditions : (f : Params) → larssonCoding f .inRange ≡ true → larssonCoding f .fits ≡ true → (map : List ℕ)
+      → CoversLeast (larssonCoding f) (worn map)
   pub read-conditions : DemandTwo
   pub long-read-conditions : B.DemandTwo
+  pub larsson-read-conditions : LarssonExact

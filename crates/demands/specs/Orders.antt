@@ -1,10 +1,10 @@
 -- "Orders: ..": the numbers that each call can refuse with, in document 01's order; document 02, ticket 3: 17, "itself a state refusal and ahead of the
--- others"; ticket 7: 20, "after 1"; ticket 10: 23, "after 12 and before 14", and 24, "after 12"; ticket 5: 18; ticket 6: 19; ticket 2: 16. Where lent bytes add a refusal,
+-- others"; ticket 7: 20, "after 1"; ticket 10: 23, "after 12 and before 14", and 24, "after 12"; ticket 5: 18; ticket 6: 19; ticket 8: 21; ticket 2: 16. Where lent bytes add a refusal,
 -- it stands at its place. Which of them comes first is seen in the outcomes. Assumes nothing.
 use mathlib.Core.List.{List, [], _∷_}
 use mathlib.Core.Option.{Option, none, some}
 use Prim.Native.Nat.{ℕ}
-use Rattle.refusals.specs.Refusals.{invalid, unfit, wrongLength, badSymbol, badStarts, uncovered, noPattern, valueTooLarge, disagrees, erased, badPayload, badRecord, badPrescription, badDepth, jobCancelled, alreadyOpen, notOpen, tableFull, numberZero, notCancelled, jobHeld, notHeld}
+use Rattle.refusals.specs.Refusals.{invalid, unfit, wrongLength, badSymbol, badStarts, uncovered, noPattern, valueTooLarge, disagrees, erased, noMajority, badPayload, badRecord, badPrescription, badDepth, jobCancelled, alreadyOpen, notOpen, tableFull, numberZero, notCancelled, jobHeld, notHeld}
 use Rattle.jobs.specs.Jobs.{Kind, opening, cancelling, finishing, reinstating, holding, releasing}
 
 -- "figures alone 1 2"
@@ -22,6 +22,10 @@ covering = invalid ∷ unfit ∷ wrongLength ∷ badSymbol ∷ uncovered ∷ []
 -- "word read 1 2 3 4 7 8 9", with 19 "between 7 and 8" and "after 9"
 abbrev pub wordRead : List ℕ
 wordRead = invalid ∷ unfit ∷ wrongLength ∷ badSymbol ∷ noPattern ∷ erased ∷ valueTooLarge ∷ disagrees ∷ erased ∷ []
+
+-- document 02, "The older trays": 21 "in the place of 7", and "a silent cell in the message is 19"
+abbrev pub larssonRead : List ℕ
+larssonRead = invalid ∷ unfit ∷ wrongLength ∷ badSymbol ∷ noMajority ∷ valueTooLarge ∷ disagrees ∷ erased ∷ []
 
 -- document 02, "Strips side by side": 18 "right after 2 and before 3 and 4"
 abbrev pub rearrangement : List ℕ

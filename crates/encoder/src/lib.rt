@@ -4,6 +4,7 @@ ghost use Rattle.cells.specs.Outcomes.{encodeUnder};
 ghost use Rattle.params.specs.Bridge.{codingOf};
 ghost use Rattle.params.specs.Given.{codingIn, Serves};
 ghost use Rattle.placements.specs.Bridge.{heldAs};
+use crate::may_write::may_write;
 use params::Figures;
 use params::Layout;
 use params::LayoutAnswer;
@@ -12,6 +13,7 @@ use refusals::Refusal;
 
 pub mod digits;
 mod fill;
+pub mod may_write;
 mod value;
 
 // Word write: the word of a placement and of a message of k symbols, into the lent word of n. Refusals: 1 2 3 5 4.
@@ -32,20 +34,18 @@ pub fn encode_fitting(layout: Layout, at: Placement, message: &[u8], word: &mut 
     ensures answer { λ r. ⌜ r ≡ encodeUnder (codingIn layout) (heldAs at) (now (message .entry)) (now (word .entry)) .answer ⌝ }
     ensures word { λ _. ⌜ now (word .exit) ≡ encodeUnder (codingIn layout) (heldAs at) (now (message .entry)) (now (word .entry)) .word ⌝ }
 {
-    if at.count as usize != layout.m {
-        return Refusal::LENGTH;
-    }
-    if message.len() != layout.message_len {
-        return Refusal::LENGTH;
-    }
-    if word.len() != layout.n {
-        return Refusal::LENGTH;
-    }
-    if !at.apart(layout.n as u32, layout.b as u32) {
-        return Refusal::STARTS;
-    }
-    if !symbols::all_below(message, layout.q) {
-        return Refusal::SYMBOL;
+    let refusal = may_write(
+        layout.n,
+        layout.m,
+        layout.b,
+        layout.q,
+        layout.message_len,
+        at,
+        message,
+        word.len(),
+    );
+    if refusal != Refusal::NONE {
+        return refusal;
     }
     fill::fill(layout, at, message, word);
     Refusal::NONE

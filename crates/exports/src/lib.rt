@@ -25,6 +25,7 @@ use params::Params;
 use refusals::Refusal;
 use verifier::VerifyAnswer;
 
+pub mod larsson_code;
 pub mod long;
 
 // What the check of a word answers for "no".

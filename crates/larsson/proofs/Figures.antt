@@ -14,7 +14,7 @@ use Rattle.combinatorics.proofs.Lists.{both}
 use Rattle.combinatorics.proofs.Stretch.{first-true, first-false, first-within}
 use Rattle.cells.specs.Cut.{pieceLen}
 use Rattle.cells.specs.Digits.{span}
-use Rattle.cells.proofs.Cut.{piece-zero, piece-next, piece-all, len-grows}
+use Rattle.cells.proofs.Cut.{piece-zero, piece-next, piece-all, len-grows, len-least, len-most}
 use Rattle.cells.proofs.Digits.{span-plain}
 use Rattle.construction_a.specs.Figures.{Params, inRange, placementCount, maxCount}
 use Rattle.construction_a.proofs.Figures.{Ranged, ranged, le-of}
@@ -87,11 +87,19 @@ span-room f ok = rw (span-plain (f .q) (subLen f)) (rank-room f (ok .range) (ok 
 -- ---- Where the sub-blocks stand
 
 -- "shorter first"
-pub gap-least : (f : Params) (i : ℕ) → gapLen f 0 ≤ gapLen f i
+pub gap-rises : (f : Params) (i j : ℕ) → i ≤ j → gapLen f i ≤ gapLen f j
 unfolding gapLen
-gap-least f i =
-    le-ind {n = 0} (λ (k : ℕ). pieceLen (gapTotal f) (gaps f) 0 ≤ pieceLen (gapTotal f) (gaps f) k) (omega arith)
-    (λ k _ g. omega (arith, len-grows (gapTotal f) (gaps f) k)) i (omega arith)
+gap-rises f i j l =
+    le-ind (λ (k : ℕ). pieceLen (gapTotal f) (gaps f) i ≤ pieceLen (gapTotal f) (gaps f) k) (omega arith)
+    (λ k _ g. omega (arith, len-grows (gapTotal f) (gaps f) k)) j l
+
+pub gap-least : (f : Params) (i : ℕ) → gapLen f 0 ≤ gapLen f i
+gap-least f i = gap-rises f 0 i (omega arith)
+
+-- "as equal as possible"
+pub gap-equal : (f : Params) (i j : ℕ) → gapLen f j ≤ gapLen f i + 1
+unfolding gapLen
+gap-equal f i j = omega (arith, len-most (gapTotal f) (gaps f) j, len-least (gapTotal f) (gaps f) i)
 
 -- "the first at 0"
 pub sub-first : (f : Params) → subStart f 0 ≡ 0

@@ -17,7 +17,7 @@ use Rattle.construction_a.proofs.Figures.{starts-placed}
 use Rattle.larsson.specs.Reading.{found, agrees, readValue, read}
 use Rattle.larsson.proofs.Figures.{Served}
 use Rattle.placements.specs.declared.Placement.{Placement}
-use Rattle.placements.specs.Bridge.{heldAs, startsIn, Room}
+use Rattle.placements.specs.Bridge.{heldAs, startsIn}
 use Rattle.placements.proofs.Calls.{starts-held}
 use Rattle.decoder.specs.declared.WordAnswer.{WordAnswer}
 use Rattle.decoder.specs.declared.WordAnswer.the-variants.{Accepted, Refused}
@@ -59,11 +59,6 @@ refused-in f w r a e is = subst (LocatedAs f w (r .placement) (r .kinds)) (sym e
 -- ---- The placement of a rank
 
 module _ (l : LarssonLayout) (g : Fitting l) where
-  pub room-of : Room (l .n) (l .m) (l .b)
-  room-of =
-      let ok = served l g in
-      record { short = ok .range .n-most; few = ok .range .m-most; some = ok .range .b-least; within = ok .total }
-
   module _ (v : ℕ) (below : v < placementCount (figuresOf l)) (p : Placement) (is : heldAs p ≡ held (placementOf (figuresOf l) v)) where
     pub starts-are : startsIn p ≡ placementOf (figuresOf l) v
     starts-are = starts-held {p = p} (placementOf (figuresOf l) v) is

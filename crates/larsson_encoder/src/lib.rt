@@ -1,13 +1,15 @@
-// The Larsson code's word writer: the entry point `encode`, and what fills the word. Assumes nothing.
+// The Larsson code's word writer and covering: the entry points `encode` and `cover`, and what fills the word. Assumes nothing.
 ghost use mathlib.Core.Path.{_≡_};
-ghost use Rattle.cells.specs.Outcomes.{encodeUnder};
+ghost use Rattle.cells.specs.Outcomes.{encodeUnder, coverUnder};
 ghost use Rattle.larsson.specs.Outcomes.{coding};
 ghost use Rattle.params.specs.Bridge.{given};
-ghost use Rattle.placements.specs.Bridge.{heldAs};
+ghost use Rattle.placements.specs.Bridge.{heldAs, coveredAs};
 ghost use Rattle.larsson_params.specs.Given.{figuresOf, Fitting};
+use encoder::may_write::may_write;
 use larsson_params::LarssonAnswer;
 use larsson_params::LarssonLayout;
 use params::Params;
+use placements::CoverAnswer;
 use placements::Placement;
 use refusals::Refusal;
 
@@ -31,21 +33,39 @@ pub fn encode_fitting(layout: LarssonLayout, at: Placement, message: &[u8], word
     ensures answer { λ r. ⌜ r ≡ encodeUnder (coding (figuresOf layout)) (heldAs at) (now (message .entry)) (now (word .entry)) .answer ⌝ }
     ensures word { λ _. ⌜ now (word .exit) ≡ encodeUnder (coding (figuresOf layout)) (heldAs at) (now (message .entry)) (now (word .entry)) .word ⌝ }
 {
-    if at.count as usize != layout.m {
-        return Refusal::LENGTH;
-    }
-    if message.len() != layout.message_len {
-        return Refusal::LENGTH;
-    }
-    if word.len() != layout.n {
-        return Refusal::LENGTH;
-    }
-    if !at.apart(layout.n as u32, layout.b as u32) {
-        return Refusal::STARTS;
-    }
-    if !symbols::all_below(message, layout.q) {
-        return Refusal::SYMBOL;
+    let refusal = may_write(
+        layout.n,
+        layout.m,
+        layout.b,
+        layout.q,
+        layout.message_len,
+        at,
+        message,
+        word.len(),
+    );
+    if refusal != Refusal::NONE {
+        return refusal;
     }
     fill::fill(layout, at, message, word);
     Refusal::NONE
+}
+
+// The placement of least rank whose bursts cover every defect of a map of n bytes, 1 where a position is defective and 0 elsewhere.
+// Refusals: 1 2 3 4 6.
+pub fn cover(figures: Params, map: &[u8]) -> CoverAnswer
+    ensures { λ r. ⌜ coveredAs r ≡ coverUnder (coding (given figures)) (now (map .entry)) ⌝ }
+{
+    let answer = larsson_params::figures(figures.n, figures.q, figures.m, figures.b);
+    match answer {
+        LarssonAnswer::Refused(number) => placements::unplaced(number),
+        LarssonAnswer::Fit(layout) => cover_fitting(layout, map),
+    }
+}
+
+// The same for figures that fit. Refusals: 3 4 6.
+pub fn cover_fitting(layout: LarssonLayout, map: &[u8]) -> CoverAnswer
+    requires { ⌜ Fitting layout ⌝ }
+    ensures { λ r. ⌜ coveredAs r ≡ coverUnder (coding (figuresOf layout)) (now (map .entry)) ⌝ }
+{
+    placements::cover_within(layout.n, layout.m, layout.b, map)
 }

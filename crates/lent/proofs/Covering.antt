@@ -16,14 +16,12 @@ use Rattle.combinatorics.proofs.Bursts.{rank-of-starts}
 use Rattle.cells.specs.Outcomes.{Coding, held, inUse, worn, unserved, figuresUnder, Covered, unplaced, coverUnder}
 use Rattle.cells.proofs.Outcomes.{refused-alike}
 use Rattle.construction_a.specs.Figures.{maxBursts}
-use Rattle.params.specs.declared.Layout.{Layout}
-use Rattle.params.specs.Given.{codingIn, Serves}
-use Rattle.params.proofs.Either.{in-order, numbers-in}
-use Rattle.placements.specs.Bridge.{coverable, coverWithin}
-use Rattle.placements.proofs.Calls.{room-in, cover-length, cover-symbol, cover-none, cover-some, covers-within}
+use Rattle.placements.specs.declared.CoverAnswer.{CoverAnswer}
+use Rattle.placements.specs.Bridge.{coverable, coverWithin, coveredAs as foundAs, Room}
+use Rattle.placements.proofs.Calls.{cover-length, cover-symbol, cover-none, cover-some}
 use Rattle.decoder.specs.Exported.{startBytes}
 use Rattle.lent.specs.Starts.{startsFrom, placementFrom}
-use Rattle.lent.specs.Covering.{covers, coveredAs, coverBytesUnder}
+use Rattle.lent.specs.Covering.{covers, coveredAs, coverBytesUnder, CoverFits}
 
 -- ---- The placement that is given
 
@@ -39,56 +37,56 @@ module _ (m : ℕ) (bytes : List ℕ) where
 
 -- ---- "covering 1 2 3 4 6"
 
--- 1 and 2, with the number that the figures have alone
-pub cover-bytes-unfit : (d : Coding) (map bytes : List ℕ) (a : ℕ) → figuresUnder d ≡ unserved a → coverBytesUnder d map bytes ≡ covers a bytes
-cover-bytes-unfit d map bytes a e =
-    refused-alike d a (λ x. covers x bytes)
-    (must (eqb (length bytes) (2 * d .bursts)) (covers wrongLength bytes)
-    (coveredAs bytes (coverUnder d map))) e
+module _ (d : Coding) (map bytes : List ℕ) where
+  -- 1 and 2, with the number that the figures have alone
+  pub cover-bytes-unfit : (a : ℕ) → figuresUnder d ≡ unserved a → coverBytesUnder d map bytes ≡ covers a bytes
+  cover-bytes-unfit a e =
+      refused-alike d a (λ x. covers x bytes)
+      (must (eqb (length bytes) (2 * d .bursts)) (covers wrongLength bytes)
+      (coveredAs bytes (coverUnder d map))) e
+
+  module _ (range : d .inRange ≡ true) (fit : d .fits ≡ true) where
+    -- 3, for the starts
+    pub cover-bytes-length : length bytes ≢ 2 * d .bursts → coverBytesUnder d map bytes ≡ covers wrongLength bytes
+    cover-bytes-length size = rw (range, fit, eqb-other (length bytes) (2 * d .bursts) size)
+
+    -- and what covering answers, put into the lent buffer
+    pub cover-bytes-put : length bytes ≡ 2 * d .bursts → (c : Covered) → c ≡ coverUnder d map
+        → (a : ℕ) (starts : List ℕ) → covers a starts ≡ coveredAs bytes c → covers a starts ≡ coverBytesUnder d map bytes
+    cover-bytes-put size c e a starts put =
+        let is : coverBytesUnder d map bytes ≡ coveredAs bytes (coverUnder d map) = rw (range, fit, eqb-same (length bytes) (2 * d .bursts) size) in
+        put ∙ ap (coveredAs bytes) e ∙ sym is
+
+-- the answer of covering, taken apart
+module _ (bytes : List ℕ) (c : Covered) where
+  pub covered-refused : c .answer ≢ served → covers (c .answer) bytes ≡ coveredAs bytes c
+  covered-refused a = rw (eqb-other (c .answer) served a)
+
+  pub covered-served : c .answer ≡ served → covers served (startBytes (inUse (c .placement))) ≡ coveredAs bytes c
+  covered-served a = rw (eqb-same (c .answer) served a)
 
 -- a map that is not refused has a placement of m starts
 refused-not : {P : Type 0} (c : Covered) (a : ℕ) → c ≡ unplaced (suc a) → c .answer ≡ served → P
 refused-not c a e r = absurd (let x : suc a ≡ served = sym (ap (λ (c : Covered). c .answer) e) ∙ r in omega arith)
 
-module _ (l : Layout) (g : Serves l) (map bytes : List ℕ) where
-  -- 3, for the starts
-  pub cover-bytes-length : length bytes ≢ 2 * l .m → coverBytesUnder (codingIn l) map bytes ≡ covers wrongLength bytes
-  cover-bytes-length size =
-      let order = in-order l g in
-      rw (order .0, order .1, sym (numbers-in l g .bursts-is), eqb-other (length bytes) (2 * l .m) size)
+module _ (n m b : ℕ) (room : Room n m b) (map : List ℕ) where
+  covered-count : (c : Covered) → c ≡ coverWithin n m b map → c .answer ≡ served → c .placement .count ≡ m
+  covered-count c is r =
+      by-eq (length map) n (λ _. c .placement .count ≡ m)
+      (λ size. by-bool (allBelow 2 map)
+      (λ low. by-bool (coverable n m b map)
+      (λ some. ap (λ (c : Covered). c .placement .count) (is ∙ cover-some n m b map size low some) ∙ rw some (count some))
+      (λ none. refused-not c 5 (is ∙ cover-none n m b map size low none) r))
+      (λ high. refused-not c 3 (is ∙ cover-symbol n m b map size high) r))
+      (λ other. refused-not c 2 (is ∙ cover-length n m b map other) r)
+    where
+      v : ℕ
+      v = coverRank n m b (worn map)
 
-  module _ (size : length bytes ≡ 2 * l .m) where
-    as-covered : coverBytesUnder (codingIn l) map bytes ≡ coveredAs bytes (coverUnder (codingIn l) map)
-    as-covered =
-        let order = in-order l g in
-        rw (order .0, order .1, sym (numbers-in l g .bursts-is), eqb-same (length bytes) (2 * l .m) size)
+      count : coverable n m b map ≡ true → length (startsOf n m b v) ≡ m
+      count some = rank-of-starts n m b (room .some) (room .within) v (leb-true (suc v) (placements n m b) some) .count
 
-    -- 3, 4 and 6 of the map
-    pub cover-bytes-refused : (c : Covered) → c ≡ coverUnder (codingIn l) map → c .answer ≢ served → covers (c .answer) bytes ≡ coverBytesUnder (codingIn l) map bytes
-    cover-bytes-refused c e a = sym (as-covered ∙ ap (coveredAs bytes) (sym e) ∙ rw (eqb-other (c .answer) served a))
-
-    pub cover-bytes-served : (c : Covered) → c ≡ coverUnder (codingIn l) map → c .answer ≡ served
-        → covers served (startBytes (inUse (c .placement))) ≡ coverBytesUnder (codingIn l) map bytes
-    cover-bytes-served c e a = sym (as-covered ∙ ap (coveredAs bytes) (sym e) ∙ rw (eqb-same (c .answer) served a))
-
-pub covered-count : (l : Layout) → Serves l → (map : List ℕ) (c : Covered) → c ≡ coverUnder (codingIn l) map → c .answer ≡ served → c .placement .count ≡ l .m
-covered-count l g map c e r =
-    let n = l .n in
-    let m = l .m in
-    let b = l .b in
-    let is : c ≡ coverWithin n m b map = e ∙ sym (covers-within l g map) in
-    by-eq (length map) (l .n) (λ _. c .placement .count ≡ l .m)
-    (λ size. by-bool (allBelow 2 map)
-    (λ low. by-bool (coverable (l .n) (l .m) (l .b) map)
-    (λ some. ap (λ (c : Covered). c .placement .count) (is ∙ cover-some n m b map size low some) ∙ rw some (count some))
-    (λ none. refused-not c 5 (is ∙ cover-none n m b map size low none) r))
-    (λ high. refused-not c 3 (is ∙ cover-symbol n m b map size high) r))
-    (λ other. refused-not c 2 (is ∙ cover-length n m b map other) r)
-  where
-    v : ℕ
-    v = coverRank (l .n) (l .m) (l .b) (worn map)
-
-    count : coverable (l .n) (l .m) (l .b) map ≡ true → length (startsOf (l .n) (l .m) (l .b) v) ≡ l .m
-    count some =
-        let room = room-in l g in
-        rank-of-starts (l .n) (l .m) (l .b) (room .some) (room .within) v (leb-true (suc v) (placements (l .n) (l .m) (l .b)) some) .count
+  pub cover-fits : (bytes : List ℕ) → length bytes ≡ 2 * m → (c : CoverAnswer) → foundAs c ≡ coverWithin n m b map → CoverFits c bytes
+  cover-fits bytes size c e r =
+      let count : c .placement .count ≡ m = covered-count (foundAs c) e r in
+      (omega (arith, count, room .few), omega (arith, count))

@@ -12,7 +12,7 @@ use lib.Seq.{append-snoc, length-take-le, set-at, take-all, take-suc}
 use Rattle.combinatorics.specs.Lists.{all, allBelow}
 use Rattle.combinatorics.proofs.Lists.{both}
 use Rattle.cells.specs.Bytes.{byteValues}
-use Rattle.construction_a.specs.Figures.{maxBursts}
+use Rattle.construction_a.specs.Figures.{Params, maxBursts, inRange}
 use Rattle.construction_a.specs.Outcomes.{held}
 use Rattle.construction_a.proofs.Figures.{ranged}
 use Rattle.params.specs.declared.Figures.{Figures}
@@ -83,6 +83,9 @@ begun-all ss m e = rw (e, take-all m ss (omega arith))
 
 -- ---- How many: figures in range have a burst, and no more than a placement holds
 
+pub as-many : (f : Params) → inRange f ≡ true → (1 ≤ f .m) × (f .m ≤ maxBursts)
+as-many f i = let r = ranged f i in (r .m-least, r .m-most)
+
 pub some-bursts : (f : Figures) → codingOf f .inRange ≡ true → (1 ≤ codingOf f .bursts) × (codingOf f .bursts ≤ maxBursts)
-some-bursts (Ranked p) i = let r = ranged (given p) i in (r .m-least, r .m-most)
+some-bursts (Ranked p) i = as-many (given p) i
 some-bursts (Long p) i = (omega arith, omega arith)

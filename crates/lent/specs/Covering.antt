@@ -1,12 +1,14 @@
 -- What covering answers a program in another language, and what the lent starts hold afterwards, for every input. Assumes nothing.
+use mathlib.Core.Path.{_≡_}
 use mathlib.Core.List.{List}
-use Prim.Native.Nat.{ℕ, _*_}
+use Prim.Native.Nat.{ℕ, _*_, _≤_}
 use lib.Dec.{eqb}
 use lib.ListN.{length}
 use Rattle.refusals.specs.Refusals.{must, served, invalid, unfit, wrongLength}
-use Rattle.cells.specs.Outcomes.{Coding, inUse, Covered, coverUnder}
+use Rattle.cells.specs.Outcomes.{Coding, maxBursts, inUse, Covered, coverUnder}
 use Rattle.construction_a.specs.Figures.{Params}
 use Rattle.construction_a.specs.Outcomes.{coding}
+use Rattle.placements.specs.declared.CoverAnswer.{CoverAnswer}
 use Rattle.decoder.specs.Exported.{startBytes}
 
 -- "covering 1 2 3 4 6", where 3 stands for the buffer of starts too
@@ -28,6 +30,10 @@ coverBytesUnder d map bytes =
     (must (d .fits) (covers unfit bytes)
     (must (eqb (length bytes) (2 * d .bursts)) (covers wrongLength bytes)
     (coveredAs bytes (coverUnder d map))))
+
+-- two bytes for each start of a placement that covers the map
+abbrev pub CoverFits : CoverAnswer → List ℕ → Type 0
+CoverFits c bytes = c .answer ≡ served → (c .placement .count ≤ maxBursts) × (length bytes ≡ 2 * c .placement .count)
 
 -- of Construction A
 unfoldable pub coverBytesOut : Params → List ℕ → List ℕ → CoverLent

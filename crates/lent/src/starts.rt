@@ -2,15 +2,16 @@
 ghost use mathlib.Core.Path.{_≡_};
 ghost use Rattle.params.specs.Bridge.{codingOf};
 ghost use Rattle.params.specs.Given.{codingIn, Serves};
-ghost use Rattle.placements.specs.Bridge.{heldAs};
+ghost use Rattle.placements.specs.Bridge.{heldAs, coveredAs as foundAs};
 ghost use Rattle.lent.specs.Starts.{placementFrom};
-ghost use Rattle.lent.specs.Covering.{covers, coverBytesUnder};
+ghost use Rattle.lent.specs.Covering.{covers, coveredAs, coverBytesUnder, CoverFits};
 use decoder::starts;
 use params::Figures;
 use params::Layout;
 use params::LayoutAnswer;
 use params::Params;
 use params::bytes::BYTE_VALUES;
+use placements::CoverAnswer;
 use placements::Placement;
 use refusals::Refusal;
 
@@ -66,6 +67,14 @@ fn cover_laid(layout: Layout, map: &[u8], bytes: &mut [u8]) -> u8
         return Refusal::LENGTH;
     }
     let found = placements::cover_fitting(layout, map);
+    put_covered(found, bytes)
+}
+
+// What covering answered, under any figures: its number, and the placement that covers the map as bytes.
+pub fn put_covered(found: CoverAnswer, bytes: &mut [u8]) -> u8
+    requires { ⌜ CoverFits found (now bytes) ⌝ }
+    ensures { λ r. ⌜ covers r (now (bytes .exit)) ≡ coveredAs (now (bytes .entry)) (foundAs found) ⌝ }
+{
     if found.answer != Refusal::NONE {
         return found.answer;
     }

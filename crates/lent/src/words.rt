@@ -12,7 +12,7 @@ use params::LayoutAnswer;
 use params::bytes;
 
 // A length that no message and no payload has.
-const NO_LENGTH: u32 = 4294967295;
+pub const NO_LENGTH: u32 = 4294967295;
 
 // How many symbols a message has; NO_LENGTH for figures that are refused.
 pub fn message_len(figures: Figures) -> u32

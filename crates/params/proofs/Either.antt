@@ -5,7 +5,6 @@ use mathlib.Core.List.{List}
 use Prim.Native.Nat.{ℕ, _≤_}
 use native.Mathlib.Omega.{arith}
 use Rattle.combinatorics.specs.Bursts.{apart}
-use Rattle.combinatorics.specs.Lists.{allBelow}
 use Rattle.cells.specs.Outcomes.{Coding, unserved, figuresUnder}
 use Rattle.cells.proofs.Outcomes.{figured-fits}
 use Rattle.construction_a.specs.Figures.{messageLen}
@@ -92,12 +91,9 @@ module _ (l : Layout) where
             len-is = g .laid .len-is;
           }
 
-  -- tests of starts and of symbols, by the layout's own numbers
+  -- the test of starts, by the layout's own numbers
   pub apart-in : Serves l → (ss : List ℕ) → apart (codingIn l .burstLen) (codingIn l .codec .wordLen) 0 ss ≡ apart (l .b) (l .n) 0 ss
   apart-in g ss = let is = numbers-in g in sym (ap₂ (λ (b n : ℕ). apart b n 0 ss) (is .burst-is) (is .word-is))
-
-  pub below-in : Serves l → (ms : List ℕ) → allBelow (codingIn l .codec .alphabet) ms ≡ allBelow (l .q) ms
-  below-in g ms = sym (ap (λ (q : ℕ). allBelow q ms) (numbers-in g .alphabet-is))
 
 long-same : {f : LongParams} {n q b : ℕ} → n ≡ f .n → q ≡ f .q → b ≡ f .b → longParams n q b ≡ f
 long-same e₁ e₂ e₃ = rw (e₁, e₂, e₃)

@@ -50,7 +50,7 @@ cover-unfit d map a e =
     (record { answer = served; placement = held (startsOf n (d .bursts) (d .burstLen) v) })))) e
 
 -- the cover that is given, where there is one
-by-cover : (n m b : ℕ) (map : List ℕ) → coverWithin n m b map
+pub by-cover : (n m b : ℕ) (map : List ℕ) → coverWithin n m b map
     ≡ must (eqb (length map) n) (unplaced wrongLength)
     (must (allBelow 2 map) (unplaced badSymbol)
     (must (coverable n m b map) (unplaced uncovered)

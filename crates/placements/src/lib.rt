@@ -198,7 +198,7 @@ pub fn cover_within(n: usize, m: usize, b: usize, map: &[u8]) -> CoverAnswer
 }
 
 // A refusal, with no placement.
-fn unplaced(number: u8) -> CoverAnswer
+pub fn unplaced(number: u8) -> CoverAnswer
     ensures { λ r. ⌜ coveredAs r ≡ unplacedAs number ⌝ }
 {
     CoverAnswer {

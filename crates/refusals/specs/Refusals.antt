@@ -13,7 +13,8 @@ served = 0
 abbrev pub invalid : ℕ
 invalid = 1
 
--- "2: figures don't fit."
+-- "2: figures don't fit." Document 02, ticket 8: "Runs and sub-blocks must each fit in n, and b is at most the shortest gap plus 1, else 2"; ticket 9: "Both
+-- layouts must fit, else 2"
 abbrev pub unfit : ℕ
 unfit = 2
 
@@ -41,11 +42,11 @@ noPattern = 7
 abbrev pub valueTooLarge : ℕ
 valueTooLarge = 8
 
--- "9: the placement disagrees with the I- or F-blocks."
+-- "9: the placement disagrees with the I- or F-blocks." Document 02, ticket 8: "a placement whose first m + 1 untouched sub-blocks don't all hold it is 9"
 abbrev pub disagrees : ℕ
 disagrees = 9
 
--- "10: K below 5, a byte's symbols spelling 256 or more, or a leftover symbol not 0."
+-- "10: K below 5, a byte's symbols spelling 256 or more, or a leftover symbol not 0." Document 02, ticket 9: "both payloads have 5 bytes or more, else 10"
 abbrev pub badPayload : ℕ
 badPayload = 10
 

@@ -1,3 +1,4 @@
+pub mod Room
 pub mod Bearing
 pub mod Voting
 pub mod Holding

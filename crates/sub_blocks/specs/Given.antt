@@ -18,6 +18,7 @@ pub record Bearing (l : LarssonLayout) (at : Placement) : Type 0 where
   pub count : at .count ≡ l .m
   pub some : 0 < l .«sub_len»
 
--- an array that has the kind of each sub-block: an index block where it bears the rank, else a burst block
+-- an array that has the kind of each sub-block: an index block where it bears the rank. Every other, touched by a run or not, is walked as a burst block:
+-- it has no head cells (`headCells`), and what no run has of it holds the message
 abbrev pub BearersOf : Params → List ℕ → List ℕ → Type 0
 BearersOf f ss kinds = (i : ℕ) → i < subBlocks f → getD kinds i 0 ≡ cond (bears f ss i) indexKind burstKind

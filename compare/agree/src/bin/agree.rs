@@ -5,19 +5,20 @@ use std::process::ExitCode;
 use std::time::Instant;
 
 use agree::judge::Judge;
-use agree::make::{figures, long_figures};
+use agree::make::{figures, larsson_figures, long_figures};
 use agree::orders::Tray;
 use agree::rng::Rng;
 use agree::{
-    calls, eyes, former, grid, jobs, lanes, lengths, long, prescriptions, strips, torics, words,
+    calls, eyes, former, grid, jobs, lanes, larsson, lengths, long, prescriptions, strips, torics,
+    words,
 };
 use second::lanes::MAX_DEPTH;
 
 const GATE_SEED: u64 = 1996;
 const GATE_ROUNDS: u64 = 30_000;
 const GATE_WORDS: u64 = 200_000;
-/// One round in so many is made with Construction B's figures too.
-const LONG: u64 = 6;
+/// One round in so many is made with Construction B's figures and the Larsson code's too.
+const OTHERS: u64 = 6;
 
 fn main() -> ExitCode {
     let args: Vec<String> = std::env::args().skip(1).collect();
@@ -56,17 +57,20 @@ fn run(rounds: u64, seed: u64, long: bool) -> ExitCode {
     torics::payload_lengths(&mut judge, &mut rng, true);
     torics::every_toric(&mut judge, &mut rng);
     long::run(&mut judge, &mut rng);
+    larsson::run(&mut judge, &mut rng);
     let powers = eyes::odd();
     for round in 0..rounds {
         strip_round(&mut judge, &mut rng, false, &powers);
-        if round % LONG == 0 {
+        if round % OTHERS == 0 {
             strip_round(&mut judge, &mut rng, true, &powers);
+            let larsson = larsson_figures(&mut rng);
+            words::round(&mut judge, &mut rng, larsson);
         }
         calls::single(&mut judge, &mut rng);
         if round % 16 == 0 {
-            let (short, long) = (figures(&mut rng), long_figures(&mut rng));
-            words::end_ranks(&mut judge, &mut rng, short);
-            words::end_ranks(&mut judge, &mut rng, long);
+            for f in [figures, long_figures, larsson_figures].map(|any| any(&mut rng)) {
+                words::end_ranks(&mut judge, &mut rng, f);
+            }
             words::wrapped_values(&mut judge, &mut rng);
             calls::list(&mut judge, &mut rng);
             for f in [figures(&mut rng), long_figures(&mut rng)] {

@@ -1,122 +1,62 @@
--- `encode_fitting` meets its contract, refusal by refusal. Assumes nothing.
-use mathlib.Core.Path.{_≡_, sym, ap, _∙_}
-use mathlib.Core.Bool.{true, false}
-use native.Mathlib.Omega.{arith}
+-- `encode_fitting` meets its contract: the tests refuse, or the word is filled. Assumes nothing.
+use mathlib.Core.Path.{_≡_, sym, _∙_}
+use Prim.Native.Nat.{ℕ}
 use borrow.Author.Needs.{needs}
-use borrow.Author.Tests.{not-true, not-false}
 use lib.ListN.{length}
-use Rattle.combinatorics.specs.Bursts.{apart}
+use Rattle.refusals.specs.Refusals.{served}
 use Rattle.cells.specs.Outcomes.{maxBursts}
 use Rattle.params.specs.Given.{codingIn}
-use Rattle.params.specs.declared.Layout.{Layout}
-use Rattle.params.proofs.Either.{in-shape, in-order, numbers-in, apart-in, below-in}
-use Rattle.params.proofs.Shape.{bound, long}
-use Rattle.placements.specs.Bridge.{heldAs, startsIn}
+use Rattle.params.proofs.Either.{in-shape, in-order, numbers-in}
+use Rattle.params.proofs.Shape.{long}
+use Rattle.placements.specs.Bridge.{heldAs}
+use Rattle.placements.proofs.Calls.{room-in}
 use Rattle.placements.proofs.Placing.{placing-of}
-use Rattle.encoder.proofs.Outcomes.{told, encode-count, encode-message, encode-word, encode-starts, encode-symbol, encode-served}
+use Rattle.encoder.specs.MayWrite.{writeNumber}
+use Rattle.encoder.proofs.MayWrite.{number-same, unrefused, numberUnder, encode-refused, encode-unrefused}
+use Rattle.encoder.proofs.Outcomes.{told}
 use Rattle.encoder.proofs.encode_fitting.Statement.{statement}
 use Rattle.encoder.proofs.encode_fitting.Tie as tie
 
-abbrev l : tie.Start → Layout
-l s = s .args .layout
+-- the tests go by the layout's numbers, which are those that its figures give
+number-in : (s : tie.Start) → (r : ℕ)
+    → r ≡ writeNumber (s .args .layout .n) (s .args .layout .m) (s .args .layout .b) (s .args .layout .q) (s .args .layout .«message_len») (heldAs (s .args .at)) (s .args .message .now) (length (s .args .word .now))
+    → r ≡ numberUnder (codingIn (s .args .layout)) (heldAs (s .args .at)) (s .args .message .now) (s .args .word .now) (in-order (s .args .layout) (s .pre) .0) (in-order (s .args .layout) (s .pre) .1)
+number-in s r e =
+    let is = numbers-in (s .args .layout) (s .pre) in
+    e ∙ number-same (heldAs (s .args .at)) (s .args .message .now) (length (s .args .word .now)) (is .word-is) (is .bursts-is) (is .burst-is) (is .alphabet-is) (is .len-is)
 
-cast-if1 : tie.Need-cast-if1
-cast-if1 c = search needs
+may-write-requires : tie.Need-may-write-requires
+may-write-requires c κs =
+    let s = c .before .before in
+    (room-in (s .args .layout) (s .pre), long (s .args .layout) (in-shape (s .args .layout) (s .pre)))
 
 returns : tie.Need-returns
 returns c =
-    let s = c .before .before .before .before .before in
-    let ok = in-order (l s) (s .pre) in
-    let is = numbers-in (l s) (s .pre) in
-    told _ _ (encode-count (codingIn (l s)) (heldAs (s .args .at)) (s .args .message .now) (s .args .word .now) (ok .0) (ok .1) (λ e. c .if1 .taken (e ∙ sym (is .bursts-is))))
-
-returns-2 : tie.Need-returns-2
-returns-2 c =
-    let s = c .before .before .before .before .before .before .before in
-    let ok = in-order (l s) (s .pre) in
-    let is = numbers-in (l s) (s .pre) in
-    told _ _ (encode-message (codingIn (l s)) (heldAs (s .args .at)) (s .args .message .now) (s .args .word .now) (ok .0) (ok .1) (c .before .before .if1 .left ∙ is .bursts-is) (λ e. c .if2 .taken (e ∙ sym (is .len-is))))
-
-returns-3 : tie.Need-returns-3
-returns-3 c =
-    let s = c .before .before .before .before .before .before .before .before .before in
-    let ok = in-order (l s) (s .pre) in
-    let is = numbers-in (l s) (s .pre) in
-    told _ _ (encode-word (codingIn (l s)) (heldAs (s .args .at)) (s .args .message .now) (s .args .word .now) (ok .0) (ok .1) (c .before .before .before .before .if1 .left ∙ is .bursts-is) (c .before .before .if2 .left ∙ is .len-is) (λ e. c .if3 .taken (e ∙ sym (is .word-is))))
-
-cast-apart : tie.Need-cast-apart
-cast-apart c = let s = c .before .before .before .before .before .before .before .before .before .before in omega (arith, bound (l s) (in-shape (l s) (s .pre)) .n-most)
-
-cast-apart-2 : tie.Need-cast-apart-2
-cast-apart-2 c =
-    let s = c .before .before .before .before .before .before .before .before .before .before .before in
-    omega (arith, bound (l s) (in-shape (l s) (s .pre)) .n-most, long (l s) (in-shape (l s) (s .pre)))
-
-apart-requires : tie.Need-apart-requires
-apart-requires c κs =
-    let s = c .before .before .before .before .before .before .before .before .before .before .before in
-    omega (arith, bound (l s) (in-shape (l s) (s .pre)) .m-most, c .before .before .before .before .before .before .if1 .left)
-
-returns-4 : tie.Need-returns-4
-returns-4 c =
-    let s = c .before .before .before .before .before .before .before .before .before .before .before .before .before in
-    let ok = in-order (l s) (s .pre) in
-    let is = numbers-in (l s) (s .pre) in
-    told _ _ (encode-starts (codingIn (l s)) (heldAs (s .args .at)) (s .args .message .now) (s .args .word .now) (ok .0) (ok .1) (c .before .before .before .before .before .before .before .before .if1 .left ∙ is .bursts-is) (c .before .before .before .before .before .before .if2 .left ∙ is .len-is) (c .before .before .before .before .if3 .left ∙ is .word-is)
-    (apart-in (l s) (s .pre) (startsIn (s .args .at)) ∙ sym (c .before .apart .ensures) ∙ not-true _ (c .if4 .taken)))
-
-all-below-requires : tie.Need-all-below-requires
-all-below-requires c κs = search needs
-
-returns-5 : tie.Need-returns-5
-returns-5 c =
-    let s = c .before .before .before .before .before .before .before .before .before .before .before .before .before .before .before in
-    let ok = in-order (l s) (s .pre) in
-    let is = numbers-in (l s) (s .pre) in
-    told _ _ (encode-symbol (codingIn (l s)) (heldAs (s .args .at)) (s .args .message .now) (s .args .word .now) (ok .0) (ok .1) (c .before .before .before .before .before .before .before .before .before .before .if1 .left ∙ is .bursts-is) (c .before .before .before .before .before .before .before .before .if2 .left ∙ is .len-is) (c .before .before .before .before .before .before .if3 .left ∙ is .word-is)
-    (apart-in (l s) (s .pre) (startsIn (s .args .at)) ∙ sym (c .before .before .before .apart .ensures) ∙ not-false _ (c .before .before .if4 .left))
-    (below-in (l s) (s .pre) (s .args .message .now) ∙ sym (c .before .all-below .ensures) ∙ not-true _ (c .if5 .taken)))
+    let s = c .before .before .before .before in
+    let ok = in-order (s .args .layout) (s .pre) in
+    told _ _ (encode-refused (codingIn (s .args .layout)) (heldAs (s .args .at)) (s .args .message .now) (s .args .word .now) (ok .0) (ok .1) (c .before .may-write .result)
+    (number-in s (c .before .may-write .result) (c .before .may-write .ensures)) (c .if1 .taken))
 
 fill-requires : tie.Need-fill-requires
 fill-requires c κs =
-    let s = c .before .before .before .before .before .before .before .before .before .before .before .before .before .before .before .before in
+    let s = c .before .before .before .before .before in
+    let l = s .args .layout in
     let sized : length (s .args .at .starts) ≡ maxBursts = search needs in
-    let valid : apart (l s .b) (l s .n) 0 (startsIn (s .args .at)) ≡ true = sym (c .before .before .before .before .apart .ensures) ∙ not-false _ (c .before .before .before .if4 .left) in (
-      s .pre,
-      record {
-        placing = placing-of (l s) (s .args .at) sized (in-shape (l s) (s .pre)) (c .before .before .before .before .before .before .before .before .before .before .before .if1 .left) valid;
-        sent = c .before .before .before .before .before .before .before .before .before .if2 .left;
-        room = c .before .before .before .before .before .before .before .if3 .left;
-      },
-    )
+    let u = unrefused (l .n) (l .m) (l .b) (l .q) (l .«message_len») (heldAs (s .args .at)) (s .args .message .now) (length (s .args .word .now)) (sym (c .before .before .may-write .ensures) ∙ c .before .if1 .left) in
+    (s .pre, record { placing = placing-of l (s .args .at) sized (in-shape l (s .pre)) (u .count) (u .placed); sent = u .sent; room = u .room })
 
 same-length : tie.Need-same-length
 same-length c = search needs
 
-returns-6 : tie.Need-returns-6
-returns-6 c =
-    let s = c .before .before .before .before .before .before .before .before .before .before .before .before .before .before .before .before .before .before .before in
-    let ok = in-order (l s) (s .pre) in
-    let is = numbers-in (l s) (s .pre) in
-    let e = encode-served (codingIn (l s)) (heldAs (s .args .at)) (s .args .message .now) (s .args .word .now) (ok .0) (ok .1) (c .before .before .before .before .before .before .before .before .before .before .before .before .before .before .if1 .left ∙ is .bursts-is) (c .before .before .before .before .before .before .before .before .before .before .before .before .if2 .left ∙ is .len-is) (c .before .before .before .before .before .before .before .before .before .before .if3 .left ∙ is .word-is)
-    (apart-in (l s) (s .pre) (startsIn (s .args .at)) ∙ sym (c .before .before .before .before .before .before .before .apart .ensures) ∙ not-false _ (c .before .before .before .before .before .before .if4 .left))
-    (below-in (l s) (s .pre) (s .args .message .now) ∙ sym (c .before .before .before .before .before .all-below .ensures) ∙ not-false _ (c .before .before .before .before .if5 .left)) in
+returns-2 : tie.Need-returns-2
+returns-2 c =
+    let s = c .before .before .before .before .before .before .before .before in
+    let ok = in-order (s .args .layout) (s .pre) in
+    let m = c .before .before .before .before .before .may-write in
+    let e =
+    encode-unrefused (codingIn (s .args .layout)) (heldAs (s .args .at)) (s .args .message .now) (s .args .word .now) (ok .0) (ok .1)
+    (sym (number-in s (m .result) (m .ensures)) ∙ c .before .before .before .before .if1 .left) in
     (told _ _ e .0, c .before .before .fill .ensures ∙ told _ _ e .1)
 
 pub encode-fitting-spec : {M : Type 1} → statement M
-encode-fitting-spec =
-    tie.close
-    (tie.spec
-    cast-if1
-    returns
-    returns-2
-    returns-3
-    cast-apart
-    cast-apart-2
-    apart-requires
-    returns-4
-    all-below-requires
-    returns-5
-    fill-requires
-    same-length
-    returns-6)
+encode-fitting-spec = tie.close (tie.spec may-write-requires returns fill-requires same-length returns-2)

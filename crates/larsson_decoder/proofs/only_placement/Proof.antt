@@ -10,7 +10,7 @@ use Rattle.placements.specs.Bridge.{heldAs}
 use Rattle.larsson_params.specs.declared.LarssonLayout.{LarssonLayout}
 use Rattle.larsson_params.specs.Given.{figuresOf}
 use Rattle.larsson_params.proofs.Shape.{served, bound, long}
-use Rattle.larsson_decoder.proofs.Locating.{room-of}
+use Rattle.sub_blocks.proofs.Room.{room-of}
 use Rattle.larsson_decoder.proofs.Reading.{read-whole}
 use Rattle.larsson_decoder.proofs.only_placement.Statement.{statement}
 use Rattle.larsson_decoder.proofs.only_placement.Tie as tie

@@ -13,7 +13,8 @@ use Rattle.larsson_params.specs.declared.LarssonLayout.{LarssonLayout}
 use Rattle.larsson_params.specs.Given.{figuresOf, Fitting}
 use Rattle.larsson_params.proofs.Shape.{served, bound, long}
 use Rattle.sub_blocks.specs.Given.{BearersOf}
-use Rattle.larsson_decoder.proofs.Locating.{disagreeing, agreeing, refused-in, room-of, starts-are, bearing, located}
+use Rattle.sub_blocks.proofs.Room.{room-of}
+use Rattle.larsson_decoder.proofs.Locating.{disagreeing, agreeing, refused-in, starts-are, bearing, located}
 use Rattle.larsson_decoder.proofs.locate.locate_rank.Statement.{statement}
 use Rattle.larsson_decoder.proofs.locate.locate_rank.Tie as tie
 

@@ -4,6 +4,7 @@ use borrow.Author.Needs.{needs}
 use Rattle.params.specs.Bridge.{codingOf}
 use Rattle.cells.specs.Outcomes.{Held, encodeUnder}
 use Rattle.placements.specs.Bridge.{heldAs}
+use Rattle.lent.proofs.StartLaws.{some-bursts}
 use Rattle.lent.proofs.WithTable.{all-told}
 use Rattle.lent.proofs.WordLaws.{encode-bytes}
 use Rattle.lent.proofs.words.encode.Statement.{statement}
@@ -25,7 +26,7 @@ returns c =
     let call = c .before .before .encode in
     all-told (encodeUnder f (heldAs (c .before .before .before .before .placement-under .result)) (a .message .now) (a .word .now)) (call .ensures .1) (call .ensures .0)
     ∙ ap (λ (h : Held). encodeUnder f h (a .message .now) (a .word .now)) (c .before .before .before .before .placement-under .ensures)
-    ∙ encode-bytes (a .figures) (a .starts .now) (a .message .now) (a .word .now)
+    ∙ encode-bytes f (some-bursts (a .figures)) (a .starts .now) (a .message .now) (a .word .now)
 
 pub encode-spec : {M : Type 1} → statement M
 encode-spec =

@@ -1,23 +1,18 @@
 -- `payload_len` meets its contract. Assumes nothing.
 use mathlib.Core.Path.{_≡_, sym, ap, _∙_}
 use mathlib.Core.Bool.{true}
-use Prim.Native.Nat.{ℕ, _≤_}
-use native.Mathlib.Nat.{div-le-self}
+use Prim.Native.Nat.{ℕ}
 use native.Mathlib.Omega.{arith}
 use borrow.Author.Needs.{needs}
-use Rattle.cells.specs.Bytes.{byteWidth, payloadLen}
+use Rattle.cells.specs.Bytes.{payloadLen}
 use Rattle.params.specs.Answer.{figuredAs, HasNumbers, Small}
 use Rattle.params.specs.Bridge.{codingOf}
 use Rattle.params.specs.declared.Figures.{Figures}
 use Rattle.params.proofs.Either.{laid-learnt}
 use Rattle.lent.specs.Words.{payloadLenIn, payloadLenUnder}
+use Rattle.lent.proofs.WordLaws.{payload-short}
 use Rattle.lent.proofs.words.payload_len.Statement.{statement}
 use Rattle.lent.proofs.words.payload_len.Tie as tie
-
--- no payload is longer than its message
-short : (q k : ℕ) → payloadLen q k ≤ k
-unfolding payloadLen
-short q k = div-le-self k (byteWidth q)
 
 abbrev f : tie.Start → Figures
 f s = s .args .figures
@@ -47,7 +42,7 @@ cast-result : tie.Need-cast-result
 cast-result c =
     let l = c .before .before .answer .given .0 .0 in
     let known = learnt (c .before) in
-    omega (arith, c .payload-len .ensures, short (l .q) (l .«message_len»), known .2 .len-is, known .3 .message-most, known .3 .word-most)
+    omega (arith, c .payload-len .ensures, payload-short (l .q) (l .«message_len»), known .2 .len-is, known .3 .message-most, known .3 .word-most)
 
 returns : tie.Need-returns
 unfolding payloadLenUnder
