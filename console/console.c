@@ -17,6 +17,12 @@
  *
  *     console larsson N Q M B WORD e.g. console larsson 15 256 1 2 060000000741FFFF42434445464706
  *
+ * The words move-to-a and move-to-larsson before the figures print the strip that a job is moved to: from an older tray's strip to one of Construction A, or
+ * back. The job table is as for a prescription.
+ *
+ *     console move-to-a N Q M B WORD JOB        e.g. console move-to-a 15 256 1 2 060000000741FFFF42434445464706 7
+ *     console move-to-larsson N Q M B WORD JOB  e.g. console move-to-larsson 15 256 1 2 000000000741FFFF42430744454647 7
+ *
  * Exit status: 0 for a word that is accepted, 1 for one that is refused, 2 for a call that can't be understood.
  */
 #include "burgzemi.h"
@@ -45,6 +51,8 @@ static const char *refusal_text(unsigned answer)
     case BURGZEMI_NOT_OPEN: return "the strip of another job";
     case BURGZEMI_PRESCRIPTION: return "the job's text is no prescription";
     case BURGZEMI_ERASED: return "a silent cell where a symbol is needed";
+    case BURGZEMI_SURPLUS: return "bytes that have no room on the other strip";
+    case BURGZEMI_NUMBER_ZERO: return "job number 0 is no job";
     default: return "an unlisted number";
     }
 }
@@ -52,7 +60,8 @@ static const char *refusal_text(unsigned answer)
 static int usage(const char *what)
 {
     fprintf(stderr, "console: %s\nusage: console N Q M B WORD [JOB], where WORD has two hex digits for each symbol, and M is L for one long burst\n"
-                    "       console larsson N Q M B WORD, for the older trays\n", what);
+                    "       console larsson N Q M B WORD, for the older trays\n"
+                    "       console move-to-a|move-to-larsson N Q M B WORD JOB, between these and Construction A\n", what);
     return 2;
 }
 
@@ -91,15 +100,21 @@ static int symbols(const char *hex, uint8_t *word)
     return (int)(digits / 2);
 }
 
+static void print_symbols(const char *what, const uint8_t *symbols, size_t len)
+{
+    printf("%s ", what);
+    for (size_t i = 0; i < len; i++)
+        printf("%02X", symbols[i]);
+    printf("\n");
+}
+
 static void print_accepted(const uint8_t *starts, size_t starts_len, const uint8_t *message, size_t message_len)
 {
     printf("starts");
     for (size_t i = 0; i < starts_len; i += 2)
         printf(" %u", 256u * starts[i] + starts[i + 1]);
-    printf("\nmessage ");
-    for (size_t i = 0; i < message_len; i++)
-        printf("%02X", message[i]);
     printf("\n");
+    print_symbols("message", message, message_len);
 }
 
 /* The positions of cells without a reading; a line only where there are any. */
@@ -205,20 +220,48 @@ static unsigned read_word(struct figures f, const uint8_t *word, size_t word_len
     return answer;
 }
 
+/* A function that moves a job's strip to the other code. */
+typedef uint8_t move_function(uint32_t n, uint32_t q, uint32_t m, uint32_t b, const uint8_t *table, size_t table_len, const uint8_t *strip, size_t strip_len,
+                              uint8_t *moved, size_t moved_len);
+
+/* The function that a word before the figures asks for; NULL for every other word. */
+static move_function *moving(const char *text)
+{
+    if (strcmp(text, "move-to-a") == 0) return burgzemi_move_to_a;
+    if (strcmp(text, "move-to-larsson") == 0) return burgzemi_move_to_larsson;
+    return NULL;
+}
+
+static unsigned move_strip(move_function *move, struct figures f, const uint8_t *strip, size_t strip_len, uint32_t job)
+{
+    static uint8_t moved[BURGZEMI_MAX_WORD];
+    uint8_t table[BURGZEMI_TABLE_LEN];
+
+    open_alone(table, job);
+    /* A longer word is refused by its figures, whatever the buffers are. */
+    size_t moved_len = f.n <= BURGZEMI_MAX_WORD ? f.n : 0;
+    unsigned answer = move(f.n, f.q, f.m, f.b, table, sizeof table, strip, strip_len, moved, moved_len);
+    if (answer == BURGZEMI_SERVED)
+        print_symbols("moved", moved, moved_len);
+    return answer;
+}
+
 int main(int argc, char **argv)
 {
     static uint8_t word[MAX_SYMBOLS];
     struct figures f = {.m = 1};
     uint32_t job = 0;
+    move_function *move = argc > 1 ? moving(argv[1]) : NULL;
 
-    if (argc > 1 && strcmp(argv[1], "larsson") == 0) {
+    if (argc > 1 && strcmp(argv[1], "larsson") == 0)
         f.code = LARSSON;
+    if (f.code == LARSSON || move != NULL) {
         argc--;
         argv++;
     }
-    if (argc != 6 && (argc != 7 || f.code == LARSSON))
-        return usage("four figures and a word are wanted, and a job number may follow but for the older trays");
-    if (f.code != LARSSON && strcmp(argv[3], "L") == 0)
+    if (move != NULL ? argc != 7 : argc != 6 && (argc != 7 || f.code == LARSSON))
+        return usage("four figures and a word are wanted; a job number follows to move it, and may follow but for the older trays");
+    if (f.code != LARSSON && move == NULL && strcmp(argv[3], "L") == 0)
         f.code = CONSTRUCTION_B;
     if (!figure(argv[1], &f.n) || !figure(argv[2], &f.q) || !(f.code == CONSTRUCTION_B || figure(argv[3], &f.m)) || !figure(argv[4], &f.b))
         return usage("a figure is no number of 32 bits");
@@ -228,7 +271,8 @@ int main(int argc, char **argv)
     if (argc == 7 && !figure(argv[6], &job))
         return usage("the job is no number of 32 bits");
 
-    unsigned answer = argc == 7 ? read_prescription(f, word, (size_t)len, job) : read_word(f, word, (size_t)len);
+    unsigned answer = move != NULL ? move_strip(move, f, word, (size_t)len, job)
+                    : argc == 7 ? read_prescription(f, word, (size_t)len, job) : read_word(f, word, (size_t)len);
     if (answer != BURGZEMI_SERVED)
         printf("refused %u: %s\n", answer, refusal_text(answer));
     print_silent(word, (size_t)len, f.q);

@@ -1,5 +1,6 @@
-/* Calls the functions of libexports.a on document 01's bench strips, its transfer example, on prescriptions, on strips with one long burst and on those of the
- * older trays, and sees that each refusal comes in its place and leaves every buffer as it was. Ends with 0 where all is right. */
+/* Calls the functions of libexports.a on document 01's bench strips, its transfer example, on prescriptions, on strips with one long burst, on those of the
+ * older trays and on moves between these and Construction A, and sees that each refusal comes in its place and leaves every buffer as it was. Ends with 0
+ * where all is right. */
 #include "burgzemi.h"
 
 #include <stdio.h>
@@ -1093,6 +1094,186 @@ static void larsson_maps(void)
 #undef COVER
 }
 
+/* ---- Moves between the older trays and Construction A */
+
+/* A move of a strip of at most 24 cells: the moved strip, or the refusal with its buffer as it was. The strip and the table stay as they were. */
+static void move(const char *what, unsigned wanted, int to_a, uint32_t n, uint32_t q, uint32_t m, uint32_t b, const uint8_t *table, size_t table_len,
+                 const uint8_t *strip, size_t strip_len, size_t moved_len, const uint8_t *expected)
+{
+    uint8_t moved[24], kept[24], strip_before[24], table_before[BURGZEMI_TABLE_LEN];
+    memcpy(moved, untouched, sizeof moved);
+    memcpy(kept, untouched, sizeof kept);
+    memcpy(strip_before, strip, strip_len);
+    memcpy(table_before, table, sizeof table_before);
+    if (wanted == BURGZEMI_SERVED)
+        memcpy(kept, expected, n);
+    unsigned answer = (to_a ? burgzemi_move_to_a : burgzemi_move_to_larsson)(n, q, m, b, table, table_len, strip, strip_len, moved, moved_len);
+    see(what, answer, wanted, moved, kept, sizeof moved);
+    see(what, answer, wanted, strip, strip_before, strip_len);
+    see(what, answer, wanted, table, table_before, sizeof table_before);
+}
+
+/* Job 7 there and back, each time with damage in the bursts. */
+static void moved_strip(const char *what, uint32_t n, uint32_t m, uint32_t b, const uint8_t *starts, const uint8_t *older, const uint8_t *newer)
+{
+    uint8_t table[BURGZEMI_TABLE_LEN] = {0}, found_older[24], found_newer[24];
+    set_slot(table, 63, 1, 7);
+    memcpy(found_older, older, n);
+    memcpy(found_newer, newer, n);
+    for (uint32_t i = 0; i < m; i++) {
+        memset(found_older + starts[i], 0xFF, b);
+        memset(found_newer + starts[i], 0xFF, b);
+    }
+    move(what, BURGZEMI_SERVED, 1, n, 256, m, b, table, sizeof table, found_older, n, n, newer);
+    move(what, BURGZEMI_SERVED, 0, n, 256, m, b, table, sizeof table, found_newer, n, n, older);
+}
+
+static void moved_strips(void)
+{
+    static const uint8_t six[1] = {6}, two_and_five[2] = {2, 5}, three[3] = {2, 6, 9};
+    static const uint8_t older7[15] = {6, 0, 0, 0, 7, 0x41, 0, 0, 0x42, 0x43, 0x44, 0x45, 0x46, 0x47, 6};
+    moved_strip("payloads as long", 15, 1, 2, six, older7, written7);
+
+    /* Rank 12. The older tray has 6 bytes, of which the last has no room and is 0. Sub-blocks begin at 0, 2, 4, 7 and 10, blocks at 0, 1, 3, 5, 7 and 9. */
+    static const uint8_t older_six[11] = {12, 0, 0, 0, 12, 0, 0, 12, 7, 0x41, 0}, newer_five[11] = {0, 0, 0, 0, 0, 0, 0, 1, 7, 13, 0x41};
+    moved_strip("a payload of 6 bytes and one of 5", 11, 2, 1, two_and_five, older_six, newer_five);
+
+    /* Rank 2 + 15 + 84. Sub-blocks of 2 begin at 0, 2, 4, 6, 8, 11 and 14: those from 2, 6 and 8 are touched. Blocks begin at 0, 1, 3, 5, 6, 8, 10, 12 and
+     * 14; bursts end in the second, fifth and sixth, so the last three spell the rank, and the first, third and fourth begin with 0. */
+    static const uint8_t older_five[16] = {0, 101, 0, 0, 0, 101, 0, 0, 0, 0, 7, 0, 101, 0x41, 0, 101};
+    static const uint8_t newer_seven[16] = {0, 0, 0, 0, 0, 0, 0, 0, 7, 0, 1, 0x41, 1, 0, 102, 0};
+    moved_strip("a payload of 5 bytes and one of 7", 16, 3, 1, three, older_five, newer_seven);
+}
+
+/* n 21, q 17, m 1, b 2, start 12: sub-blocks begin at 0, 9 and 19, of which the first two bear the rank; parts begin at 0, 7 and 14, of which the last spells
+ * it. The message begins with a symbol that no byte does. */
+static void refused_strips(void)
+{
+    uint8_t table[BURGZEMI_TABLE_LEN] = {0}, start[2] = {0, 12}, message[16], strip[21];
+    memset(message, 1, sizeof message);
+    message[0] = 16;
+#define MOVE(what, wanted, to_a) move(what, wanted, to_a, 21, 17, 1, 2, table, sizeof table, strip, 21, 21, NULL)
+    /* 4 21 8 9 19 10, each beside what would be refused later */
+    see("an older tray to move", burgzemi_larsson_encode(21, 17, 1, 2, start, 2, message, 15, strip, 21), BURGZEMI_SERVED, start, start, 2);
+    strip[0] = 3;
+    strip[12] = 18;
+    strip[14] = 17;
+    MOVE("a value of 18 in the burst, to A", BURGZEMI_SYMBOL, 1);
+    strip[12] = 17;
+    MOVE("three values", BURGZEMI_MAJORITY, 1);
+    strip[0] = strip[9] = 1;
+    strip[1] = strip[10] = 3;
+    MOVE("a value of 20 in two sub-blocks", BURGZEMI_VALUE, 1);
+    strip[9] = strip[19] = 0;
+    strip[10] = strip[20] = 12;
+    MOVE("a bearer without the value", BURGZEMI_DISAGREES, 1);
+    strip[0] = 0;
+    strip[1] = 12;
+    MOVE("a silent message cell, to A", BURGZEMI_ERASED, 1);
+    strip[14] = 1;
+    MOVE("a byte of 273, to A", BURGZEMI_PAYLOAD, 1);
+    strip[2] = 1;
+    MOVE("a leftover symbol", BURGZEMI_PAYLOAD, 1);
+
+    /* 4 7 19 8 9 19 10 14, likewise */
+    see("a strip to move", burgzemi_encode(21, 17, 1, 2, start, 2, message, 16, strip, 21), BURGZEMI_SERVED, start, start, 2);
+    strip[0] = 1;
+    strip[12] = 18;
+    strip[15] = strip[20] = 17;
+    MOVE("a value of 18 in the burst, to an older tray", BURGZEMI_SYMBOL, 0);
+    strip[12] = 17;
+    MOVE("no part with a fixed symbol", BURGZEMI_PATTERN, 0);
+    strip[0] = 0;
+    strip[14] = 2;
+    MOVE("a silent digit", BURGZEMI_ERASED, 0);
+    strip[15] = 3;
+    MOVE("a value of 20", BURGZEMI_VALUE, 0);
+    strip[14] = 1;
+    strip[15] = 0;
+    MOVE("another placement", BURGZEMI_DISAGREES, 0);
+    strip[15] = 12;
+    MOVE("a silent message cell, to an older tray", BURGZEMI_ERASED, 0);
+    strip[20] = 1;
+    MOVE("a byte of 273, to an older tray", BURGZEMI_PAYLOAD, 0);
+    strip[1] = 1;
+    MOVE("an unknown job", BURGZEMI_NOT_OPEN, 0);
+#undef MOVE
+}
+
+/* 1 2 10 3, each beside what would be refused later */
+static void refused_figures(int to_a)
+{
+    uint8_t table[BURGZEMI_TABLE_LEN] = {6}, strip[24];
+    memset(strip, 18, sizeof strip);
+#define MOVE(what, wanted, n, q, m, b, table_len, strip_len, moved_len) \
+    move(what, wanted, to_a, n, q, m, b, table, table_len, strip, strip_len, moved_len, NULL)
+    MOVE("an unknown state", BURGZEMI_INVALID, 21, 17, 1, 8, sizeof table, 20, 20);
+    table[0] = 1;
+    table[5] = 4;
+    MOVE("number 0 in two slots", BURGZEMI_INVALID, 21, 17, 1, 8, sizeof table, 20, 20);
+    table[5] = 0;
+    MOVE("n of 4097", BURGZEMI_INVALID, 4097, 17, 1, 8, 319, 20, 20);
+    MOVE("q of 257", BURGZEMI_INVALID, 21, 257, 1, 8, 319, 20, 20);
+    MOVE("m of 9", BURGZEMI_INVALID, 21, 17, 9, 8, 319, 20, 20);
+    MOVE("b of 0", BURGZEMI_INVALID, 21, 17, 1, 0, 319, 20, 20);
+    MOVE("figures for an older tray alone", BURGZEMI_UNFIT, 3, 2, 3, 1, 319, 20, 20);
+    MOVE("figures for Construction A alone", BURGZEMI_UNFIT, 6, 5, 2, 1, 319, 20, 20);
+    MOVE("figures for neither", BURGZEMI_UNFIT, 21, 17, 1, 10, 319, 20, 20);
+    MOVE("4 bytes by Construction A, 5 on an older tray", BURGZEMI_PAYLOAD, 10, 256, 2, 1, 319, 20, 20);
+    MOVE("6 bytes by Construction A, 4 on an older tray", BURGZEMI_PAYLOAD, 15, 256, 3, 1, 319, 20, 20);
+    MOVE("table short", BURGZEMI_LENGTH, 21, 17, 1, 2, 319, 21, 21);
+    MOVE("no table", BURGZEMI_LENGTH, 21, 17, 1, 2, 0, 21, 21);
+    MOVE("strip short", BURGZEMI_LENGTH, 21, 17, 1, 2, sizeof table, 20, 21);
+    MOVE("strip long", BURGZEMI_LENGTH, 21, 17, 1, 2, sizeof table, 22, 21);
+    MOVE("moved strip short", BURGZEMI_LENGTH, 21, 17, 1, 2, sizeof table, 21, 20);
+    MOVE("moved strip long", BURGZEMI_LENGTH, 21, 17, 1, 2, sizeof table, 21, 22);
+#undef MOVE
+}
+
+/* Jobs 7 and 0 in each state, with a last byte that has no room and is 0 or isn't: 12, 23 and 14 go before 22, and 22 before 17. */
+static void moved_states(int to_a)
+{
+    static const uint8_t states[6] = {BURGZEMI_NOT_OPEN, BURGZEMI_SERVED, BURGZEMI_CANCELLED, BURGZEMI_CANCELLED, BURGZEMI_HELD, BURGZEMI_CANCELLED};
+    const uint32_t n = to_a ? 11 : 16, m = to_a ? 2 : 3, len = to_a ? 6 : 7;
+    const uint8_t starts[6] = {0, 2, 0, 5, 0, 9};
+    for (int i = 0; i < 24; i++) {
+        uint8_t table[BURGZEMI_TABLE_LEN] = {0}, payload[7] = {0, 0, 0, i % 2 ? 7 : 0, 0x41}, strip[16], expected[16];
+        uint8_t state = (uint8_t)(i / 4), surplus = i / 2 % 2;
+        set_slot(table, 21, state, payload[3]);
+        see("a payload of 5", (to_a ? burgzemi_encode : burgzemi_larsson_encode)(n, 256, m, 1, starts, 2 * m, payload, 5, expected, n), 0, starts, starts, 6);
+        payload[len - 1] = surplus;
+        see("a payload", (to_a ? burgzemi_larsson_encode : burgzemi_encode)(n, 256, m, 1, starts, 2 * m, payload, len, strip, n), 0, starts, starts, 6);
+        unsigned wanted = states[state];
+        if (wanted == BURGZEMI_SERVED)
+            wanted = surplus ? BURGZEMI_SURPLUS : payload[3] ? BURGZEMI_SERVED : BURGZEMI_NUMBER_ZERO;
+        const char *what = to_a ? "a job by its state, to A" : "a job by its state, to an older tray";
+        move(what, wanted, to_a, n, 256, m, 1, table, sizeof table, strip, n, n, expected);
+    }
+}
+
+/* The longest word and the most bursts, with q 256: there and back with damage in between. */
+static void large_move(const char *what, uint32_t n, uint32_t m, uint32_t b)
+{
+    static uint8_t strip[BURGZEMI_MAX_WORD], moved[BURGZEMI_MAX_WORD], back[BURGZEMI_MAX_WORD], message[BURGZEMI_MAX_WORD], got[BURGZEMI_MAX_WORD];
+    uint8_t table[BURGZEMI_TABLE_LEN] = {0}, starts[2 * BURGZEMI_MAX_BURSTS] = {0};
+    uint32_t older = burgzemi_larsson_payload_len(n, 256, m, b), newer = burgzemi_payload_len(n, 256, m, b);
+    memset(message, 0, sizeof message);
+    for (uint32_t i = 0; i < older && i < newer; i++)
+        message[i] = (uint8_t)(i * 7 + 1);
+    for (uint32_t i = 0; i < m; i++) {
+        uint32_t start = n - (m - i) * (b + 1);
+        starts[2 * i] = (uint8_t)(start >> 8);
+        starts[2 * i + 1] = (uint8_t)start;
+    }
+    set_slot(table, 0, 1, 0x01080F16);
+    see(what, burgzemi_larsson_encode(n, 256, m, b, starts, 2 * m, message, older, strip, n), BURGZEMI_SERVED, message, message, n);
+    see(what, burgzemi_job_write(n, 256, m, b, table, sizeof table, starts, 2 * m, message, newer, got, n), BURGZEMI_SERVED, message, message, n);
+    see(what, burgzemi_move_to_a(n, 256, m, b, table, sizeof table, strip, n, moved, n), BURGZEMI_SERVED, moved, got, n);
+    for (uint32_t i = 0; i < m; i++)
+        memset(moved + n - (m - i) * (b + 1), 0xFF, b);
+    see(what, burgzemi_move_to_larsson(n, 256, m, b, table, sizeof table, moved, n, back, n), BURGZEMI_SERVED, back, strip, n);
+}
+
 int main(void)
 {
     words();
@@ -1129,5 +1310,14 @@ int main(void)
     larsson_written();
     larsson_found();
     larsson_maps();
+    moved_strips();
+    refused_strips();
+    for (int to_a = 0; to_a <= 1; to_a++) {
+        refused_figures(to_a);
+        moved_states(to_a);
+    }
+    large_move("4096 symbols, 6 bursts, moved", BURGZEMI_MAX_WORD, 6, 112);
+    large_move("999 symbols, 8 bursts, moved", 999, BURGZEMI_MAX_BURSTS, 15);
+    large_move("85 symbols, 8 bursts, moved", 85, BURGZEMI_MAX_BURSTS, 1);
     return wrong;
 }

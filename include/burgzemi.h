@@ -35,6 +35,7 @@ enum burgzemi_answer {
     BURGZEMI_DEPTH = 18,       /* a depth outside 1 to 16 */
     BURGZEMI_ERASED = 19,      /* a silent cell, q, in an index block's first r + 1 symbols or among the message */
     BURGZEMI_MAJORITY = 21,    /* no value stands in at least m + 1 of an older tray's sub-blocks */
+    BURGZEMI_SURPLUS = 22,     /* bytes of a moved payload that have no room on the other strip aren't all 0 */
     /* from the state of the job table */
     BURGZEMI_CANCELLED = 12,   /* the job number is cancelled */
     BURGZEMI_ALREADY_OPEN = 13,
@@ -337,7 +338,7 @@ uint8_t burgzemi_long_prescription_read(uint32_t n, uint32_t q, uint32_t b,
  * value is no rank; 9 where the placement of that rank has a bearer that doesn't hold it; 19 for a silent cell among the message.
  *
  * Figures may fit this code, Construction A, both or neither. These strips have no functions for jobs, prescriptions, words side by side or the check of a
- * word.
+ * word; a job is moved to them and from them, below.
  */
 uint32_t burgzemi_larsson_message_len(uint32_t n, uint32_t q, uint32_t m, uint32_t b);
 
@@ -356,6 +357,32 @@ uint8_t burgzemi_larsson_decode(uint32_t n, uint32_t q, uint32_t m, uint32_t b,
 uint8_t burgzemi_larsson_cover(uint32_t n, uint32_t q, uint32_t m, uint32_t b,
                                const uint8_t *map, size_t map_len,
                                uint8_t *starts, size_t starts_len);
+
+/*
+ * Moves a job from a strip of the older trays to one of Construction A, with the same figures and placement. `strip` is a found word of n values, which is
+ * read as burgzemi_larsson_decode does; `moved`, of n bytes, gets the word that burgzemi_job_write writes for the same starts, number and text. Where its
+ * payload is longer than the one that was read, it ends in bytes of 0; where it is shorter, the surplus bytes that were read must be 0. The job must be
+ * open, and its number not 0.
+ *
+ * Moved back by burgzemi_move_to_larsson, with the same table and whatever values up to q the bursts of `moved` then hold, it has the message that it had,
+ * and 0 in its bursts.
+ *
+ * Refusals: 1 for the figures and for the slots of a table of BURGZEMI_TABLE_LEN bytes; 2 where the figures don't fit both codes; 10 where either payload is
+ * below 5 bytes; 3 where table_len is not BURGZEMI_TABLE_LEN, or strip_len or moved_len not n; 4 21 8 9 19 for the word; 10 for a message that spells no
+ * payload; 12, 23 and 14 for the job; 22 for surplus bytes that aren't all 0; 17 for number 0, which is then open.
+ */
+uint8_t burgzemi_move_to_a(uint32_t n, uint32_t q, uint32_t m, uint32_t b,
+                           const uint8_t *table, size_t table_len,
+                           const uint8_t *strip, size_t strip_len,
+                           uint8_t *moved, size_t moved_len);
+
+/*
+ * Moves it back, or any job from a strip of Construction A to one of the older trays, likewise. Refusals: as above, but 4 7 19 8 9 19 for the word.
+ */
+uint8_t burgzemi_move_to_larsson(uint32_t n, uint32_t q, uint32_t m, uint32_t b,
+                                 const uint8_t *table, size_t table_len,
+                                 const uint8_t *strip, size_t strip_len,
+                                 uint8_t *moved, size_t moved_len);
 
 #ifdef __cplusplus
 }

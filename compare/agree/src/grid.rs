@@ -7,6 +7,7 @@ use second::Figures;
 
 use crate::judge::Judge;
 use crate::sides::{AnyNumbers, Numbers, PrescriptionNumbers};
+use crate::ways::WAYS;
 
 const EDGES: [u32; 4] = [65535, 65536, 1 << 31, u32::MAX];
 
@@ -128,9 +129,21 @@ pub fn run(judge: &mut Judge) {
     each(|f| {
         figures_alone(judge, Numbers::Ranked(f), depths.next().unwrap_or(0));
         judge.verify(f, &[], &[], &[]);
+        moves_alone(judge, f);
     });
     each_long(|f| figures_alone(judge, Numbers::Long(f), depths.next().unwrap_or(0)));
-    each_larsson(|f| any_figures_alone(judge, f.into()));
+    each_larsson(|f| {
+        any_figures_alone(judge, f.into());
+        let Larsson(n, q, m, b) = f;
+        moves_alone(judge, (n, q, m, b));
+    });
+}
+
+/// The moves, whose figures both codes take.
+fn moves_alone(judge: &mut Judge, f: Ranked) {
+    for way in WAYS {
+        judge.move_job(way, f, &[], &[], 0);
+    }
 }
 
 /// The calls that every code has.

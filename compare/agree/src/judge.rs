@@ -9,6 +9,7 @@ use crate::lent::{Item, Lent};
 use crate::sides::{AnyNumbers, Numbers, Side, PROVED, SECOND};
 use crate::tally::Tally;
 
+mod moving;
 mod prescription;
 
 /// How many differences are printed in full.
@@ -36,6 +37,8 @@ pub enum Op {
     SphericalEquivalent,
     PrescriptionWrite,
     PrescriptionRead,
+    MoveToA,
+    MoveToLarsson,
 }
 
 impl Op {
@@ -109,7 +112,7 @@ impl Kind {
 }
 
 /// Each call, its name, and the answers that it can give under a construction's figures, each of which a gate run must see.
-pub const OPS: [(Op, &str, &[u8]); 20] = [
+pub const OPS: [(Op, &str, &[u8]); 22] = [
     (Op::Figures, "figures", &[0, 1, 2]),
     (Op::Encode, "word write", &[0, 1, 2, 3, 4, 5]),
     (Op::Decode, "word read", &[0, 1, 2, 3, 4, 7, 8, 9, 19]),
@@ -145,6 +148,16 @@ pub const OPS: [(Op, &str, &[u8]); 20] = [
         Op::PrescriptionRead,
         "prescription read",
         &[0, 1, 2, 3, 4, 7, 8, 9, 10, 12, 14, 16, 19, 23],
+    ),
+    (
+        Op::MoveToA,
+        "move to A",
+        &[0, 1, 2, 3, 4, 8, 9, 10, 12, 14, 17, 19, 21, 22, 23],
+    ),
+    (
+        Op::MoveToLarsson,
+        "move to Larsson",
+        &[0, 1, 2, 3, 4, 7, 8, 9, 10, 12, 14, 17, 19, 22, 23],
     ),
 ];
 

@@ -201,9 +201,16 @@ pub fn changed(judge: &mut Judge, rng: &mut Rng, strip: &Strip) {
     }
 }
 
+/// A word with a value in so many sub-blocks.
+pub struct Votes {
+    value: u128,
+    count: usize,
+    pub word: Vec<u8>,
+}
+
 /// A value in m sub-blocks, in m + 1 or in more, and others in the rest; often the value of a placement, and in its bearers. Now and then a sub-block
 /// has a silent cell.
-fn votes(judge: &mut Judge, rng: &mut Rng, f: &Figures) {
+pub fn voted(rng: &mut Rng, f: &Figures) -> Votes {
     let mut word = symbols(rng, f.q, f.n);
     let value = value(rng, f, f.t);
     let count = rng.pick(&[f.m, f.m + 1, f.m + 1, f.m + 2]).min(f.p);
@@ -223,6 +230,11 @@ fn votes(judge: &mut Judge, rng: &mut Rng, f: &Figures) {
     if let (Some(silent), true) = (silent_value(f.q), f.r > 0 && rng.once_in(4)) {
         word[rng.pick(&order) + rng.index(f.r)] = silent;
     }
+    Votes { value, count, word }
+}
+
+fn votes(judge: &mut Judge, rng: &mut Rng, f: &Figures) {
+    let Votes { value, count, word } = voted(rng, f);
     let number = judged(judge, f, &word);
     if most_votes(f, &word) > f.m && count > f.m {
         let right = (number == 8) == (value >= f.t as u128);

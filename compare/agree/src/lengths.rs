@@ -5,6 +5,7 @@ use burgzemi::{Larsson, Ranked};
 use crate::calls::TABLE;
 use crate::judge::{Judge, Op};
 use crate::sides::{AnyNumbers, EyeNumbers, Numbers, PrescriptionNumbers, Side, PROVED, SECOND};
+use crate::ways::WAYS;
 
 /// Document 01's transfer example: n 15, k and K 11, one start; and the other codes' figures with the same lengths.
 const EXAMPLE: Ranked = (15, 256, 1, 2);
@@ -94,6 +95,21 @@ fn job_calls(side: &Side, f: Numbers, with: &mut dyn FnMut(usize, Call) -> u8) -
     ]
 }
 
+/// Likewise the moves, whose figures both codes take.
+fn move_calls(side: &Side, with: &mut dyn FnMut(usize, Call) -> u8) -> Vec<u8> {
+    let (strip, mut moved, table) = ([0; WORD], [0; WORD], [0; TABLE]);
+    let mut answers = Vec::new();
+    for way in WAYS {
+        let call = way.call(side);
+        answers.extend([
+            with(TABLE, &mut |long| call(EXAMPLE, long, &strip, &mut moved)),
+            with(WORD, &mut |long| call(EXAMPLE, &table, long, &mut moved)),
+            with(WORD, &mut |long| call(EXAMPLE, &table, &strip, long)),
+        ]);
+    }
+    answers
+}
+
 /// Likewise the prescription calls with a list of bytes.
 fn prescription_calls(side: &Side, f: Numbers, with: &mut dyn FnMut(usize, Call) -> u8) -> [u8; 7] {
     let (mut word, starts, table) = ([0; WORD], [0; 2], [0; TABLE]);
@@ -145,6 +161,7 @@ pub fn run(judge: &mut Judge) {
             let mut with = |len: usize, call: Call| call(&mut long[..len + extra]);
             let mut answers = check_calls(&side, &mut with).to_vec();
             answers.extend(word_calls(&side, LARSSON, &mut with));
+            answers.extend(move_calls(&side, &mut with));
             for f in FIGURES {
                 answers.extend(word_calls(&side, f.into(), &mut with));
                 answers.extend(lane_calls(&side, f, &mut with));

@@ -7,6 +7,7 @@ use second::blocks::Layout;
 use second::choose::unrank;
 use second::figures::{Code, MAX_N, MAX_RUNS};
 use second::job::width;
+use second::moving::Layouts;
 use second::{larsson, Figures};
 
 use crate::rng::Rng;
@@ -51,6 +52,15 @@ pub fn figures(rng: &mut Rng) -> Figures {
 /// The Larsson code's figures that fit. No burst is longer than a gap between sub-blocks, plus 1.
 pub fn larsson_figures(rng: &mut Rng) -> Figures {
     fitting(rng, Figures::larsson, |n, m| n / (2 * m) + 1)
+}
+
+/// Figures that fit both, with room for a job in each payload.
+pub fn movable_figures(rng: &mut Rng) -> Ranked {
+    let movable = |n, q, m, b| {
+        let room = Layouts::new(n, q, m, b)?.have_room();
+        Figures::new(n, q, m, b).and_then(|f| room.then_some(f).ok_or(10))
+    };
+    ranked(&fitting(rng, movable, |n, m| n / (m * m.max(3))))
 }
 
 /// Figures that fit: short and long words, small and large alphabets, and burst lengths up to the largest.

@@ -72,6 +72,8 @@ impl TryFrom<AnyNumbers> for Figures {
 }
 
 type Lanes = fn(Numbers, u32, &[u8], &mut [u8]) -> u8;
+/// A move of a job to the other code: figures, table, strip and moved strip.
+pub type Move = fn(Ranked, &[u8], &[u8], &mut [u8]) -> u8;
 type JobWrite = fn(Numbers, &[u8], &[u8], &[u8], &mut [u8]) -> u8;
 type PrescriptionRead = fn(Numbers, &[u8], &[u8], &mut [u8], &mut [f64]) -> u8;
 type PrescriptionWrite = fn(Numbers, &[u8], &[u8], u32, PrescriptionNumbers, &mut [u8]) -> u8;
@@ -89,6 +91,8 @@ pub struct Side {
     pub call: fn(&mut [u8], u8, u32) -> u8,
     pub job_write: JobWrite,
     pub job_read: fn(Numbers, &[u8], &[u8], &mut [u8]) -> u8,
+    pub move_to_a: Move,
+    pub move_to_larsson: Move,
     pub transpose: fn(EyeNumbers, &mut [u8], &mut [f64]) -> u8,
     pub spherical_equivalent: fn(EyeNumbers, &mut [f64]) -> u8,
     pub prescription_write: PrescriptionWrite,
@@ -108,6 +112,8 @@ pub const PROVED: Side = Side {
     call: burgzemi::raw::call,
     job_write: burgzemi::raw::job_write,
     job_read: burgzemi::raw::job_read,
+    move_to_a: burgzemi::raw::move_to_a,
+    move_to_larsson: burgzemi::raw::move_to_larsson,
     transpose: burgzemi::raw::transpose,
     spherical_equivalent: burgzemi::raw::spherical_equivalent,
     prescription_write: burgzemi::raw::prescription_write,
@@ -127,6 +133,8 @@ pub const SECOND: Side = Side {
     call: second::raw::call,
     job_write: second::raw::job_write,
     job_read: second::raw::job_read,
+    move_to_a: second::raw::move_to_a,
+    move_to_larsson: second::raw::move_to_larsson,
     transpose: second::raw::transpose,
     spherical_equivalent: second::raw::spherical_equivalent,
     prescription_write: second::raw::prescription_write,

@@ -7,6 +7,7 @@ use second::Figures;
 use crate::judge::{Kind, Op, OPS};
 use crate::larsson::most_votes;
 use crate::sides::AnyNumbers;
+use crate::ways;
 
 /// Each code, in the order of its numbers, and what its calls are named with.
 const CODES: [(Code, &str); 3] = [
@@ -26,6 +27,8 @@ pub struct Tally {
     accepted_larsson: [[u64; 3]; MAX_RUNS + 1],
     /// Words with altered message cells: with none, one, several, or all of several.
     slips: [u64; 4],
+    /// Moves, by direction and by what their number alone doesn't tell.
+    moves: [[u64; ways::MOVE_KINDS.len()]; ways::WAYS.len()],
 }
 
 impl Default for Tally {
@@ -36,6 +39,7 @@ impl Default for Tally {
             accepted_long: Default::default(),
             accepted_larsson: Default::default(),
             slips: Default::default(),
+            moves: Default::default(),
         }
     }
 }
@@ -70,6 +74,10 @@ impl Tally {
         self.slips[kind] += 1;
     }
 
+    pub fn count_move(&mut self, way: ways::Way, kind: ways::MoveKind) {
+        self.moves[way as usize][kind as usize] += 1;
+    }
+
     /// How many words were written or read, or refused for more than their figures and lengths.
     pub fn words(&self) -> u64 {
         let words = [
@@ -79,6 +87,8 @@ impl Tally {
             Op::JobRead,
             Op::PrescriptionWrite,
             Op::PrescriptionRead,
+            Op::MoveToA,
+            Op::MoveToLarsson,
         ];
         let judged = |&op: &Op| {
             let both = self.seen.iter().map(|seen| &seen[op as usize]);
@@ -115,7 +125,26 @@ impl Tally {
                 complete = false;
             }
         }
-        complete & self.accepted_summary() & self.slips_summary()
+        complete & self.accepted_summary() & self.slips_summary() & self.moves_summary()
+    }
+
+    /// Prints how often each kind of move was made, and tells whether all were that a direction has.
+    fn moves_summary(&self) -> bool {
+        let mut complete = true;
+        for (way, seen) in ways::WAYS.iter().zip(&self.moves) {
+            let kinds = ways::MOVE_KINDS.iter().filter(|&&(kind, _)| way.has(kind));
+            let shown: Vec<String> = kinds
+                .map(|&(kind, name)| {
+                    complete &= seen[kind as usize] > 0;
+                    format!("{name} {}", seen[kind as usize])
+                })
+                .collect();
+            println!("moves {}: {}", way.name(), shown.join(", "));
+        }
+        if !complete {
+            println!("never seen: some kind of move");
+        }
+        complete
     }
 
     fn slips_summary(&self) -> bool {

@@ -19,6 +19,11 @@ impl Layouts {
         })
     }
 
+    /// Whether each payload has room for a job.
+    pub fn have_room(&self) -> bool {
+        have_room(&self.larsson, &self.construction_a)
+    }
+
     /// Moves a job from an older strip. Refusals 10 3 4 21 8 9 19 10 12 23 14 22 17.
     pub fn from_larsson(&self, book: &Book, found: &[u8], word: &mut [u8]) -> u8 {
         let moved = move_job(&self.larsson, &self.construction_a, book, found, word);
@@ -32,6 +37,10 @@ impl Layouts {
     }
 }
 
+fn have_room(one: &Figures, other: &Figures) -> bool {
+    payload_len(one) >= LEAST_PAYLOAD && payload_len(other) >= LEAST_PAYLOAD
+}
+
 fn move_job(
     from: &Figures,
     to: &Figures,
@@ -39,8 +48,7 @@ fn move_job(
     found: &[u8],
     word: &mut [u8],
 ) -> Result<(), u8> {
-    let len = payload_len(to);
-    if payload_len(from) < LEAST_PAYLOAD || len < LEAST_PAYLOAD {
+    if !have_room(from, to) {
         return Err(10);
     }
     if found.len() != from.n || word.len() != to.n {
@@ -48,6 +56,7 @@ fn move_job(
     }
     let (starts, mut payload) = found_payload(from, found)?;
     book.require_open(number(&payload))?;
+    let len = payload_len(to);
     if payload.iter().skip(len).any(|&byte| byte != 0) {
         return Err(22);
     }

@@ -4,6 +4,7 @@
 
 use crate::book::{Book, Former, Place, PLACES};
 use crate::figures::{Figures, MAX_RUNS};
+use crate::moving::Layouts;
 use crate::{codec, cover as planner, job, lanes};
 
 mod prescription;
@@ -238,6 +239,49 @@ pub fn job_read(numbers: impl Numbers, table: &[u8], word: &[u8], payload: &mut 
     match book {
         _ if job::payload_len(&f) < job::LEAST_PAYLOAD => 10,
         Some(book) => job::read_job(&f, &book, word, payload),
+        None => 3,
+    }
+}
+
+pub fn move_to_a(
+    numbers: (u32, u32, u32, u32),
+    table: &[u8],
+    strip: &[u8],
+    moved: &mut [u8],
+) -> u8 {
+    move_job(numbers, table, |layouts, book| {
+        layouts.from_larsson(book, strip, moved)
+    })
+}
+
+pub fn move_to_larsson(
+    numbers: (u32, u32, u32, u32),
+    table: &[u8],
+    strip: &[u8],
+    moved: &mut [u8],
+) -> u8 {
+    move_job(numbers, table, |layouts, book| {
+        layouts.to_larsson(book, strip, moved)
+    })
+}
+
+/// What both moves begin with: refusal 1 for the table, 1 and 2 for the figures, 10, and 3 for the table's length.
+fn move_job(
+    (n, q, m, b): (u32, u32, u32, u32),
+    table: &[u8],
+    go: impl FnOnce(&Layouts, &Book) -> u8,
+) -> u8 {
+    let book = match book_of(table).transpose() {
+        Ok(book) => book,
+        Err(refusal) => return refusal,
+    };
+    let layouts = match Layouts::new(n, q, m, b) {
+        Ok(layouts) => layouts,
+        Err(refusal) => return refusal,
+    };
+    match book {
+        _ if !layouts.have_room() => 10,
+        Some(book) => go(&layouts, &book),
         None => 3,
     }
 }

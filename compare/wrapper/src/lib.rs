@@ -37,7 +37,7 @@
 //! # Ok::<(), Refusal>(())
 //! ```
 //!
-//! An older tray has the figures of the Larsson code. They are taken by `encode`, `decode` and `cover`, and by no other call.
+//! An older tray has the figures of the Larsson code. They are taken by `encode`, `decode`, `cover` and `move_to_a`, and by no other call.
 //!
 //! ```
 //! use burgzemi::{Figures, Refusal};
@@ -50,6 +50,28 @@
 //! let mut message = [0; 7];
 //! assert_eq!(burgzemi::decode(&strip, &word, &mut message)?[..], [9]);
 //! assert_eq!(message, [1; 7]);
+//! # Ok::<(), Refusal>(())
+//! ```
+//!
+//! A job of an older tray is moved to a strip of Construction A with the same figures, and back.
+//!
+//! ```
+//! use burgzemi::{Figures, Refusal, Table};
+//!
+//! let older = Figures::larsson(15, 256, 1, 2)?;
+//! let newer = Figures::new(15, 256, 1, 2)?;
+//! let mut jobs = Table::new();
+//! jobs.open(7)?;
+//!
+//! let (mut strip, mut moved, mut back) = ([0; 15], [0; 15], [0; 15]);
+//! burgzemi::encode(&older, &[6], b"\0\0\0\x07ABCDEFG", &mut strip)?;
+//! burgzemi::move_to_a(&older, &jobs, &strip, &mut moved)?;
+//! let mut payload = [0; 11];
+//! burgzemi::job_read(&newer, &jobs, &moved, &mut payload)?;
+//! assert_eq!(&payload[4..], b"ABCDEFG");
+//!
+//! burgzemi::move_to_larsson(&newer, &jobs, &moved, &mut back)?;
+//! assert_eq!(back, strip);
 //! # Ok::<(), Refusal>(())
 //! ```
 //!
@@ -303,4 +325,31 @@ pub fn job_read<N: Construction>(
     payload: &mut [u8],
 ) -> Result<(), Refusal> {
     Refusal::of(raw::job_read(f.numbers, table.as_bytes(), word, payload))
+}
+
+/// Moves the found word of an open job from an older tray's strip to one of Construction A, whose word comes as `moved`. Figures, placement, number and text
+/// are the same; the longer payload ends in zeros. The figures must fit Construction A too. A value q is a cell without a reading, as in `decode`.
+pub fn move_to_a(
+    f: &Figures<Larsson>,
+    table: &Table,
+    strip: &[u8],
+    moved: &mut [u8],
+) -> Result<(), Refusal> {
+    let Larsson(n, q, m, b) = f.numbers;
+    Refusal::of(raw::move_to_a((n, q, m, b), table.as_bytes(), strip, moved))
+}
+
+/// Moves it the other way, to an older tray's strip. The figures must fit the Larsson code too.
+pub fn move_to_larsson(
+    f: &Figures,
+    table: &Table,
+    strip: &[u8],
+    moved: &mut [u8],
+) -> Result<(), Refusal> {
+    Refusal::of(raw::move_to_larsson(
+        f.numbers,
+        table.as_bytes(),
+        strip,
+        moved,
+    ))
 }

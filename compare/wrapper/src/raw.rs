@@ -1,7 +1,7 @@
 //! The C calls on slices, each answering 0 or the refusal number. The only module with unsafe code.
 //! Starts are 2 bytes each, high byte first; a table is 64 slots of 5 bytes, a state and a number.
 
-/// Construction A's figures n, q, m and b.
+/// Construction A's figures n, q, m and b; those of a move, which both it and the Larsson code take.
 pub type Ranked = (u32, u32, u32, u32);
 
 /// Construction B's, of one long run: n, q and b.
@@ -171,6 +171,18 @@ mod c {
             word: *const u8, word_len: usize,
         ) -> u8;
         pub fn burgzemi_call(table: *mut u8, table_len: usize, letter: u8, number: u32) -> u8;
+        pub fn burgzemi_move_to_a(
+            n: u32, q: u32, m: u32, b: u32,
+            table: *const u8, table_len: usize,
+            strip: *const u8, strip_len: usize,
+            moved: *mut u8, moved_len: usize,
+        ) -> u8;
+        pub fn burgzemi_move_to_larsson(
+            n: u32, q: u32, m: u32, b: u32,
+            table: *const u8, table_len: usize,
+            strip: *const u8, strip_len: usize,
+            moved: *mut u8, moved_len: usize,
+        ) -> u8;
         pub fn burgzemi_transpose(
             kind: u8, sphere: f64, cylinder: f64, axis: u8,
             marks: *mut u8, marks_len: usize,
@@ -273,6 +285,24 @@ pub fn job_read(f: impl Into<Numbers>, table: &[u8], word: &[u8], payload: &mut 
     let (to, room) = (payload.as_mut_ptr(), payload.len());
     // SAFETY: each pointer is a slice's own, never null, with its length; the one written to is lent alone.
     unsafe { c::job_read(f.into(), at, size, from, len, to, room) }
+}
+
+/// Moves an open job from an older tray's strip to one of Construction A.
+pub fn move_to_a((n, q, m, b): Ranked, table: &[u8], strip: &[u8], moved: &mut [u8]) -> u8 {
+    let (at, size) = (table.as_ptr(), table.len());
+    let (from, len) = (strip.as_ptr(), strip.len());
+    let (to, room) = (moved.as_mut_ptr(), moved.len());
+    // SAFETY: each pointer is a slice's own, never null, with its length; the one written to is lent alone.
+    unsafe { c::burgzemi_move_to_a(n, q, m, b, at, size, from, len, to, room) }
+}
+
+/// Moves an open job from a strip of Construction A to an older tray's.
+pub fn move_to_larsson((n, q, m, b): Ranked, table: &[u8], strip: &[u8], moved: &mut [u8]) -> u8 {
+    let (at, size) = (table.as_ptr(), table.len());
+    let (from, len) = (strip.as_ptr(), strip.len());
+    let (to, room) = (moved.as_mut_ptr(), moved.len());
+    // SAFETY: each pointer is a slice's own, never null, with its length; the one written to is lent alone.
+    unsafe { c::burgzemi_move_to_larsson(n, q, m, b, at, size, from, len, to, room) }
 }
 
 /// Transposes an eye: kind and axis come as `marks`, sphere and cylinder as `powers`.

@@ -2,11 +2,11 @@
 
 use std::fmt;
 
-/// The number of a refusal: 1 to 21, 23 or 24.
+/// The number of a refusal: 1 to 24.
 #[derive(Clone, Copy, PartialEq, Eq, Hash, Debug)]
 pub struct Refusal(u8);
 
-const TEXTS: [(u8, &str); 23] = [
+const TEXTS: [(u8, &str); 24] = [
     (
         1,
         "a figure is out of range, or a job table has an unknown state or one number twice",
@@ -51,6 +51,10 @@ const TEXTS: [(u8, &str); 23] = [
     ),
     (20, "the job number is not cancelled"),
     (21, "no value is in most of the sub-blocks"),
+    (
+        22,
+        "bytes of the payload that have no room on the other strip are not all 0",
+    ),
     (23, "the job number is on hold"),
     (24, "the job number is not on hold"),
 ];
@@ -77,6 +81,7 @@ impl Refusal {
     pub const SILENT: Refusal = Refusal(19);
     pub const NOT_CANCELLED: Refusal = Refusal(20);
     pub const MAJORITY: Refusal = Refusal(21);
+    pub const SURPLUS: Refusal = Refusal(22);
     pub const ON_HOLD: Refusal = Refusal(23);
     pub const NOT_ON_HOLD: Refusal = Refusal(24);
 

@@ -1,8 +1,8 @@
 //! Document 02's change requests, through the wrapper.
 
 use burgzemi::{
-    cover, decode, deinterleave, encode, interleave, job_read, job_write, verify, Figures, Refusal,
-    Table, MAX_DEPTH,
+    cover, decode, deinterleave, encode, interleave, job_read, job_write, move_to_a,
+    move_to_larsson, verify, Figures, Larsson, Refusal, Table, MAX_DEPTH,
 };
 
 /// Change request 7.
@@ -453,4 +453,181 @@ fn one_placement_on_an_older_tray() {
         assert_eq!(placement[..], [0, 1, 2]);
     }
     assert_eq!(decode(&strip, &[0, 3, 0], &mut []), Err(Refusal::SYMBOL));
+}
+
+/// The same figures in both codes.
+fn both(n: u32, q: u32, m: u32, b: u32) -> (Figures<Larsson>, Figures) {
+    let older = Figures::larsson(n, q, m, b).expect("these figures fit");
+    (older, Figures::new(n, q, m, b).expect("these figures fit"))
+}
+
+/// A table with one job alone.
+fn with_job(state: u8, number: u32) -> Table {
+    let mut kept = [0; Table::LEN];
+    kept[5] = state;
+    kept[6..10].copy_from_slice(&number.to_be_bytes());
+    Table::from_bytes(kept)
+}
+
+/// Change request 9: payloads as long, one of 6 bytes on the older tray and of 5 by Construction A, and of 5 and 7.
+#[test]
+fn moving_the_racks_over() {
+    let table = with_job(1, 7);
+    for (n, m, b, starts, old, new) in [
+        (
+            15,
+            1,
+            2,
+            &[6][..],
+            &b"\0\0\0\x07ABCDEFG"[..],
+            &b"\0\0\0\x07ABCDEFG"[..],
+        ),
+        (11, 2, 1, &[2, 5], b"\0\0\0\x07A\0", b"\0\0\0\x07A"),
+        (16, 3, 1, &[0, 9, 15], b"\0\0\0\x07A", b"\0\0\0\x07A\0\0"),
+    ] {
+        let (older, newer) = both(n, 256, m, b);
+        let (mut before, mut after) = (vec![0; n as usize], vec![0; n as usize]);
+        assert_eq!(encode(&older, starts, old, &mut before), Ok(()));
+        assert_eq!(job_write(&newer, &table, starts, new, &mut after), Ok(()));
+        let spoilt = |word: &[u8]| {
+            let mut word = word.to_vec();
+            for &start in starts {
+                word[start as usize..start as usize + b as usize].fill(0xFF);
+            }
+            word
+        };
+        let mut moved = vec![0xEE; n as usize];
+        assert_eq!(
+            move_to_a(&older, &table, &spoilt(&before), &mut moved),
+            Ok(())
+        );
+        assert_eq!(moved, after);
+        // Spoilt in between, it has the message that it had, and 0 in its runs.
+        let back = move_to_larsson(&newer, &table, &spoilt(&after), &mut moved);
+        assert_eq!((back, moved), (Ok(()), before));
+    }
+}
+
+#[test]
+fn moved_words() {
+    let (older, newer) = both(11, 256, 2, 1);
+    let table = with_job(1, 7);
+    let mut moved = [0xEE; 11];
+    let before = *b"\x0C\0\xFF\0\x0C\xFF\0\x0C\x07A\0";
+    assert_eq!(move_to_a(&older, &table, &before, &mut moved), Ok(()));
+    assert_eq!(moved, *b"\0\0\0\0\0\0\0\x01\x07\x0DA");
+    let after = *b"\0\0\xFF\0\0\xFF\0\x01\x07\x0DA";
+    assert_eq!(move_to_larsson(&newer, &table, &after, &mut moved), Ok(()));
+    assert_eq!(moved, *b"\x0C\0\0\0\x0C\0\0\x0C\x07A\0");
+}
+
+/// Jobs 7 and 0 in each state, with a surplus byte that is 0 or isn't.
+#[test]
+fn the_state_of_a_moved_job() {
+    let (older, newer) = both(11, 256, 2, 1);
+    for (state, refused) in [
+        (0, Some(Refusal::NOT_OPEN)),
+        (1, None),
+        (2, Some(Refusal::CANCELLED)),
+        (3, Some(Refusal::CANCELLED)),
+        (4, Some(Refusal::ON_HOLD)),
+        (5, Some(Refusal::CANCELLED)),
+    ] {
+        for (number, surplus) in [(7, 0), (7, 1), (0, 0), (0, 1)] {
+            let table = with_job(state, number.into());
+            let payload = [0, 0, 0, number, 1, surplus];
+            let (mut strip, mut moved) = ([0; 11], [0xEE; 11]);
+            let no_job = (number == 0).then_some(Refusal::NUMBER_ZERO);
+            let no_room = (surplus != 0).then_some(Refusal::SURPLUS);
+            assert_eq!(encode(&older, &[2, 5], &payload, &mut strip), Ok(()));
+            let answer = move_to_a(&older, &table, &strip, &mut moved).err();
+            assert_eq!(answer, refused.or(no_room).or(no_job));
+            assert_eq!(moved == [0xEE; 11], answer.is_some());
+            // The other way each byte has room.
+            moved = [0xEE; 11];
+            assert_eq!(encode(&newer, &[2, 5], &payload[..5], &mut strip), Ok(()));
+            let answer = move_to_larsson(&newer, &table, &strip, &mut moved).err();
+            assert_eq!(answer, refused.or(no_job));
+            assert_eq!(moved == [0xEE; 11], answer.is_some());
+        }
+    }
+    assert_eq!(
+        Refusal::SURPLUS.to_string(),
+        "refused with 22: bytes of the payload that have no room on the other strip are not all 0"
+    );
+}
+
+#[test]
+fn figures_of_a_move() {
+    let mut moved = [0xEE; 64];
+    let table = Table::new();
+    // One code alone.
+    let older = Figures::larsson(3, 2, 3, 1).expect("these figures fit");
+    let answer = move_to_a(&older, &table, &[], &mut moved);
+    assert_eq!(answer, Err(Refusal::UNFIT));
+    let newer = Figures::new(6, 5, 2, 1).expect("these figures fit");
+    let answer = move_to_larsson(&newer, &table, &[], &mut moved);
+    assert_eq!(answer, Err(Refusal::UNFIT));
+    // 4 bytes by Construction A and 5 on the older tray, 6 and 4, 4 and 4.
+    for (n, m) in [(10, 2), (15, 3), (7, 1)] {
+        let (older, newer) = both(n, 256, m, 1);
+        let answer = move_to_a(&older, &table, &[], &mut moved);
+        assert_eq!(answer, Err(Refusal::PAYLOAD));
+        let answer = move_to_larsson(&newer, &table, &[], &mut moved);
+        assert_eq!(answer, Err(Refusal::PAYLOAD));
+    }
+    assert_eq!(moved, [0xEE; 64]);
+}
+
+/// n 21, q 17, m 1, b 2, start 12: sub-blocks begin at 0, 9 and 19, of which the first two bear the rank; parts begin at 0, 7 and 14, of which the last
+/// spells it.
+#[test]
+fn refused_moves() {
+    let (older, newer) = both(21, 17, 1, 2);
+    let (mut old, mut new) = ([0; 21], [0; 21]);
+    assert_eq!(encode(&older, &[12], &[1; 15], &mut old), Ok(()));
+    assert_eq!(encode(&newer, &[12], &[1; 16], &mut new), Ok(()));
+    let table = with_job(6, 7);
+    let mut moved = [0xEE; 21];
+    for (cells, refusal) in [
+        (&[(12, 18)][..], Refusal::SYMBOL),
+        (&[(0, 3)], Refusal::MAJORITY),
+        (&[(0, 17), (20, 12)], Refusal::MAJORITY),
+        (&[(0, 1), (1, 3), (9, 1), (10, 3), (14, 17)], Refusal::VALUE),
+        (&[(0, 3), (19, 0), (20, 12), (14, 17)], Refusal::DISAGREES),
+        (&[(14, 17), (15, 16)], Refusal::SILENT),
+        (&[(2, 16)], Refusal::PAYLOAD),
+        (&[], Refusal::PAYLOAD),
+    ] {
+        let mut found = old;
+        cells.iter().for_each(|&(at, value)| found[at] = value);
+        let answer = move_to_a(&older, &Table::new(), &found, &mut moved);
+        assert_eq!((answer, moved), (Err(refusal), [0xEE; 21]), "{cells:?}");
+    }
+    for (cells, refusal) in [
+        (&[(12, 18)][..], Refusal::SYMBOL),
+        (&[(0, 1), (15, 17)], Refusal::PATTERN),
+        (&[(14, 2), (15, 17)], Refusal::SILENT),
+        (&[(14, 2), (15, 3), (20, 17)], Refusal::VALUE),
+        (&[(15, 0), (20, 17)], Refusal::DISAGREES),
+        (&[(1, 16), (20, 17)], Refusal::SILENT),
+        (&[(1, 16)], Refusal::PAYLOAD),
+        (&[], Refusal::NOT_OPEN),
+    ] {
+        let mut found = new;
+        cells.iter().for_each(|&(at, value)| found[at] = value);
+        let answer = move_to_larsson(&newer, &Table::new(), &found, &mut moved);
+        assert_eq!((answer, moved), (Err(refusal), [0xEE; 21]), "{cells:?}");
+    }
+    for (strip, len) in [(&[18; 20][..], 21), (&[18; 21], 20), (&[18; 22], 21)] {
+        let answer = move_to_a(&older, &Table::new(), strip, &mut moved[..len]);
+        assert_eq!(answer, Err(Refusal::LENGTH));
+        let answer = move_to_larsson(&newer, &Table::new(), strip, &mut moved[..len]);
+        assert_eq!(answer, Err(Refusal::LENGTH));
+        // A table with an unknown state.
+        let answer = move_to_a(&older, &table, strip, &mut moved[..len]);
+        assert_eq!(answer, Err(Refusal::INVALID));
+        let answer = move_to_larsson(&newer, &table, strip, &mut moved[..len]);
+        assert_eq!((answer, moved), (Err(Refusal::INVALID), [0xEE; 21]));
+    }
 }

@@ -1,12 +1,14 @@
 -- How an outcome is seen to answer by an order: the two ways to answer, and the tests of an order one after the other. Assumes nothing.
 use mathlib.Core.Path.{_≡_, refl}
-use mathlib.Core.Bool.{Bool, true, false, not, _&&_, _||_}
-use mathlib.Core.List.{List, _∷_}
+use mathlib.Core.Bool.{Bool, true, false, not, _&&_, _||_, false≢true}
+use mathlib.Core.List.{List, [], _∷_}
 use mathlib.Core.Option.{Option, none, some}
 use Prim.Native.Nat.{ℕ, _-_}
 use lib.Dec.{eqb, leb, ltb}
-use Rattle.refusals.specs.Refusals.{must, served, invalid, unfit, wrongLength, noPattern, valueTooLarge, disagrees, erased, badPayload, jobCancelled, jobHeld, notOpen}
+use Rattle.refusals.specs.Refusals.{must, served, invalid, unfit, wrongLength, noPattern, valueTooLarge, disagrees, erased, noMajority, badPayload, jobCancelled, jobHeld, notOpen}
 use Rattle.combinatorics.specs.Lists.{all, any}
+use Rattle.combinatorics.proofs.Cases.{by-bool, eqb-true}
+use Rattle.combinatorics.proofs.Lists.{both}
 use Rattle.cells.specs.Cells.{message, pick}
 use Rattle.cells.specs.Codec.{Reading, accepted, refused}
 use Rattle.cells.specs.Outcomes.{Coding, Encoded}
@@ -17,6 +19,9 @@ use Rattle.construction_a.specs.Reading.{looksFixed, indexFound, heads, written
 use Rattle.construction_b.specs.Figures.{LongParams, partLen}
 use Rattle.construction_b.specs.Writing.{plan as planB}
 use Rattle.construction_b.specs.Reading as B
+use Rattle.larsson.specs.Codec.{larsson}
+use Rattle.larsson.specs.Reading as L
+use Rattle.larsson.specs.Writing.{plan as planL}
 use Rattle.construction_a.specs.Outcomes.{coding}
 use Rattle.construction_b.specs.Outcomes.{coding as codingB}
 use Rattle.params.specs.declared.Figures.{Figures}
@@ -53,6 +58,14 @@ module _ {O : Type 0} (P : O → Type 0) where
   where-open refuse unknown p h q r = q
   where-open refuse opened p h q r = r
 
+-- what holds of every number of an order holds of one of them
+pub in-all : (p : ℕ → Bool) (order : List ℕ) (a : ℕ) → all p order ≡ true → any (eqb a) order ≡ true → p a ≡ true
+unfolding all any
+in-all p [] a n h = absurd (false≢true h)
+in-all p (x ∷ xs) a n h =
+    let b = both (p x) (all p xs) n in
+    by-bool (eqb a x) (λ e. rw (eqb-true a x e) (b .0)) (λ e. in-all p xs a (b .1) (rw e at h))
+
 -- a word is refused with 7, 19, 8 or 9, or accepted
 pub data Judged : Reading → Type 0 where
   seven : Judged (refused noPattern)
@@ -72,7 +85,7 @@ by-read P p₇ p₁₉ p₈ p₉ t (refused _) eight = p₈
 by-read P p₇ p₁₉ p₈ p₉ t (refused _) nine = p₉
 by-read P p₇ p₁₉ p₈ p₉ t (accepted _ _) (taken ss ms) = t ss ms
 
-judges-a : (f : Params) → Judges (coding f)
+pub judges-a : (f : Params) → Judges (coding f)
 unfolding read readRank
 judges-a f w = go (indexFound (parts f) (f .m) (looksFixed f w))
   where
@@ -103,6 +116,19 @@ judges-b f w = go (B.indexFound (B.looksFixed f w))
 pub judges : (f : Figures) → Judges (codingOf f)
 judges (Ranked p) = judges-a (given p)
 judges (Long p) = judges-b (givenLong p)
+
+-- a word of the Larsson code is refused with 21, 8, 9 or 19, or accepted
+pub by-larsson : (P : Reading → Type 0) → P (refused noMajority) → P (refused valueTooLarge) → P (refused disagrees) → P (refused erased)
+    → ((ss ms : List ℕ) → P (accepted ss ms)) → (f : Params) (w : List ℕ) → P (larsson f .decode w)
+unfolding L.read L.readValue
+by-larsson P p₂₁ p₈ p₉ p₁₉ t f w = go (L.found f w)
+  where
+    go : (v : Option ℕ) → P (L.readFrom f w v)
+    go none = p₂₁
+    go (some v) =
+        tested P (ltb v (placementCount f)) p₈
+        (tested P (L.agrees f w v (placementOf f v)) p₉
+        (tested P (not (hasErasure (f .q) (pick message (planL f (placementOf f v)) w))) p₁₉ (t _ _)))
 
 -- "1 2 10 3" before a job's own
 pub with-table : {O : Type 0} (P : O → Type 0) (d : Coding) (table : List ℕ) (lengths : Bool) (refuse : ℕ → O) {rest : O}

@@ -1,7 +1,7 @@
 -- Demand 1 holds of every outcome. Assumes nothing.
 use mathlib.Core.Path.{_≡_, refl, ap}
 use mathlib.Core.Logic.{_≢_}
-use mathlib.Core.Bool.{Bool, true, false, not, cond, _&&_, false≢true}
+use mathlib.Core.Bool.{Bool, true, false, not, cond, _&&_}
 use mathlib.Core.List.{List, [], _∷_}
 use mathlib.Core.Option.{Option, none, some}
 use Prim.Native.Nat.{ℕ, suc, _*_}
@@ -11,14 +11,11 @@ use lib.ListN.{length, take, drop, replicate}
 use Rattle.refusals.specs.Refusals.{must, served, invalid, unfit, wrongLength, badSymbol, badRecord}
 use Rattle.combinatorics.specs.Lists.{all, any, allBelow}
 use Rattle.combinatorics.specs.Bursts.{apart, coverRank}
-use Rattle.combinatorics.proofs.Cases.{by-bool, by-eq, eqb-true, eqb-other}
-use Rattle.combinatorics.proofs.Lists.{both}
+use Rattle.combinatorics.proofs.Cases.{by-eq, eqb-true, eqb-other}
 use Rattle.cells.specs.Bytes.{payloadLen}
-use Rattle.cells.specs.Cells.{message, pick}
-use Rattle.cells.specs.Codec.{Reading}
-use Rattle.cells.specs.Erasures.{foundBound, hasErasure}
+use Rattle.cells.specs.Erasures.{foundBound}
 use Rattle.cells.specs.Ranking.{CoversLeast}
-use Rattle.construction_a.specs.Figures.{Params, inRange, fits, placementCount, messageLen}
+use Rattle.construction_a.specs.Figures.{Params, inRange, fits, messageLen}
 use Rattle.cells.specs.Outcomes.{Coding, Held, held, inUse, FiguresOut, figuresNumber, figuresUnder, unwritten, encodeUnder, worn, Covered, coverUnder, WordAnswer, rankIs, refusal, answerNumber, Decoded, decodedFrom, decodeUnder}
 use Rattle.params.specs.declared.Figures.{Figures}
 use Rattle.params.specs.declared.Figures.the-variants.{Ranked, Long}
@@ -28,10 +25,7 @@ use Rattle.construction_a.proofs.DemandTwo.{demand-two}
 use Rattle.construction_b.proofs.DemandTwo.{demand-two as demand-two-b}
 use Rattle.construction_a.proofs.Ranking.{faithful}
 use Rattle.construction_b.proofs.Ranking.{faithful as faithful-b}
-use Rattle.construction_a.specs.Writing.{placementOf}
 use Rattle.larsson.specs.Outcomes.{coding as larssonCoding}
-use Rattle.larsson.specs.Reading.{found, agrees, readValue, readFrom, read}
-use Rattle.larsson.specs.Writing.{plan}
 use Rattle.larsson.proofs.Exact.{larsson-exact}
 use Rattle.larsson.proofs.Figures.{serve}
 use Rattle.larsson.proofs.Ranking.{covers-least}
@@ -63,7 +57,8 @@ use Rattle.lines.specs.Lines.{refusalLine, servedLine, letterS, letterL, letter
 use Rattle.records.specs.Records.{headLen, letterOf, isEmpty, current, payloadLenOf, figuresIn, longFiguresIn, startsIn, payloadOf, readable}
 use Rattle.transfer.specs.Steps.{Step, stopped, ended, goesOn, figuresStep, callStep, jobStep, writeOut, readOut, serveOut, stepOut}
 use Rattle.demands.specs.Orders.{figuresAlone, wordWrite, covering, wordRead, larssonRead, rearrangement, jobWrite, jobRead, call, callByLetter, callOnBytes, listOfCalls}
-use Rattle.demands.proofs.Answering.{keep, done, tested, where-open, Judges, by-read, judges, with-table, one-more, Writes}
+use Rattle.demands.proofs.Answering.{keep, done, tested, where-open, in-all, Judges, by-read, judges, by-larsson, with-table, one-more, Writes}
+use Rattle.demands.proofs.Moves.{move-to-a, move-to-larsson, move-to-a-bytes, move-to-larsson-bytes}
 use Rattle.demands.proofs.Prescriptions.{transpose, spherical-equivalent, read-text, write-text, prescription-write, prescription-read, transpose-lent, equivalent-lent, prescription-write-bytes, prescription-read-bytes}
 use Rattle.demands.specs.DemandOne.{AnswersBy, ChecksBy, ListAnswers, StepAnswers, at-end, stops, refuses, serves, DemandOne}
 
@@ -144,18 +139,10 @@ unfolding isRefusal all any
 begins-larsson = record { numbers = refl; one = refl; two = refl; three = refl; four = refl }
 
 behind-larsson : (f : Params) → ReadsBehind larssonRead (larssonCoding f)
-unfolding read readValue isRefusal all any
-behind-larsson f w out = go (found f w)
-  where
-    P : Reading → Type 0
-    P r = Reads larssonRead out (decodedFrom (f .b) out r)
-
-    go : (v : Option ℕ) → P (readFrom f w v)
-    go none = keep refl refl
-    go (some v) =
-        tested P (ltb v (placementCount f)) (keep refl refl)
-        (tested P (agrees f w v (placementOf f v)) (keep refl refl)
-        (tested P (not (hasErasure (f .q) (pick message (plan f (placementOf f v)) w))) (keep refl refl) (done refl)))
+unfolding isRefusal all any
+behind-larsson f w out =
+    by-larsson (λ r. Reads larssonRead out (decodedFrom (f .b) out r)) (keep refl refl) (keep refl refl) (keep refl refl) (keep refl refl)
+    (λ ss ms. done refl) f w
 
 -- a refusal of the check: its number is not 0
 turned-away : (a : ℕ) → any (eqb (suc a)) (served ∷ wordWrite) ≡ true → any (eqb (suc a)) (served ∷ differs ∷ wordWrite) ≡ true → ChecksBy (unchecked (suc a))
@@ -458,16 +445,9 @@ module _ (table : List ℕ) where
 -- ---- The transfer program
 
 -- an answer other than 0 is in document 01's lists
-in-order : (order : List ℕ) (a : ℕ) → all isRefusal order ≡ true → any (eqb a) order ≡ true → isRefusal a ≡ true
-unfolding all any
-in-order [] a n h = absurd (false≢true h)
-in-order (x ∷ xs) a n h =
-    let b = both (isRefusal x) (all isRefusal xs) n in
-    by-bool (eqb a x) (λ e. rw (eqb-true a x e) (b .0)) (λ e. in-order xs a (b .1) (rw e at h))
-
 listed : {A : Type 0} {lent left : A} (order : List ℕ) (a : ℕ) → AnswersBy order a lent left → a ≢ served → isRefusal a ≡ true
 unfolding any
-listed order a h d = in-order order a (h .numbers) (rw (eqb-other a served d) at (h .answer))
+listed order a h d = in-all isRefusal order a (h .numbers) (rw (eqb-other a served d) at (h .answer))
 
 module _ (s : Session) (letter : ℕ) (bytes : List ℕ) where
   abbrev Answers : Step → Type 0
@@ -570,6 +550,8 @@ demand-one =
       job-write = λ f. job-write (codingOf f);
       job-read = λ f. job-read (codingOf f) (judges f);
       list-and-read = λ f. list-and-read (codingOf f) (judges f);
+      move-to-a = move-to-a;
+      move-to-larsson = move-to-larsson;
       transpose = transpose;
       spherical-equivalent = spherical-equivalent;
       read-text = read-text;
@@ -586,6 +568,8 @@ demand-one =
       call-bytes = call-bytes;
       job-write-bytes = λ f. job-write-bytes (codingOf f);
       job-read-bytes = λ f. job-read-bytes (codingOf f) (judges f);
+      move-to-a-bytes = move-to-a-bytes;
+      move-to-larsson-bytes = move-to-larsson-bytes;
       transpose-lent = λ e marks powers. transpose-lent marks powers e;
       equivalent-lent = λ e power. equivalent-lent power e;
       prescription-write-bytes = λ f. prescription-write-bytes (codingOf f);

@@ -1,4 +1,5 @@
 pub mod Answering
+pub mod Moves
 pub mod Prescriptions
 pub mod DemandOne
 pub mod DemandThree

@@ -1,7 +1,7 @@
 -- Demand 1, of the outcome of every entry point and for every input: the answer is 0 or a listed number, and where it is not 0 nothing has changed. That
 -- each call ends and touches lent memory alone is what a proved function has; that its answer and lent memory are these outcomes is its contract. The
--- proof is `demand-one` of proofs/DemandOne.antt. The lengths for other languages refuse nothing and have no field; two readings one after the other (`decode_both`) are
--- two times word read. Assumes nothing.
+-- proof is `demand-one` of proofs/DemandOne.antt. The lengths for other languages refuse nothing and have no field; two readings one after the other
+-- (`decode_both`) are two times word read, and a move there and back is two moves. Assumes nothing.
 use mathlib.Core.Path.{_≡_}
 use mathlib.Core.Logic.{_≢_}
 use mathlib.Core.Bool.{true, false}
@@ -37,11 +37,13 @@ use Rattle.prescription.specs.declared.texts.Prescription.{Prescription}
 use Rattle.prescription.specs.Outcomes.{transposeOut, equivalentOut, readOut, writeOut}
 use Rattle.prescriptioncodec.specs.PrescriptionWrite.{prescriptionWriteUnder}
 use Rattle.prescriptioncodec.specs.PrescriptionRead.{prescriptionReadUnder}
+use Rattle.moving.specs.Move.{toConstructionA, toLarsson}
 use Rattle.lanes.specs.Outcomes.{interleaveUnder, deinterleaveUnder}
 use Rattle.verifier.specs.Verify.{Verdict, agreeing, verdictRefusal, verifyOut}
 use Rattle.lent.specs.Covering.{coverBytesUnder}
 use Rattle.lent.specs.Jobs.{jobWriteBytesUnder, jobReadBytesUnder}
 use Rattle.lent.specs.Words.{encodeBytesUnder}
+use Rattle.lent_moving.specs.Moves.{toConstructionABytes, toLarssonBytes}
 use Rattle.lent_prescriptions.specs.Eyes.{PowersLent, transposeLent, equivalentLent}
 use Rattle.lent_prescriptions.specs.Prescriptions.{prescriptionWriteBytesUnder, prescriptionReadBytesUnder}
 use Rattle.exports.specs.Words.{differs, verdictNumber, verifyBytesOut}
@@ -50,7 +52,7 @@ use Rattle.records.specs.Session.{Session, after}
 use Rattle.lines.specs.Lines.{refusalLine, servedLine}
 use Rattle.records.specs.Records.{letterOf}
 use Rattle.transfer.specs.Steps.{Step, stopped, ended, goesOn, stepOut}
-use Rattle.demands.specs.Orders.{figuresAlone, wordWrite, covering, wordRead, larssonRead, rearrangement, jobWrite, jobRead, prescriptionAlone, prescriptionWrite, prescriptionRead, prescriptionLent, call, callByLetter, callOnBytes, listOfCalls}
+use Rattle.demands.specs.Orders.{figuresAlone, wordWrite, covering, wordRead, larssonRead, rearrangement, jobWrite, jobRead, moveToA, moveToLarsson, prescriptionAlone, prescriptionWrite, prescriptionRead, prescriptionLent, call, callByLetter, callOnBytes, listOfCalls}
 
 -- A call whose order is given answers a; what was lent is then `left`.
 pub record AnswersBy {A : Type 0} (order : List ℕ) (a : ℕ) (lent left : A) : Type 0 where
@@ -133,6 +135,11 @@ pub record DemandOne : Type 0 where
       → AnswersBy jobRead (jobReadUnder (codingOf f) es w out .answer) out (jobReadUnder (codingOf f) es w out .payload)
   pub list-and-read : (f : Figures) (es : List Entry) (letters numbers answers w out : List ℕ)
       → ListAnswers (listOut (codingOf f) es letters numbers answers w out .answer) answers out (listOut (codingOf f) es letters numbers answers w out)
+  -- ---- Moving a job between the Larsson code and Construction A; "Only the output strip changes."
+  pub move-to-a : (f : Params) (es : List Entry) (w out : List ℕ)
+      → AnswersBy moveToA (toConstructionA f es w out .answer) out (toConstructionA f es w out .word)
+  pub move-to-larsson : (f : Params) (es : List Entry) (w out : List ℕ)
+      → AnswersBy moveToLarsson (toLarsson f es w out .answer) out (toLarsson f es w out .word)
   -- ---- Prescriptions. A refusal has no value beside it.
   pub transpose : (e : Eye) → AnswersBy prescriptionAlone (transposeOut e .number) none (transposeOut e .value)
   pub spherical-equivalent : (e : Eye) → AnswersBy prescriptionAlone (equivalentOut e .number) none (equivalentOut e .value)
@@ -165,6 +172,10 @@ pub record DemandOne : Type 0 where
       (jobWriteBytesUnder (codingOf f) table starts payload out .word)
   pub job-read-bytes : (f : Figures) (table w out : List ℕ)
       → AnswersBy jobRead (jobReadBytesUnder (codingOf f) table w out .answer) out (jobReadBytesUnder (codingOf f) table w out .payload)
+  pub move-to-a-bytes : (f : Params) (table w out : List ℕ)
+      → AnswersBy moveToA (toConstructionABytes f table w out .answer) out (toConstructionABytes f table w out .word)
+  pub move-to-larsson-bytes : (f : Params) (table w out : List ℕ)
+      → AnswersBy moveToLarsson (toLarssonBytes f table w out .answer) out (toLarssonBytes f table w out .word)
   pub transpose-lent : (e : Eye) (marks : List ℕ) (powers : List Float) → AnswersLent prescriptionLent marks powers (transposeLent e marks powers)
   pub equivalent-lent : (e : Eye) (power : List Float)
       → AnswersBy prescriptionLent (equivalentLent e power .answer) power (equivalentLent e power .power)

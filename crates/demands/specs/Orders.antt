@@ -1,10 +1,11 @@
 -- "Orders: ..": the numbers that each call can refuse with, in document 01's order; document 02, ticket 3: 17, "itself a state refusal and ahead of the
--- others"; ticket 7: 20, "after 1"; ticket 10: 23, "after 12 and before 14", and 24, "after 12"; ticket 5: 18; ticket 6: 19; ticket 8: 21; ticket 2: 16. Where lent bytes add a refusal,
--- it stands at its place. Which of them comes first is seen in the outcomes. Assumes nothing.
+-- others"; ticket 7: 20, "after 1"; ticket 10: 23, "after 12 and before 14", and 24, "after 12"; ticket 5: 18; ticket 6: 19;
+-- ticket 8: 21; ticket 2: 16; ticket 9: 22. Where lent bytes add a refusal, it stands at its place. Which of them comes first is seen in the outcomes.
+-- Assumes nothing.
 use mathlib.Core.List.{List, [], _∷_}
 use mathlib.Core.Option.{Option, none, some}
 use Prim.Native.Nat.{ℕ}
-use Rattle.refusals.specs.Refusals.{invalid, unfit, wrongLength, badSymbol, badStarts, uncovered, noPattern, valueTooLarge, disagrees, erased, noMajority, badPayload, badRecord, badPrescription, badDepth, jobCancelled, alreadyOpen, notOpen, tableFull, numberZero, notCancelled, jobHeld, notHeld}
+use Rattle.refusals.specs.Refusals.{invalid, unfit, wrongLength, badSymbol, badStarts, uncovered, noPattern, valueTooLarge, disagrees, erased, noMajority, badPayload, badRecord, badPrescription, badDepth, surplusBytes, jobCancelled, alreadyOpen, notOpen, tableFull, numberZero, notCancelled, jobHeld, notHeld}
 use Rattle.jobs.specs.Jobs.{Kind, opening, cancelling, finishing, reinstating, holding, releasing}
 
 -- "figures alone 1 2"
@@ -40,6 +41,20 @@ abbrev pub jobRead : List ℕ
 jobRead =
     invalid ∷ unfit ∷ badPayload ∷ wrongLength ∷ badSymbol ∷ noPattern ∷ erased ∷ valueTooLarge ∷ disagrees ∷ erased ∷ badPayload
     ∷ jobCancelled ∷ jobHeld ∷ notOpen ∷ []
+
+-- document 02, "Moving the racks over", once a word is accepted: the reader's "10, 12 14" with 23 before 14, then "22, after the reader's refusals and before
+-- the writer's 17"
+abbrev pub moveAccepted : List ℕ
+moveAccepted = badPayload ∷ jobCancelled ∷ jobHeld ∷ notOpen ∷ surplusBytes ∷ numberZero ∷ []
+
+-- 1 2 10 3 4 and the Larsson code's reading before
+abbrev pub moveToA : List ℕ
+moveToA = invalid ∷ unfit ∷ badPayload ∷ wrongLength ∷ badSymbol ∷ noMajority ∷ valueTooLarge ∷ disagrees ∷ erased ∷ moveAccepted
+
+-- and Construction A's, for the way back
+abbrev pub moveToLarsson : List ℕ
+moveToLarsson =
+    invalid ∷ unfit ∷ badPayload ∷ wrongLength ∷ badSymbol ∷ noPattern ∷ erased ∷ valueTooLarge ∷ disagrees ∷ erased ∷ moveAccepted
 
 -- document 02, "The prescription on the tray": 16 "after all other input refusals"; alone where a value in memory or a text is all that is given
 abbrev pub prescriptionAlone : List ℕ

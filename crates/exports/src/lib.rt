@@ -27,6 +27,7 @@ use verifier::VerifyAnswer;
 
 pub mod larsson_code;
 pub mod long;
+pub mod moves;
 
 // What the check of a word answers for "no".
 const DIFFERS: u8 = 255;

@@ -16,8 +16,10 @@ use Rattle.cells.specs.Erasures.{foundBound, hasErasure}
 use Rattle.cells.specs.Plan.{cellOf}
 use Rattle.construction_a.specs.Figures.{inRange}
 use Rattle.construction_a.specs.Figures.{parts, blockMin, leastTail, indexTail, fits as fitsA, messageLen as messageLenA}
-use Rattle.construction_a.specs.Writing.{becomes, withBurst, withBursts, isBurst, next, partCount, partWith, chosen, beside, isChosen, isIndexIn, isIndex, indexBlocks, isFixed, kindAt as kindAtA, plan as planA, word as wordA}
-use Rattle.construction_a.specs.Reading.{looksFixed, later, bareParts, openBlocks, indexInPart, collect, indexFound, heads, written, agrees as agreesA, readRank, read as readA}
+use Rattle.construction_a.specs.Writing.{becomes, withBurst, withBursts, isBurst, next, partCount, partWith, chosen, beside, isChosen, isIndexIn}
+use Rattle.construction_a.specs.Writing.{isIndex, indexBlocks, isFixed, kindAt as kindAtA, plan as planA, word as wordA}
+use Rattle.construction_a.specs.Reading.{looksFixed, later, bareParts, openBlocks, indexInPart, collect, indexFound, heads, written}
+use Rattle.construction_a.specs.Reading.{agrees as agreesA, readRank, read as readA}
 use Rattle.larsson.specs.Figures.{subLen, gapTotal, gapLen, subStart, fits, messageLen}
 use Rattle.larsson.specs.Writing.{untouched, bears, bearers, inSub, isBorne, kindAt, plan, rankDigits, digits, word}
 use Rattle.larsson.specs.Reading.{subSymbols, subValue, found, agrees, readValue, read}
@@ -28,5 +30,11 @@ use Rattle.moving.specs.Move.{jobWord, moveJob, moveMessage, move, moveO
 use Rattle.moving.specs.Examples.{examples, ExamplesHold}
 
 pub examples-hold : ExamplesHold
-unfolding all any sameList sum firsts has first members tabulate top common majority choose rankFrom unrankDown unrank apart inBurst placements reduceFrom expandFrom rankOf startsOf pieceLen pieceStart blockAt blockHead blockWith byteWidth payloadLen weave pick span spell value places inRange parts blockMin leastTail indexTail fitsA messageLenA becomes withBurst withBursts isBurst next partCount partWith chosen beside isChosen isIndexIn isIndex indexBlocks isFixed cellOf kindAtA planA wordA looksFixed later bareParts openBlocks indexInPart collect indexFound heads written agreesA readRank readA subLen gapTotal gapLen subStart fits messageLen untouched bears bearers inSub isBorne kindAt plan rankDigits digits word foundBound hasErasure subSymbols subValue found agrees readValue read firstEntry twice carriesJob jobNumber messageOf payloadIn spellsPayload resized hasRoom jobWord moveJob moveMessage move moveOut comesTrue examples flatMap
+unfolding all any sameList sum firsts has first members tabulate top common majority choose rankFrom unrankDown unrank apart inBurst placements reduceFrom
+    expandFrom rankOf startsOf pieceLen pieceStart blockAt blockHead blockWith byteWidth payloadLen weave pick span spell value places inRange parts
+    blockMin leastTail indexTail fitsA messageLenA becomes withBurst withBursts isBurst next partCount partWith chosen beside isChosen isIndexIn
+    isIndex indexBlocks isFixed cellOf kindAtA planA wordA looksFixed later bareParts openBlocks indexInPart collect indexFound heads written agreesA
+    readRank readA subLen gapTotal gapLen subStart fits messageLen untouched bears bearers inSub isBorne kindAt plan rankDigits digits word
+    foundBound hasErasure subSymbols subValue found agrees readValue read firstEntry twice carriesJob jobNumber messageOf payloadIn spellsPayload
+    resized hasRoom jobWord moveJob moveMessage move moveOut comesTrue examples flatMap
 examples-hold = refl

@@ -3,26 +3,35 @@ use mathlib.Core.Path.{_≡_, refl}
 use mathlib.Core.Logic.{_≢_}
 use mathlib.Core.Bool.{true, not, _&&_}
 use mathlib.Core.List.{List}
-use Prim.Native.Nat.{ℕ}
+use Prim.Native.Nat.{ℕ, _-_}
 use native.Mathlib.Omega.{arith}
+use lib.Dec.{eqb}
+use lib.ListN.{length, replicate}
+use lib.Seq.{take-append-seam}
 use Rattle.refusals.specs.Refusals.{must, served, invalid, unfit}
+use Rattle.combinatorics.specs.Bursts.{apart}
+use Rattle.combinatorics.proofs.Cases.{eqb-same, eqb-true}
 use Rattle.combinatorics.proofs.Lists.{both}
+use Rattle.cells.specs.Bytes.{payloadLen}
 use Rattle.cells.specs.Codec.{Codec}
 use Rattle.cells.proofs.Erasures.{found-least}
-use Rattle.construction_a.specs.Figures.{Params, inRange}
+use Rattle.construction_a.specs.Figures.{Params, inRange, isPlacement}
 use Rattle.construction_a.specs.Figures.{fits as fitsA}
-use Rattle.cells.specs.Outcomes.{unwritten}
+use Rattle.cells.specs.Outcomes.{Coding, Held, Encoded, maxBursts, unwritten}
 use Rattle.construction_a.specs.DemandTwo.{constructionA}
+use Rattle.construction_a.specs.Outcomes.{coding as codingA}
 use Rattle.construction_a.proofs.Figures.{ranged}
 use Rattle.construction_a.proofs.DemandTwo.{demand-two}
 use Rattle.larsson.specs.Figures.{fits as fitsLarsson}
 use Rattle.larsson.specs.Codec.{larsson}
+use Rattle.larsson.specs.Outcomes.{coding as codingLarsson}
 use Rattle.larsson.proofs.Exact.{larsson-exact}
 use Rattle.jobs.specs.declared.Entry.{Entry}
 use Rattle.jobs.specs.Table.{twice}
-use Rattle.moving.specs.Move.{move, moveOut}
+use Rattle.jobcodec.specs.JobWrite.{jobWriteUnder}
+use Rattle.moving.specs.Move.{jobWord, move, moveOut}
 use Rattle.moving.specs.ThereAndBack.{Returned, ThereAndBack, SameJob, MovesJob}
-use Rattle.moving.proofs.Moving.{Movable, passed, accepted-move, returned, same-job}
+use Rattle.moving.proofs.Moving.{Movable, WritesJobs, passed, accepted-move, returned, same-job}
 
 listed-number : (f : Params) (w : List ℕ) (a : ℕ) → Rattle.construction_a.specs.DemandTwo.Listed f w a → a ≢ served
 listed-number f w a (Rattle.construction_a.specs.DemandTwo.no-pattern x) = λ e. omega arith
@@ -59,6 +68,37 @@ movable-larsson f i h =
       numbered = λ w a e. larsson-number f w a (d .listed w a .0 e);
     }
 
+-- ---- Job writing
+
+-- a placement has m starts, each run behind the one before
+pub placed-apart : (f : Params) (ss : List ℕ) → isPlacement f ss ≡ true → (length ss ≡ f .m) × (apart (f .b) (f .n) 0 ss ≡ true)
+unfolding isPlacement
+placed-apart f ss p =
+    let v = both (eqb (length ss) (f .m)) (apart (f .b) (f .n) 0 ss) p in
+    (eqb-true (length ss) (f .m) (v .0), v .1)
+
+writes-jobs : (d : Coding) (es : List Entry) → d .inRange ≡ true → not (twice es) ≡ true → d .fits ≡ true
+    → ((ss : List ℕ) → d .codec .placed ss ≡ true → (length ss ≡ d .bursts) × (apart (d .burstLen) (d .codec .wordLen) 0 ss ≡ true))
+    → WritesJobs (d .codec) es (jobWriteUnder d es)
+unfolding jobWord
+writes-jobs d es range once fit starts-are ss payload out placed carries is number is-open lent =
+    let at = starts-are ss placed in
+    rw (
+      range,
+      once,
+      fit,
+      carries,
+      eqb-same (length ss) (d .bursts) (at .0),
+      eqb-same (length payload) (payloadLen (d .codec .alphabet) (d .codec .messageLen)) (is .count),
+      eqb-same (length out) (d .codec .wordLen) lent,
+      take-append-seam ss (replicate (maxBursts - length ss) 0),
+      at .1,
+      number,
+      is-open,
+    )
+
+-- ---- Figures that fit both
+
 -- past "1 2"
 pub record Fitting (f : Params) (es : List Entry) : Type 0 where
   pub range : inRange f ≡ true
@@ -67,11 +107,11 @@ pub record Fitting (f : Params) (es : List Entry) : Type 0 where
   pub fit-larsson : fitsLarsson f ≡ true
 
 module _ (f : Params) (es : List Entry) (from to : Codec) where
-  past-figures : Fitting f es → (w out : List ℕ) → moveOut f from to es w out ≡ move from to es w out
+  pub past-figures : Fitting f es → (w out : List ℕ) → moveOut f from to es w out ≡ move from to es w out
   unfolding moveOut
   past-figures g w out = rw (g .range, g .once, g .fit-a, g .fit-larsson)
 
-  fitting : (w out : List ℕ) → moveOut f from to es w out .answer ≡ served → Fitting f es × (move from to es w out .answer ≡ served)
+  pub fitting : (w out : List ℕ) → moveOut f from to es w out .answer ≡ served → Fitting f es × (move from to es w out .answer ≡ served)
   unfolding moveOut
   fitting w out e =
       let rest = move from to es w out in
@@ -92,11 +132,13 @@ module _ (f : Params) (es : List Entry) (from to : Codec) (from-ok : Fitting f e
       rw (past-figures f es from to (g .0) w out)
       (returned from to (from-ok (g .0)) (to-ok (g .0)) alike es w out (p .0) (p .1) (p .2) (moveOut f to from es) (past-figures f es to from (g .0)))
 
-  job : SameJob from to es w (moveOut f from to es w out .word)
-  job =
+  job : (write : Held → List ℕ → List ℕ → Encoded) → (Fitting f es → WritesJobs to es write)
+      → SameJob from to write es w (moveOut f from to es w out .word)
+  job write writes =
       let g = fitting f es from to w out e in
       let p = accepted-move from to es w out (from-ok (g .0) .numbered w) (g .1) in
-      rw (past-figures f es from to (g .0) w out) (same-job from to (from-ok (g .0)) (to-ok (g .0)) alike es w out (p .0) (p .1) (p .2))
+      rw (past-figures f es from to (g .0) w out)
+      (same-job from to (from-ok (g .0)) (to-ok (g .0)) alike es w out (p .0) (p .1) (p .2) write (writes (g .0)))
 
 -- ---- Both
 
@@ -117,6 +159,10 @@ module _ (f : Params) (es : List Entry) (w out : List ℕ) where
   pub moves-job : MovesJob f es w out
   moves-job =
       record {
-        from-larsson = job f es (larsson f) (constructionA f) older-ok newer-ok (λ _. refl) w out;
-        from-a = job f es (constructionA f) (larsson f) newer-ok older-ok (λ _. refl) w out;
+        from-larsson = λ e.
+            job f es (larsson f) (constructionA f) older-ok newer-ok (λ _. refl) w out e (jobWriteUnder (codingA f) es)
+            (λ g. writes-jobs (codingA f) es (g .range) (g .once) (g .fit-a) (placed-apart f));
+        from-a = λ e.
+            job f es (constructionA f) (larsson f) newer-ok older-ok (λ _. refl) w out e (jobWriteUnder (codingLarsson f) es)
+            (λ g. writes-jobs (codingLarsson f) es (g .range) (g .once) (g .fit-larsson) (placed-apart f));
       }

@@ -1,7 +1,7 @@
 -- Moving between any two exact codecs whose placements are the same: there and back returns the message. Assumes nothing.
 use mathlib.Core.Path.{_≡_, refl, sym, ap, _∙_}
 use mathlib.Core.Logic.{_≢_}
-use mathlib.Core.Bool.{Bool, true, false, not, _&&_}
+use mathlib.Core.Bool.{Bool, true, false, _&&_}
 use mathlib.Core.List.{List}
 use Prim.Native.Nat.{ℕ, _≤_, _<_}
 use native.Mathlib.Omega.{arith}
@@ -12,7 +12,7 @@ use Rattle.combinatorics.specs.Lists.{allBelow}
 use Rattle.combinatorics.proofs.Cases.{eqb-same, eqb-true}
 use Rattle.combinatorics.proofs.Lists.{both, below-at, at-below}
 use Rattle.cells.specs.Codec.{Codec, Reading, accepted, refused, Word, LeadsTo, WritesWords, Exact}
-use Rattle.cells.specs.Outcomes.{Encoded, unwritten}
+use Rattle.cells.specs.Outcomes.{Held, held, Encoded, unwritten}
 use Rattle.jobs.specs.declared.Entry.{Entry}
 use Rattle.jobs.specs.Jobs.{isJob, Status, unknown, opened, onHold, cancelled}
 use Rattle.jobs.specs.Table.{standing, lookup}
@@ -33,6 +33,12 @@ pub record Movable (c : Codec) : Type 0 where
   pub finds : c .alphabet ≤ c .foundBound
   pub numbered : (w : List ℕ) (a : ℕ) → c .decode w ≡ refused a → a ≢ served
 
+-- and of job writing under one: a job that passes its tests is written
+abbrev pub WritesJobs : Codec → List Entry → (Held → List ℕ → List ℕ → Encoded) → Type 0
+WritesJobs c es write = (starts payload out : List ℕ) → c .placed starts ≡ true → carriesJob (c .alphabet) (c .messageLen) ≡ true
+    → IsPayload (c .alphabet) (c .messageLen) payload → isJob (jobNumber payload) ≡ true → jobStatus es payload ≡ opened → length out ≡ c .wordLen
+    → write (held starts) payload out ≡ written (jobWord c starts payload)
+
 -- ---- An accepted move, test by test
 
 pub record Passed (from to : Codec) (es : List Entry) (w out starts message : List ℕ) : Type 0 where
@@ -48,7 +54,8 @@ pub record Passed (from to : Codec) (es : List Entry) (w out starts message : Li
   pub number : isJob (jobNumber (payloadIn (from .alphabet) (from .messageLen) message)) ≡ true
 
 -- a test of an order that ends in acceptance was passed
-pub passed : (t : Bool) (out : List ℕ) (a : ℕ) (rest : Encoded) → a ≢ served → must t (unwritten out a) rest .answer ≡ served → (t ≡ true) × (rest .answer ≡ served)
+pub passed : (t : Bool) (out : List ℕ) (a : ℕ) (rest : Encoded) → a ≢ served → must t (unwritten out a) rest .answer ≡ served
+    → (t ≡ true) × (rest .answer ≡ served)
 passed true out a rest n e = (refl, e)
 passed false out a rest n e = absurd (n e)
 
@@ -67,12 +74,14 @@ module _ (from to : Codec) (es : List Entry) (w out : List ℕ) where
       let reads = moveRead from to es out (from .decode w) in
       let symbols = must (allBelow (from .foundBound) w) (unwritten out badSymbol) reads in
       let lengths = must (eqb (length w) (from .wordLen) && eqb (length out) (to .wordLen)) (unwritten out wrongLength) symbols in
-      let p₁ = passed (carriesJob (from .alphabet) (from .messageLen) && carriesJob (to .alphabet) (to .messageLen)) out badPayload lengths (λ z. omega arith) e in
+      let carries = carriesJob (from .alphabet) (from .messageLen) && carriesJob (to .alphabet) (to .messageLen) in
+      let p₁ = passed carries out badPayload lengths (λ z. omega arith) e in
       let p₂ = passed (eqb (length w) (from .wordLen) && eqb (length out) (to .wordLen)) out wrongLength symbols (λ z. omega arith) (p₁ .1) in
       let p₃ = passed (allBelow (from .foundBound) w) out badSymbol reads (λ z. omega arith) (p₂ .1) in
       let carry = both (carriesJob (from .alphabet) (from .messageLen)) (carriesJob (to .alphabet) (to .messageLen)) (p₁ .0) in
       let long = both (eqb (length w) (from .wordLen)) (eqb (length out) (to .wordLen)) (p₂ .0) in
-      go (from .decode w) refl (p₃ .1) (carry .0) (carry .1) (eqb-true (length w) (from .wordLen) (long .0)) (eqb-true (length out) (to .wordLen) (long .1)) (p₃ .0)
+      go (from .decode w) refl (p₃ .1) (carry .0) (carry .1) (eqb-true (length w) (from .wordLen) (long .0))
+      (eqb-true (length out) (to .wordLen) (long .1)) (p₃ .0)
     where
       go : (r : Reading) → from .decode w ≡ r → moveRead from to es out r .answer ≡ served
           → carriesJob (from .alphabet) (from .messageLen) ≡ true → carriesJob (to .alphabet) (to .messageLen) ≡ true
@@ -224,10 +233,12 @@ module _ (from to : Codec) (ok-from : Movable from) (ok-to : Movable to) (alike 
   goes-back w′ out′ found′ outside lent =
       passed-move to from es w′ out′ starts moved (passed-back w′ out′ found′ outside lent)
       ∙ ap (λ (a : List ℕ). written (from .encode starts (messageOf (from .alphabet) (from .messageLen) a)))
-      (ap (resized (bytesOf from)) (payload-back (to .alphabet) (to .messageLen) (ok-to .two) z z-is) ∙ resized-back (bytesOf from) (bytesOf to) y (y-is .count) (p .room))
+      (ap (resized (bytesOf from)) (payload-back (to .alphabet) (to .messageLen) (ok-to .two) z z-is)
+      ∙ resized-back (bytesOf from) (bytesOf to) y (y-is .count) (p .room))
       ∙ ap (λ (a : List ℕ). written (from .encode starts a)) spelled
 
-  pub returned : (back : List ℕ → List ℕ → Encoded) → ((w′ out′ : List ℕ) → back w′ out′ ≡ move to from es w′ out′) → Returned from to w (move from to es w out .word) back
+  pub returned : (back : List ℕ → List ℕ → Encoded) → ((w′ out′ : List ℕ) → back w′ out′ ≡ move to from es w′ out′)
+      → Returned from to w (move from to es w out .word) back
   returned back is =
       record {
         starts = starts;
@@ -239,17 +250,31 @@ module _ (from to : Codec) (ok-from : Movable from) (ok-to : Movable to) (alike 
             (written-word from ok-from starts ms (leads .placement) (leads .count) (leads .symbols)) (λ _ _ _. refl);
       }
 
-  -- what job reading hands out before and after
-  pub same-job : SameJob from to es w (move from to es w out .word)
+  still-open : jobStatus es z ≡ opened
+  unfolding y
+  still-open = ap (λ (n : ℕ). standing (lookup es n)) same-number ∙ p .is-open
+
+  -- what job reading hands out before and after, and what job writing leaves
+  pub same-job : (write : Held → List ℕ → List ℕ → Encoded) → WritesJobs to es write → SameJob from to write es w (move from to es w out .word)
   unfolding jobReading z y moved
-  same-job =
+  same-job write writes =
       record {
+        starts = starts;
+        message = ms;
         payload = y;
+        read = p .read;
         before = λ buffer lent.
-            rw (p .carries-from, eqb-same (length w) (from .wordLen) (p .complete), eqb-same (length buffer) (bytesOf from) lent, p .symbols, p .read, p .spells, p .is-open);
+            rw (
+              p .carries-from,
+              eqb-same (length w) (from .wordLen) (p .complete),
+              eqb-same (length buffer) (bytesOf from) lent,
+              p .symbols,
+              p .read,
+              p .spells,
+              p .is-open,
+            );
         after = λ buffer lent.
             let m = move from to es w out .word in
-            let is-open : jobStatus es z ≡ opened = ap (λ (n : ℕ). standing (lookup es n)) same-number ∙ p .is-open in
             rw (
               p .carries-to,
               eqb-same (length m) (to .wordLen) (moved-found .complete),
@@ -258,6 +283,11 @@ module _ (from to : Codec) (ok-from : Movable from) (ok-to : Movable to) (alike 
               moved-reads m moved-found (λ _ _ _. refl),
               payload-passes (to .alphabet) (to .messageLen) (ok-to .two) z z-is,
               payload-back (to .alphabet) (to .messageLen) (ok-to .two) z z-is,
-              is-open,
+              still-open,
             );
+        whole = p .room;
+        number = same-number;
+        as-written = λ out′ lent.
+            writes starts z out′ placed (p .carries-to) z-is (ap (λ (n : ℕ). isJob n) same-number ∙ p .number) still-open lent
+            ∙ sym (ap (λ (r : Encoded). written (r .word)) (passed-move from to es w out starts ms p));
       }

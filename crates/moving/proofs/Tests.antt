@@ -8,14 +8,14 @@ use native.Mathlib.Omega.{arith}
 use lib.Dec.{ltb, eqb}
 use lib.ListN.{length, take, drop, length-drop, drop-of-length-le}
 use lib.Seq.{take-all}
-use Rattle.refusals.specs.Refusals.{must, served, surplusBytes, numberZero}
+use Rattle.refusals.specs.Refusals.{served, surplusBytes, numberZero}
 use Rattle.combinatorics.specs.Lists.{all, allBelow}
 use Rattle.combinatorics.proofs.Cases.{by-le, eqb-same, eqb-other}
 use Rattle.jobs.specs.declared.Entry.{Entry}
 use Rattle.jobs.specs.Jobs.{isJob, needsOpen}
 use Rattle.payloads.specs.Payload.{jobNumber}
 use Rattle.jobcodec.specs.JobWrite.{jobStatus}
-use Rattle.moving.specs.Move.{movingNumber}
+use Rattle.moving.specs.Given.{movingNumber}
 use Rattle.moving.specs.Resize.{hasRoom}
 
 -- ---- Surplus bytes

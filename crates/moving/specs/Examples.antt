@@ -1,8 +1,8 @@
--- Worked examples of moving as one table: n 11, q 256, m 2, b 1, where the Larsson code's payload has 6 bytes and Construction A's 5. The proof is
--- `examples-hold` of proofs/Examples.antt. Assumes nothing.
+-- Worked examples of moving as one table: n 11, q 256, m 2, b 1, where the Larsson code's payload has 6 bytes and Construction A's 5; and n 30, q 16, m 1,
+-- b 3, where they have 11 and 12. The proof is `examples-hold` of proofs/Examples.antt. Assumes nothing.
 use mathlib.Core.Path.{_≡_}
 use mathlib.Core.Bool.{true}
-use mathlib.Core.List.{List, [], _∷_}
+use mathlib.Core.List.{List, [], _∷_, _++_}
 use Prim.Native.Nat.{ℕ}
 use lib.ListN.{replicate}
 use Rattle.combinatorics.specs.Examples.{Example, example, comesTrue}
@@ -19,6 +19,9 @@ use Rattle.moving.specs.Move.{bytesOf, toConstructionA, toLarsson}
 abbrev figures : Params
 figures = params 11 256 2 1
 
+abbrev hexFigures : Params
+hexFigures = params 30 16 1 3
+
 abbrev table : List Entry
 table = Open 7 ∷ Cancelled 9 WasOpen ∷ Open 0 ∷ OnHold 8 ∷ Free ∷ []
 
@@ -26,8 +29,8 @@ table = Open 7 ∷ Cancelled 9 WasOpen ∷ Open 0 ∷ OnHold 8 ∷ Free ∷ []
 abbrev shown : Encoded → List ℕ
 shown e = e .answer ∷ e .word
 
-abbrev unchanged : List ℕ
-unchanged = replicate 11 1
+abbrev unchanged : ℕ → List ℕ
+unchanged n = replicate n 1
 
 -- a strip of the Larsson code with runs at 2 and 7, spoilt there, whose payload is 0 0 0, the number, 65 and a last byte
 abbrev older : ℕ → ℕ → List ℕ
@@ -37,21 +40,72 @@ older number last = 23 ∷ 0 ∷ 255 ∷ 0 ∷ 23 ∷ 0 ∷ number ∷ 255 ∷ 6
 abbrev newer : ℕ → ℕ → List ℕ
 newer spoilt last = 0 ∷ 0 ∷ spoilt ∷ 1 ∷ 0 ∷ 24 ∷ 0 ∷ spoilt ∷ 7 ∷ 0 ∷ last ∷ []
 
+-- a strip of the Larsson code with a run at 4, by what is in it and in the three sub-blocks: two have the rank, and the third the payload's last symbol
+-- and a leftover; job 7, and text 65 to 71
+abbrev hexOlder : ℕ → List ℕ → List ℕ → List ℕ → List ℕ
+hexOlder spoilt first second third =
+    first ++ (0 ∷ 0 ∷ spoilt ∷ spoilt ∷ spoilt ∷ 0 ∷ 0 ∷ 0 ∷ 0 ∷ 0 ∷ 7 ∷ 4 ∷ []) ++ second
+    ++ (1 ∷ 4 ∷ 2 ∷ 4 ∷ 3 ∷ 4 ∷ 4 ∷ 4 ∷ 5 ∷ 4 ∷ 6 ∷ 4 ∷ []) ++ third
+
+-- the same job in one of Construction A, by what is in the run, the I-block's first symbols, and the last byte
+abbrev hexNewer : ℕ → List ℕ → List ℕ → List ℕ
+hexNewer spoilt index last =
+    (0 ∷ 0 ∷ 0 ∷ 0 ∷ spoilt ∷ spoilt ∷ spoilt ∷ 0 ∷ 0 ∷ 0 ∷ []) ++ index
+    ++ (7 ∷ 4 ∷ 1 ∷ 4 ∷ 2 ∷ 4 ∷ 3 ∷ 4 ∷ 0 ∷ 4 ∷ 4 ∷ 5 ∷ 4 ∷ 6 ∷ 4 ∷ 7 ∷ []) ++ last
+
+abbrev rank4 : List ℕ
+rank4 = 0 ∷ 4 ∷ []
+
+abbrev index4 : List ℕ
+index4 = 1 ∷ 4 ∷ []
+
+abbrev ending : List ℕ
+ending = 7 ∷ 0 ∷ []
+
+abbrev toHexA : List ℕ → List ℕ
+toHexA w = shown (toConstructionA hexFigures table w (unchanged 30))
+
+abbrev toHexLarsson : List ℕ → List ℕ
+toHexLarsson w = shown (toLarsson hexFigures table w (unchanged 30))
+
 unfoldable pub examples : List Example
 examples =
     example (bytesOf (larsson figures) ∷ bytesOf (constructionA figures) ∷ []) (6 ∷ 5 ∷ [])
-    -- there, and back
-    ∷ example (shown (toConstructionA figures table (older 7 0) unchanged)) (0 ∷ newer 0 65)
-    ∷ example (shown (toLarsson figures table (newer 200 65) unchanged)) (0 ∷ 23 ∷ 0 ∷ 0 ∷ 0 ∷ 23 ∷ 0 ∷ 7 ∷ 0 ∷ 65 ∷ 0 ∷ 23 ∷ [])
-    -- "the longer payload ends in zero bytes"
-    ∷ example (shown (toLarsson figures table (newer 0 66) unchanged)) (0 ∷ 23 ∷ 0 ∷ 0 ∷ 0 ∷ 23 ∷ 0 ∷ 7 ∷ 0 ∷ 66 ∷ 0 ∷ 23 ∷ [])
+    -- there, and back: "the longer payload ends in zero bytes"
+    ∷ example (shown (toConstructionA figures table (older 7 0) (unchanged 11))) (0 ∷ newer 0 65)
+    ∷ example (shown (toLarsson figures table (newer 200 65) (unchanged 11))) (0 ∷ 23 ∷ 0 ∷ 0 ∷ 0 ∷ 23 ∷ 0 ∷ 7 ∷ 0 ∷ 65 ∷ 0 ∷ 23 ∷ [])
     -- "22, after the reader's refusals and before the writer's 17"
-    ∷ example (shown (toConstructionA figures table (older 7 66) unchanged)) (22 ∷ unchanged)
-    ∷ example (shown (toConstructionA figures table (older 0 66) unchanged)) (22 ∷ unchanged)
-    ∷ example (shown (toConstructionA figures table (older 0 0) unchanged)) (17 ∷ unchanged)
-    ∷ example (shown (toConstructionA figures table (older 9 66) unchanged)) (12 ∷ unchanged)
-    ∷ example (shown (toConstructionA figures table (older 8 66) unchanged)) (23 ∷ unchanged)
-    ∷ example (shown (toConstructionA figures table (older 5 66) unchanged)) (14 ∷ unchanged)
+    ∷ example (shown (toConstructionA figures table (older 7 66) (unchanged 11))) (22 ∷ unchanged 11)
+    ∷ example (shown (toConstructionA figures table (older 0 66) (unchanged 11))) (22 ∷ unchanged 11)
+    ∷ example (shown (toConstructionA figures table (older 0 0) (unchanged 11))) (17 ∷ unchanged 11)
+    ∷ example (shown (toConstructionA figures table (older 9 66) (unchanged 11))) (12 ∷ unchanged 11)
+    ∷ example (shown (toConstructionA figures table (older 8 66) (unchanged 11))) (23 ∷ unchanged 11)
+    ∷ example (shown (toConstructionA figures table (older 5 66) (unchanged 11))) (14 ∷ unchanged 11)
+    -- there, and back, where Construction A's payload is the longer; 22 on the way back
+    ∷ example (bytesOf (larsson hexFigures) ∷ bytesOf (constructionA hexFigures) ∷ []) (11 ∷ 12 ∷ [])
+    ∷ example (toHexA (hexOlder 16 rank4 rank4 ending)) (0 ∷ hexNewer 0 index4 (0 ∷ 0 ∷ []))
+    ∷ example (toHexLarsson (hexNewer 16 index4 (0 ∷ 0 ∷ []))) (0 ∷ hexOlder 0 rank4 rank4 ending)
+    ∷ example (toHexLarsson (hexNewer 0 index4 (4 ∷ 8 ∷ []))) (22 ∷ unchanged 30)
+    -- a book with a number twice; figures that fit Construction A alone, and the Larsson code alone; 4 bytes in Construction A, 5 in the Larsson code
+    ∷ example (shown (toConstructionA hexFigures (Open 7 ∷ Open 7 ∷ []) (hexOlder 0 rank4 rank4 ending) (unchanged 30))) (1 ∷ unchanged 30)
+    ∷ example (shown (toConstructionA (params 6 5 2 1) table (unchanged 6) (unchanged 6))) (2 ∷ unchanged 6)
+    ∷ example (shown (toLarsson (params 3 2 3 1) table (unchanged 3) (unchanged 3))) (2 ∷ unchanged 3)
+    ∷ example (shown (toConstructionA (params 10 256 2 1) table (unchanged 10) (unchanged 10))) (10 ∷ unchanged 10)
+    -- either lent strip too short; a symbol above q
+    ∷ example (shown (toConstructionA hexFigures table (hexOlder 0 rank4 rank4 ending) (unchanged 29))) (3 ∷ unchanged 29)
+    ∷ example (shown (toLarsson hexFigures table (older 7 0) (unchanged 30))) (3 ∷ unchanged 30)
+    ∷ example (toHexA (hexOlder 17 rank4 rank4 ending)) (4 ∷ unchanged 30)
+    -- the older strip: no majority; a value of T or more; an untouched sub-block without it; a silent cell in the message; a leftover symbol not 0
+    ∷ example (toHexA (hexOlder 0 rank4 index4 ending)) (21 ∷ unchanged 30)
+    ∷ example (toHexA (hexOlder 0 (15 ∷ 15 ∷ []) (15 ∷ 15 ∷ []) ending)) (8 ∷ unchanged 30)
+    ∷ example (toHexA (hexOlder 0 rank4 index4 rank4)) (9 ∷ unchanged 30)
+    ∷ example (toHexA (hexOlder 0 rank4 rank4 (16 ∷ 0 ∷ []))) (19 ∷ unchanged 30)
+    ∷ example (toHexA (hexOlder 0 rank4 rank4 (7 ∷ 1 ∷ []))) (10 ∷ unchanged 30)
+    -- the newer: no listed pattern; a silent cell in the I-block; a value of T or more; a placement whose I-block isn't the one read
+    ∷ example (toHexLarsson (hexNewer 0 rank4 (0 ∷ 0 ∷ []))) (7 ∷ unchanged 30)
+    ∷ example (toHexLarsson (hexNewer 0 (1 ∷ 16 ∷ []) (0 ∷ 0 ∷ []))) (19 ∷ unchanged 30)
+    ∷ example (toHexLarsson (hexNewer 0 (15 ∷ 15 ∷ []) (0 ∷ 0 ∷ []))) (8 ∷ unchanged 30)
+    ∷ example (toHexLarsson (hexNewer 0 (1 ∷ 15 ∷ []) (0 ∷ 0 ∷ []))) (9 ∷ unchanged 30)
     ∷ []
 
 abbrev pub ExamplesHold : Type 0

@@ -42,14 +42,6 @@ moveJob to out starts payload =
     (must (isJob (jobNumber payload)) (unwritten out numberZero)
     (written (jobWord to starts (resized (bytesOf to) payload))))
 
--- the number of the same: 0 for a payload that may be written in so many bytes
-unfoldable pub movingNumber : List Entry → ℕ → List ℕ → ℕ
-movingNumber es room payload =
-    whereOpen (jobStatus es payload) (λ a. a)
-    (must (hasRoom room payload) surplusBytes
-    (must (isJob (jobNumber payload)) numberZero
-    served))
-
 -- the reader's "10, 12 14" of an accepted word, with 23 between
 unfoldable pub moveMessage : Codec → Codec → List Entry → List ℕ → List ℕ → List ℕ → Encoded
 moveMessage from to es out starts ms =

@@ -1,19 +1,27 @@
 -- "There and back returns the original message whenever the first move is accepted and the book is the same at the second." The statement, and what a
--- move does to the job; the proofs are `there-and-back` and `moves-job` of proofs/Figures.antt. Assumes nothing.
+-- move does to the job; the proofs are `there-and-back` and `moves-job` of proofs/Figures.antt. Then the call that runs both moves, whose
+-- proof is `came-back` of proofs/ThereAndBack.antt. Assumes nothing.
 use mathlib.Core.Path.{_≡_}
-use mathlib.Core.Bool.{false}
+use mathlib.Core.Bool.{true, false}
 use mathlib.Core.List.{List}
 use Prim.Native.Nat.{ℕ, _<_}
 use lib.ListN.{length, getD}
 use Rattle.refusals.specs.Refusals.{served}
+use Rattle.combinatorics.specs.Bursts.{inBurst}
+use Rattle.combinatorics.specs.Lists.{allBelow}
 use Rattle.cells.specs.Codec.{Codec, accepted, Word}
 use Rattle.construction_a.specs.Figures.{Params}
 use Rattle.construction_a.specs.DemandTwo.{constructionA}
-use Rattle.cells.specs.Outcomes.{Encoded}
+use Rattle.construction_a.specs.Outcomes.{coding as codingA}
+use Rattle.cells.specs.Outcomes.{Held, held, Encoded}
 use Rattle.larsson.specs.Codec.{larsson}
+use Rattle.larsson.specs.Outcomes.{coding as codingLarsson}
 use Rattle.jobs.specs.declared.Entry.{Entry}
+use Rattle.payloads.specs.Payload.{jobNumber}
+use Rattle.jobcodec.specs.JobWrite.{unless, jobWriteUnder}
 use Rattle.jobcodec.specs.JobRead.{handOut, jobReading}
-use Rattle.moving.specs.Resize.{resized}
+use Rattle.roundtrip.specs.Damage.{damaged}
+use Rattle.moving.specs.Resize.{resized, hasRoom}
 use Rattle.moving.specs.Move.{bytesOf, written, toConstructionA, toLarsson}
 
 -- w′ differs from a word only inside a placement's bursts
@@ -38,12 +46,58 @@ pub record ThereAndBack (f : Params) (es : List Entry) (w out : List ℕ) : Type
   pub from-a : toLarsson f es w out .answer ≡ served
       → Returned (constructionA f) (larsson f) w (toLarsson f es w out .word) (toConstructionA f es)
 
--- "A job read from an older strip should be written ..": what job reading hands out of the strip, and of the strip it was moved to
-pub record SameJob (from to : Codec) (es : List Entry) (w moved : List ℕ) : Type 0 where
+-- "A job read from an older strip should be written as a Construction A strip with the same figures and placement": what job reading hands out of the strip,
+-- and of the strip it was moved to; and what job writing, here `write`, leaves
+pub record SameJob (from to : Codec) (write : Held → List ℕ → List ℕ → Encoded) (es : List Entry) (w moved : List ℕ) : Type 0 where
+  pub starts : List ℕ
+  pub message : List ℕ
   pub payload : List ℕ
+  pub read : from .decode w ≡ accepted starts message
   pub before : (buffer : List ℕ) → length buffer ≡ bytesOf from → jobReading from es w buffer ≡ handOut payload
   pub after : (buffer : List ℕ) → length buffer ≡ bytesOf to → jobReading to es moved buffer ≡ handOut (resized (bytesOf to) payload)
+  -- "Number and text are preserved": nothing but zero bytes is cut off
+  pub whole : hasRoom (bytesOf to) payload ≡ true
+  pub number : jobNumber (resized (bytesOf to) payload) ≡ jobNumber payload
+  -- "with the same .. placement": the moved strip is what job writing leaves in any strip of the length, for the placement that was read
+  pub as-written : (out : List ℕ) → length out ≡ to .wordLen → write (held starts) (resized (bytesOf to) payload) out ≡ written moved
 
 pub record MovesJob (f : Params) (es : List Entry) (w out : List ℕ) : Type 0 where
-  pub from-larsson : toConstructionA f es w out .answer ≡ served → SameJob (larsson f) (constructionA f) es w (toConstructionA f es w out .word)
-  pub from-a : toLarsson f es w out .answer ≡ served → SameJob (constructionA f) (larsson f) es w (toLarsson f es w out .word)
+  pub from-larsson : toConstructionA f es w out .answer ≡ served
+      → SameJob (larsson f) (constructionA f) (jobWriteUnder (codingA f) es) es w (toConstructionA f es w out .word)
+  pub from-a : toLarsson f es w out .answer ≡ served
+      → SameJob (constructionA f) (larsson f) (jobWriteUnder (codingLarsson f) es) es w (toLarsson f es w out .word)
+
+-- ---- One call that moves an older strip there and back, with damage in between
+
+-- what it answers, and both lent strips afterwards
+pub record MovedBack : Type 0 where
+  pub answer : ℕ
+  pub between : List ℕ
+  pub back : List ℕ
+
+abbrev pub thereAndBackAs : ℕ → List ℕ → List ℕ → MovedBack
+thereAndBackAs a between back = record { answer = a; between = between; back = back }
+
+-- the refusal of the first move, and both strips as they were lent; or what the second move makes of the strip that is found in between, with the values of
+-- ds in the bursts of a placement
+unfoldable pub thereAndBackOut : Params → List Entry → List ℕ → List ℕ → List ℕ → List ℕ → List ℕ → MovedBack
+thereAndBackOut f es starts w ds between lent =
+    let there = toConstructionA f es w between in
+    let found = damaged (inBurst (f .b) starts) ds (there .word) in
+    let back = toLarsson f es found lent in
+    unless (there .answer) (λ a. thereAndBackAs a between lent)
+    (thereAndBackAs (back .answer) found (back .word))
+
+-- the strip of a placement and a message, which reads as these
+pub record Original (c : Codec) (starts message : List ℕ) (answer : ℕ) (back : List ℕ) : Type 0 where
+  pub accepts : answer ≡ served
+  pub strip : back ≡ c .encode starts message
+  pub reads : c .decode back ≡ accepted starts message
+
+-- "returns the original message whenever the first move is accepted": where the damage is up to q and inside the bursts of the placement that was read, and
+-- the last strip has the length
+abbrev pub CameBack : Params → List Entry → List ℕ → List ℕ → List ℕ → List ℕ → List ℕ → ℕ → List ℕ → Type 0
+CameBack f es starts w ds between lent answer back =
+    (placement message : List ℕ) → toConstructionA f es w between .answer ≡ served → larsson f .decode w ≡ accepted placement message
+    → allBelow (constructionA f .foundBound) ds ≡ true → ((x : ℕ) → inBurst (f .b) starts x ≡ true → inBurst (f .b) placement x ≡ true) → length lent ≡ f .n
+    → Original (larsson f) placement message answer back

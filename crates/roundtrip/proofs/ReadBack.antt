@@ -39,10 +39,10 @@ module _ (spoilt : ℕ → Bool) (ds w : List ℕ) where
   damaged-at x l = tabulate-at (length w) 0 x (λ y. cond (spoilt y) (getD ds y 0) (getD w y 0)) l ∙ rw (zero-add x)
 
   -- outside nothing is changed
-  sound : (x : ℕ) → x < length w → spoilt x ≡ false → getD (damaged spoilt ds w) x 0 ≡ getD w x 0
+  pub sound : (x : ℕ) → x < length w → spoilt x ≡ false → getD (damaged spoilt ds w) x 0 ≡ getD w x 0
   sound x l e = damaged-at x l ∙ rw e
 
-  damaged-below : (q bound : ℕ) → 0 < q → q ≤ bound → allBelow bound ds ≡ true → allBelow q w ≡ true → allBelow bound (damaged spoilt ds w) ≡ true
+  pub damaged-below : (q bound : ℕ) → 0 < q → q ≤ bound → allBelow bound ds ≡ true → allBelow q w ≡ true → allBelow bound (damaged spoilt ds w) ≡ true
   damaged-below q bound some more d s =
       at-below bound (damaged spoilt ds w)
       (λ x l. rw (damaged-at x (omega (arith, damaged-length)))

@@ -41,7 +41,7 @@ fn burst_len(figures: Figures) -> u32
 }
 
 // The symbols of `damage` stand in the word wherever a burst has its position.
-fn spoil(at: Placement, b: u32, damage: &[u8], word: &mut [u8])
+pub fn spoil(at: Placement, b: u32, damage: &[u8], word: &mut [u8])
     requires { ⌜ Damaging at (now damage) (now word) ⌝ }
     ensures { λ _. ⌜ now (word .exit) ≡ damaged (inBurst b (startsIn at)) (now (damage .entry)) (now (word .entry)) ⌝ }
 {

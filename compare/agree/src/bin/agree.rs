@@ -5,19 +5,19 @@ use std::process::ExitCode;
 use std::time::Instant;
 
 use agree::judge::Judge;
-use agree::make::{figures, larsson_figures, long_figures};
+use agree::make::{figures, larsson_figures, long_figures, movable_figures};
 use agree::orders::Tray;
 use agree::rng::Rng;
 use agree::{
-    calls, eyes, former, grid, jobs, lanes, larsson, lengths, long, prescriptions, strips, torics,
-    words,
+    calls, eyes, former, grid, jobs, lanes, larsson, lengths, long, moving, prescriptions, strips,
+    torics, words,
 };
 use second::lanes::MAX_DEPTH;
 
 const GATE_SEED: u64 = 1996;
 const GATE_ROUNDS: u64 = 30_000;
 const GATE_WORDS: u64 = 200_000;
-/// One round in so many is made with Construction B's figures and the Larsson code's too.
+/// One round in so many is made with Construction B's figures and the Larsson code's too, and with moves between the latter and Construction A.
 const OTHERS: u64 = 6;
 
 fn main() -> ExitCode {
@@ -58,6 +58,7 @@ fn run(rounds: u64, seed: u64, long: bool) -> ExitCode {
     torics::every_toric(&mut judge, &mut rng);
     long::run(&mut judge, &mut rng);
     larsson::run(&mut judge, &mut rng);
+    moving::run(&mut judge, &mut rng);
     let powers = eyes::odd();
     for round in 0..rounds {
         strip_round(&mut judge, &mut rng, false, &powers);
@@ -65,6 +66,8 @@ fn run(rounds: u64, seed: u64, long: bool) -> ExitCode {
             strip_round(&mut judge, &mut rng, true, &powers);
             let larsson = larsson_figures(&mut rng);
             words::round(&mut judge, &mut rng, larsson);
+            let movable = movable_figures(&mut rng);
+            moving::round(&mut judge, &mut rng, movable);
         }
         calls::single(&mut judge, &mut rng);
         if round % 16 == 0 {

@@ -1,5 +1,5 @@
 -- `has_room` meets its contract. Assumes nothing.
-use mathlib.Core.Path.{_≡_, sym, ap, _∙_}
+use mathlib.Core.Path.{sym, _∙_}
 use borrow.Author.Needs.{needs}
 use Rattle.moving.proofs.Tests.{room-enough, room-by-zeros}
 use Rattle.moving.proofs.has_room.Statement.{statement}

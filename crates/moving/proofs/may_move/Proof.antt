@@ -36,7 +36,8 @@ has-room-requires c κs = search needs
 returns-2 : tie.Need-returns-2
 returns-2 c =
     let s = c .before .before .before .before .before .before in
-    let is = told (entries (s .args .table)) (s .args .payload .now) (c .before .before .before .before .job-number .ensures) (c .before .before .before .needs-open .ensures) in
+    let opened = c .before .before .before in
+    let is = told (entries (s .args .table)) (s .args .payload .now) (opened .before .job-number .ensures) (opened .needs-open .ensures) in
     sym (surplus (entries (s .args .table)) (s .args .room) (s .args .payload .now) (sym is ∙ c .before .before .if1 .left)
     (sym (c .before .has-room .ensures) ∙ not-true _ (c .if2 .taken)))
 
@@ -46,7 +47,8 @@ is-job-requires c κs = search needs
 returns-3 : tie.Need-returns-3
 returns-3 c =
     let s = c .before .before .before .before .before .before .before .before in
-    let is = told (entries (s .args .table)) (s .args .payload .now) (c .before .before .before .before .before .before .job-number .ensures) (c .before .before .before .before .before .needs-open .ensures) in
+    let opened = c .before .before .before .before .before in
+    let is = told (entries (s .args .table)) (s .args .payload .now) (opened .before .job-number .ensures) (opened .needs-open .ensures) in
     sym (no-job (entries (s .args .table)) (s .args .room) (s .args .payload .now) (sym is ∙ c .before .before .before .before .if1 .left)
     (sym (c .before .before .before .has-room .ensures) ∙ not-false _ (c .before .before .if2 .left))
     (ap isJob (sym (c .before .before .before .before .before .before .job-number .ensures)) ∙ sym (c .before .is-job .ensures) ∙ not-true _ (c .if3 .taken)))
@@ -54,7 +56,8 @@ returns-3 c =
 returns-4 : tie.Need-returns-4
 returns-4 c =
     let s = c .before .before .before .before .before .before .before .before in
-    let is = told (entries (s .args .table)) (s .args .payload .now) (c .before .before .before .before .before .before .job-number .ensures) (c .before .before .before .before .before .needs-open .ensures) in
+    let opened = c .before .before .before .before .before in
+    let is = told (entries (s .args .table)) (s .args .payload .now) (opened .before .job-number .ensures) (opened .needs-open .ensures) in
     sym (moves (entries (s .args .table)) (s .args .room) (s .args .payload .now) (sym is ∙ c .before .before .before .before .if1 .left)
     (sym (c .before .before .before .has-room .ensures) ∙ not-false _ (c .before .before .if2 .left))
     (ap isJob (sym (c .before .before .before .before .before .before .job-number .ensures)) ∙ sym (c .before .is-job .ensures) ∙ not-false _ (c .if3 .left)))

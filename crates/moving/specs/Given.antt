@@ -1,0 +1,87 @@
+-- What the inner functions of moving ask for, and how their answers are read. Assumes nothing.
+use mathlib.Core.Path.{_≡_}
+use mathlib.Core.Bool.{true}
+use mathlib.Core.List.{List}
+use Prim.Native.Nat.{ℕ, _≤_}
+use lib.ListN.{length}
+use Rattle.refusals.specs.Refusals.{must, served, badPayload, surplusBytes, numberZero}
+use Rattle.combinatorics.specs.Bursts.{apart}
+use Rattle.cells.specs.Bytes.{payloadLen}
+use Rattle.cells.specs.Codec.{Codec}
+use Rattle.cells.specs.Outcomes.{Coding, Encoded, unwritten}
+use Rattle.construction_a.specs.Figures.{maxWord, maxAlphabet}
+use Rattle.construction_a.specs.Figures.{messageLen as messageLenA}
+use Rattle.construction_a.specs.Outcomes.{coding}
+use Rattle.params.specs.declared.Layout.{Layout}
+use Rattle.params.specs.Given.{codingIn, Serves}
+use Rattle.larsson.specs.Figures.{messageLen as messageLenLarsson}
+use Rattle.larsson_params.specs.declared.LarssonLayout.{LarssonLayout}
+use Rattle.larsson_params.specs.Given.{figuresOf, Fitting}
+use Rattle.placements.specs.declared.Placement.{Placement}
+use Rattle.placements.specs.Bridge.{startsIn}
+use Rattle.jobs.specs.declared.Entry.{Entry}
+use Rattle.jobs.specs.Jobs.{isJob}
+use Rattle.payloads.specs.Payload.{carriesJob, jobNumber, messageOf, payloadIn, spellsPayload}
+use Rattle.jobcodec.specs.JobWrite.{jobStatus, unless, whereOpen}
+use Rattle.moving.specs.Resize.{resized, hasRoom}
+use Rattle.moving.specs.Move.{written}
+
+-- ---- A payload that was read
+
+-- what a payload that was read is refused with where it is to have so many bytes: the reader's 12 23 14, then 22 and 17; 0 otherwise
+unfoldable pub movingNumber : List Entry → ℕ → List ℕ → ℕ
+movingNumber es room payload =
+    whereOpen (jobStatus es payload) (λ a. a)
+    (must (hasRoom room payload) surplusBytes
+    (must (isJob (jobNumber payload)) numberZero
+    served))
+
+-- ---- A message that was read
+
+-- what it is refused with where the other message has k symbols: 10, and then those of its payload
+unfoldable pub messageNumber : ℕ → List Entry → ℕ → List ℕ → ℕ
+messageNumber q es k ms =
+    must (spellsPayload q (length ms) ms) badPayload
+    (movingNumber es (payloadLen q k) (payloadIn q (length ms) ms))
+
+-- the message of k symbols that has its number and text
+abbrev pub messageMoved : ℕ → ℕ → List ℕ → List ℕ
+messageMoved q k ms = messageOf q k (resized (payloadLen q k) (payloadIn q (length ms) ms))
+
+-- and the word of that message
+abbrev pub wordMoved : Codec → List Entry → List ℕ → List ℕ → List ℕ → Encoded
+wordMoved to es out starts ms =
+    unless (messageNumber (to .alphabet) es (to .messageLen) ms) (unwritten out)
+    (written (to .encode starts (messageMoved (to .alphabet) (to .messageLen) ms)))
+
+-- the lent message afterwards, where nothing was refused
+abbrev pub OtherMessage : ℕ → ℕ → List ℕ → List ℕ → List ℕ → Type 0
+OtherMessage q answer ms lent after = answer ≡ served → after ≡ messageMoved q (length lent) ms
+
+-- a message with five bytes or more, and the other; neither is longer than the longest word
+pub record Spelling (q : ℕ) (message other : List ℕ) : Type 0 where
+  pub alphabet : 2 ≤ q
+  pub bytes : q ≤ maxAlphabet
+  pub carries : 5 ≤ payloadLen q (length message)
+  pub short : length message ≤ maxWord
+  pub other-short : length other ≤ maxWord
+
+-- ---- Figures that fit both codes
+
+-- the layouts are of the same figures, both payloads have five bytes or more, and both strips the length
+pub record Ready (newer : Layout) (older : LarssonLayout) (strip moved : ℕ) : Type 0 where
+  pub serves : Serves newer
+  pub fitting : Fitting older
+  pub alike : codingIn newer ≡ coding (figuresOf older)
+  pub carries-a : carriesJob (older .q) (messageLenA (figuresOf older)) ≡ true
+  pub carries-larsson : carriesJob (older .q) (messageLenLarsson (figuresOf older)) ≡ true
+  pub complete : strip ≡ older .n
+  pub lent : moved ≡ older .n
+
+-- a placement and a message that were read, and the lent word
+pub record Writable (d : Coding) (at : Placement) (message out : List ℕ) : Type 0 where
+  pub count : at .count ≡ d .bursts
+  pub placed : apart (d .burstLen) (d .codec .wordLen) 0 (startsIn at) ≡ true
+  pub carries : 5 ≤ payloadLen (d .codec .alphabet) (length message)
+  pub short : length message ≤ maxWord
+  pub lent : length out ≡ d .codec .wordLen
