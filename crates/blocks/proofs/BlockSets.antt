@@ -13,7 +13,7 @@ use Rattle.combinatorics.proofs.Cases.{by-eq, by-bool, eqb-same, eqb-other}
 use Rattle.combinatorics.proofs.Stretch.{sum-append, count-le, count-on, some-false, first-most}
 use Rattle.construction_a.specs.Writing.{becomes, withBurst, row, chosen, isIndexIn, isIndex, isBurst}
 use Rattle.construction_a.specs.Figures.{Params, parts}
-use Rattle.blocks.specs.Blocks.{fixedKind, burstKind, indexKind, bursts, marked, kindOf, BurstsOf}
+use Rattle.blocks.specs.Blocks.{fixedKind, burstKind, indexKind, bursts, marked, blockKind, BurstsOf}
 
 pub is-burst : (kinds : List ℕ) (k : ℕ) → getD kinds k 0 ≡ 1 → bursts kinds k ≡ true
 unfolding bursts
@@ -78,7 +78,7 @@ module _ (kinds : List ℕ) (blocks last : ℕ) where
 
 -- where the burst blocks are marked and no others, the index blocks marked over them give each block's kind
 pub kind-is : (f : Params) (ss kinds : List ℕ) → BurstsOf f ss kinds → (k : ℕ)
-    → marked (isIndexIn (f .m) (bursts kinds) (chosen (parts f) (f .m) (bursts kinds))) kinds k ≡ kindOf (isIndex f ss k) (isBurst f ss k)
+    → marked (isIndexIn (f .m) (bursts kinds) (chosen (parts f) (f .m) (bursts kinds))) kinds k ≡ blockKind (isIndex f ss k) (isBurst f ss k)
 unfolding marked isIndex bursts
 kind-is f ss kinds h k = rw (← h .set) (ap (cond (isIndexIn (f .m) (bursts kinds) (chosen (parts f) (f .m) (bursts kinds)) k) indexKind) plainly)
   where

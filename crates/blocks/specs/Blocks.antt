@@ -22,8 +22,8 @@ unfoldable pub bursts : List ℕ → ℕ → Bool
 bursts kinds k = eqb (getD kinds k 0) burstKind
 
 -- a block's kind by what it is
-abbrev pub kindOf : Bool → Bool → ℕ
-kindOf isIndex isBurst = cond isIndex indexKind (cond isBurst burstKind fixedKind)
+abbrev pub blockKind : Bool → Bool → ℕ
+blockKind isIndex isBurst = cond isIndex indexKind (cond isBurst burstKind fixedKind)
 
 -- an array with the blocks of a set marked as index blocks
 unfoldable pub marked : (ℕ → Bool) → List ℕ → ℕ → ℕ
@@ -36,4 +36,4 @@ pub record BurstsOf (f : Params) (ss kinds : List ℕ) : Type 0 where
 
 -- an array that has the kind of each block
 abbrev pub KindsOf : Params → List ℕ → List ℕ → Type 0
-KindsOf f ss kinds = (k : ℕ) → k < blocks f → getD kinds k 0 ≡ kindOf (isIndex f ss k) (isBurst f ss k)
+KindsOf f ss kinds = (k : ℕ) → k < blocks f → getD kinds k 0 ≡ blockKind (isIndex f ss k) (isBurst f ss k)

@@ -7,7 +7,7 @@ ghost use lib.ListN.{getD, set};
 ghost use Rattle.combinatorics.specs.Stretch.{count, first};
 ghost use Rattle.construction_a.specs.Writing;
 ghost use Rattle.construction_a.specs.Writing.{next, becomes, partCount, partWith, Chosen, chosen, isIndexIn};
-ghost use Rattle.placements.specs.Bridge.{startsIn, Placing};
+ghost use Rattle.placements.specs.Bridge.{startsIn, PlacesBursts};
 ghost use Rattle.params.specs.Given.{maxBlocks, figuresOf};
 ghost use Rattle.blocks.specs.Blocks.{burstKind, bursts, marked, BurstsOf, KindsOf};
 use params::Layout;
@@ -22,7 +22,7 @@ pub const INDEX: u8 = 2;
 
 // The kind of each block of a placement's word.
 pub fn kinds_of(layout: Layout, at: Placement) -> [u8; Layout::MAX_BLOCKS]
-    requires { ⌜ Placing layout at ⌝ }
+    requires { ⌜ PlacesBursts layout at ⌝ }
     ensures { λ r. ⌜ KindsOf (figuresOf layout) (startsIn at) r ⌝ }
 {
     with_index(burst_kinds(layout, at), layout.parts, layout.m)
@@ -30,7 +30,7 @@ pub fn kinds_of(layout: Layout, at: Placement) -> [u8; Layout::MAX_BLOCKS]
 
 // The burst blocks alone: bursts are taken from left to right.
 fn burst_kinds(layout: Layout, at: Placement) -> [u8; Layout::MAX_BLOCKS]
-    requires { ⌜ Placing layout at ⌝ }
+    requires { ⌜ PlacesBursts layout at ⌝ }
     ensures { λ r. ⌜ BurstsOf (figuresOf layout) (startsIn at) r ⌝ }
 {
     let blocks = layout.parts * layout.m;

@@ -16,8 +16,8 @@ use Rattle.turns.specs.declared.State.{State}
 use Rattle.turns.specs.declared.Wants.{Wants}
 use Rattle.turns.specs.declared.Wants.the-variants.{Read, Write, Stop}
 use Rattle.turns.specs.View.{bufferLen, View, wantsAt, wantsOf, isServable, advanceOut}
-use Rattle.turns.specs.State.{Buffers, Within, viewOf, Begun, WaitsInFront, afterRead, afterWrite}
-use Rattle.turns.specs.Trace.{Event, written, unwritten, Answers, answered, viewAfter, IsTrace}
+use Rattle.turns.specs.State.{Buffers, WithinBuffers, viewOf, Begun, WaitsInFront, afterRead, afterWrite}
+use Rattle.turns.specs.Trace.{Event, written, unwritten, Answers, afterEvent, viewAfter, IsTrace}
 use Rattle.turns.proofs.Views.{waiting-length, gathered-length, view-begun, begun-within, eventOf, view-read, event-fits, read-within, read-repeats, view-written, write-within, written-fits}
 use Rattle.turns.proofs.Printing.{after-rests}
 use Rattle.turns.proofs.Ending.{left, read-less, write-less}
@@ -25,7 +25,7 @@ use Rattle.burgzemi.specs.Finished.{Finished}
 
 pub record Going (s : State) (input output : List ℕ) : Type 0 where
   pub buffers : Buffers input output
-  pub within : Within s
+  pub within : WithinBuffers s
   pub front : WaitsInFront s
   pub events : List Event
   pub trace : IsTrace events
@@ -35,10 +35,10 @@ pub record Going (s : State) (input output : List ℕ) : Type 0 where
 pub record Answered (s q : State) (input next output : List ℕ) : Type 0 where
   pub event : Event
   pub fits : Answers (wantsOf (viewOf s input output)) event
-  pub view : viewOf q next output ≡ answered (viewOf s input output) event
-  pub within : Within q
+  pub view : viewOf q next output ≡ afterEvent (viewOf s input output) event
+  pub within : WithinBuffers q
   pub size : length next ≡ bufferLen
-  pub less : left (advanceOut (answered (viewOf s input output) event)) + q .repeats < left (viewOf s input output) + s .repeats
+  pub less : left (advanceOut (afterEvent (viewOf s input output) event)) + q .repeats < left (viewOf s input output) + s .repeats
 
 -- what is handed over as the machine holds it
 pub told-read : (s : State) (got error : ℤ) → SFits w64 got → SFits w32 error → afterRead s (toZ w64 (ofZ w64 got)) (toZ w32 (ofZ w32 error)) ≡ afterRead s got error
@@ -78,10 +78,10 @@ module _ (s : State) (input output : List ℕ) (g : Going s input output) where
       let len : length (midOf (s .to) (length input - s .to) input) ≡ bufferLen - s .to = mid-len (s .to) (length input) input (omega arith) ∙ ap (λ (j : ℕ). j - s .to) (g .buffers .0) in
       let moved : Moved (bufferLen - s .to) got = subst (λ (j : ℕ). Moved j got) len m in
       let all : length bytes ≡ bufferLen - s .to = n ∙ len in
-      let v : viewOf q next output ≡ answered (viewOf s input output) (eventOf s got error bytes) =
+      let v : viewOf q next output ≡ afterEvent (viewOf s input output) (eventOf s got error bytes) =
       ap (λ (x : State). viewOf x next output) is ∙ ap (λ (x : List ℕ). viewOf (afterRead s got error) x output) put
       ∙ view-read s input output bytes (length input - s .to) (g .within) (front .0) (g .buffers .0) all got error moved in
-      let inside : Within q = subst Within (sym is) (read-within s input output bytes (length input - s .to) (g .within) (front .0) (g .buffers .0) all got error moved) in
+      let inside : WithinBuffers q = subst WithinBuffers (sym is) (read-within s input output bytes (length input - s .to) (g .within) (front .0) (g .buffers .0) all got error moved) in
       let size : length next ≡ bufferLen = ap length put ∙ same-len-mid (s .to) (length input - s .to) input bytes n ∙ g .buffers .0 in
       let fits = event-fits s input output bytes (length input - s .to) (g .within) (front .0) (g .buffers .0) all got error moved in
       record {
@@ -106,7 +106,7 @@ module _ (s : State) (input output : List ℕ) (g : Going s input output) where
         event = cond b written unwritten;
         fits = subst (λ (x : Wants). Answers x (cond b written unwritten)) (sym want) (written-fits b);
         view = ap (λ (x : State). viewOf x next output) is ∙ ap (λ (x : List ℕ). viewOf (afterWrite s b) x output) same ∙ view-written s input output b;
-        within = subst Within (sym is) (write-within s b (g .within));
+        within = subst WithinBuffers (sym is) (write-within s b (g .within));
         size = ap length same ∙ g .buffers .0;
         less = omega (arith, write-less (viewOf s input output) rests short b want, ap (λ (x : State). x .repeats) is);
       }
@@ -114,13 +114,13 @@ module _ (s : State) (input output : List ℕ) (g : Going s input output) where
   -- .. and the core goes on
   module _ (q r : State) (next after shown : List ℕ) (a : Answered s q input next output) (v : viewOf r after shown ≡ advanceOut (viewOf q next output))
       (same : r .repeats ≡ q .repeats) where
-    stepped : viewOf r after shown ≡ advanceOut (answered (viewOf s input output) (a .event))
+    stepped : viewOf r after shown ≡ advanceOut (afterEvent (viewOf s input output) (a .event))
     stepped = v ∙ ap advanceOut (a .view)
 
     pub turn-less : left (viewOf r after shown) + r .repeats < left (viewOf s input output) + s .repeats
     turn-less = omega (arith, a .less, ap left stepped, same)
 
-    pub turn-going : Buffers after shown → Within r → WaitsInFront r → Going r after shown
+    pub turn-going : Buffers after shown → WithinBuffers r → WaitsInFront r → Going r after shown
     turn-going b h f =
         record {
           buffers = b;
@@ -128,7 +128,7 @@ module _ (s : State) (input output : List ℕ) (g : Going s input output) where
           front = f;
           events = a .event ∷ g .events;
           trace = (g .trace, subst (λ (x : View). Answers (wantsOf x) (a .event)) (g .view) (a .fits));
-          view = stepped ∙ ap (λ (x : View). advanceOut (answered x (a .event))) (g .view);
+          view = stepped ∙ ap (λ (x : View). advanceOut (afterEvent x (a .event))) (g .view);
         }
 
   pub finished : (w : Wants) → w ≡ wantsAt (s .gathered) (s .phase) → w ≡ Stop → Finished s input output

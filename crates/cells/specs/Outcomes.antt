@@ -83,13 +83,13 @@ abbrev pub unplaced : ℕ → Covered
 unplaced a = record { answer = a; placement = held [] }
 
 -- "From a map of n bytes (1 worn, 0 sound)"
-abbrev pub worn : List ℕ → ℕ → Bool
-worn map x = eqb (getD map x 0) 1
+abbrev pub defectAt : List ℕ → ℕ → Bool
+defectAt map x = eqb (getD map x 0) 1
 
 abbrev pub coverUnder : Coding → List ℕ → Covered
 coverUnder d map =
     let n = d .codec .wordLen in
-    let v = coverRank n (d .bursts) (d .burstLen) (worn map) in
+    let v = coverRank n (d .bursts) (d .burstLen) (defectAt map) in
     must (d .inRange) (unplaced invalid)
     (must (d .fits) (unplaced unfit)
     (must (eqb (length map) n) (unplaced wrongLength)

@@ -46,8 +46,8 @@ tabulate zero k f = []
 tabulate (suc n) k f = f k ∷ tabulate n (suc k) f
 
 -- the numbers of the stretch themselves
-abbrev pub stretch : ℕ → ℕ → List ℕ
-stretch n k = tabulate n k (λ x. x)
+abbrev pub consecutive : ℕ → ℕ → List ℕ
+consecutive n k = tabulate n k (λ x. x)
 
 -- the largest number below n at which f is at most v, or 0
 unfoldable pub top : (ℕ → ℕ) → ℕ → ℕ → ℕ

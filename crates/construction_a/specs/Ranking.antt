@@ -24,7 +24,7 @@ abbrev pub CoversLeast : Params → (ℕ → Bool) → Type 0
 CoversLeast f worn = Any.CoversLeast (coding f) worn
 
 -- "the least whole number for which m such I-blocks together spell at least T values": of all numbers
-pub record LeastServing (q m values r : ℕ) : Type 0 where
+pub record ServesLeast (q m values r : ℕ) : Type 0 where
   pub serves : values ≤ indexValues q m r
   pub least : (r′ : ℕ) → values ≤ indexValues q m r′ → r ≤ r′
 
@@ -33,7 +33,7 @@ pub record Faithful (f : Params) : Type 0 where
   pub ranks : RankBijection f
   pub burst-blocks : (ss : List ℕ) → isPlacement f ss ≡ true → BurstBlocks f ss
   pub covers : (worn : ℕ → Bool) → CoversLeast f worn
-  pub tail : LeastServing (f .q) (f .m) (placementCount f) (indexTail f)
+  pub tail : ServesLeast (f .q) (f .m) (placementCount f) (indexTail f)
   -- "A message has k symbols": k is the number of message cells
   pub message-cells : (ss : List ℕ) → isPlacement f ss ≡ true → count (f .n) 0 (λ x. is message (kindAt f ss x)) ≡ messageLen f
 

@@ -6,7 +6,7 @@ use Prim.Native.Nat.{ℕ, zero, suc, _+_, _*_}
 use lib.Dec.{ltb, eqb}
 use lib.ListN.{getD}
 use Rattle.combinatorics.specs.Lists.{sameList}
-use Rattle.combinatorics.specs.Stretch.{has, members, tabulate, stretch}
+use Rattle.combinatorics.specs.Stretch.{has, members, tabulate, consecutive}
 use Rattle.cells.specs.Cells.{message, pick}
 use Rattle.cells.specs.Codec.{Reading, accepted, refused}
 use Rattle.cells.specs.Digits.{value, places}
@@ -56,7 +56,7 @@ collect (suc n) k g = consBoth (g k) (collect n (suc k) g)
 
 -- "One part without such a block: its blocks are I. Two such parts: .. No such part, with m above 2: .. Every other pattern is refused."
 abbrev pub indexBy : ℕ → ℕ → (ℕ → Bool) → List ℕ → Option ℕ → Option (List ℕ)
-indexBy p m looks bare (some i) = some (stretch m (i * m))
+indexBy p m looks bare (some i) = some (consecutive m (i * m))
 indexBy p m looks [] none = cond (ltb 2 m) (collect p 0 (indexInPart m looks)) none
 indexBy p m looks (x ∷ xs) none = none
 

@@ -8,7 +8,7 @@ use Rattle.combinatorics.specs.Stretch.{count}
 use Rattle.cells.specs.Cells.{message, is}
 use Rattle.cells.specs.Plan.{kindIn}
 use Rattle.cells.specs.Ranking.{RankBijection, CoversLeast}
-use Rattle.construction_a.specs.Ranking.{LeastServing}
+use Rattle.construction_a.specs.Ranking.{ServesLeast}
 use Rattle.construction_b.specs.Figures.{LongParams, inRange, parts, headOf, partLen, partMost, indexTail, fits, messageLen}
 use Rattle.construction_b.specs.Writing.{lastOf, burstPart, endOffset, frame, rank}
 use Rattle.construction_b.specs.Outcomes.{coding}
@@ -27,7 +27,7 @@ pub record Faithful (f : LongParams) : Type 0 where
   pub burst-part : (s : ℕ) → s + f .b ≤ f .n → BurstPart f s
   pub covers : (worn : ℕ → Bool) → CoversLeast (coding f) worn
   -- "the least for which the I-block's first 1 + r symbols spell at least n/3, rounded up, values": as many as the longest part has symbols
-  pub tail : LeastServing (f .q) 1 (partMost f) (indexTail f)
+  pub tail : ServesLeast (f .q) 1 (partMost f) (indexTail f)
   pub longest : (i : ℕ) → i < parts → partLen f i ≤ partMost f
   -- "k is n − b − r − 2": the number of message cells
   pub message-cells : (s : ℕ) → s + f .b ≤ f .n → count (f .n) 0 (λ x. is message (kindIn (frame f s) x)) ≡ messageLen f

@@ -16,7 +16,7 @@ use Rattle.combinatorics.proofs.Stretch.{has-ext, members-ext}
 use Rattle.construction_a.specs.Figures.{Params, blocks}
 use Rattle.construction_a.specs.Reading.{looksFixed, agrees}
 use Rattle.construction_a.specs.Writing.{isIndex, isBurst, isFixed, indexBlocks}
-use Rattle.blocks.specs.Blocks.{fixedKind, indexKind, kindOf, KindsOf}
+use Rattle.blocks.specs.Blocks.{fixedKind, indexKind, blockKind, KindsOf}
 use Rattle.decoder.specs.Reader.{ofKind}
 
 -- ---- The blocks of a kind
@@ -30,12 +30,12 @@ module _ (kind : ℕ) (kinds : List ℕ) (k : ℕ) where
   unfolding ofKind
   unmarked e = eqb-other (getD kinds k 0) kind e
 
-index-kind : (i b : Bool) → eqb (kindOf i b) indexKind ≡ i
+index-kind : (i b : Bool) → eqb (blockKind i b) indexKind ≡ i
 index-kind true b = refl
 index-kind false true = refl
 index-kind false false = refl
 
-fixed-kind : (i b : Bool) → eqb (kindOf i b) fixedKind ≡ (not i && not b)
+fixed-kind : (i b : Bool) → eqb (blockKind i b) fixedKind ≡ (not i && not b)
 fixed-kind true b = refl
 fixed-kind false true = refl
 fixed-kind false false = refl

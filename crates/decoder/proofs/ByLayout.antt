@@ -20,7 +20,7 @@ use Rattle.construction_b.specs.DemandTwo.{found}
 use Rattle.construction_b.specs.Figures.{LongParams, indexTail}
 use Rattle.construction_b.specs.Reading as B
 use Rattle.construction_b.proofs.Base.{asBase, parts-same, head-same, alone, pattern-same}
-use Rattle.params.specs.Given.{figuresOf, longOf, LongFitting, codingWith, codingIn, Fitting, FittingWith, Serves}
+use Rattle.params.specs.Given.{figuresOf, longOf, LongLayoutFits, codingWith, codingIn, LayoutFits, LayoutFitsWith, Serves}
 use Rattle.params.specs.declared.Layout.{Layout}
 use Rattle.params.specs.declared.Spells.{Spells}
 use Rattle.params.specs.declared.Spells.the-variants.{Rank, EndOffset}
@@ -42,7 +42,7 @@ indexIn l w = indexFound (parts (figuresOf l)) (l .m) (looksFixed (figuresOf l) 
 
 -- ---- Construction A
 
-read-ranked : (l : Layout) → Fitting l → (w : List ℕ) → read (figuresOf l) w ≡ readIndex Rank l w (indexIn l w)
+read-ranked : (l : Layout) → LayoutFits l → (w : List ℕ) → read (figuresOf l) w ≡ readIndex Rank l w (indexIn l w)
 unfolding read
 read-ranked l g w = by (indexIn l w)
   where
@@ -64,7 +64,7 @@ heads-same : (f : LongParams) (w : List ℕ) (i : ℕ) → headsWith (indexTail 
 unfolding flatMap
 heads-same f w i = rw (append-nil (tabulate (suc (indexTail f)) (headOf (asBase f) i) (λ x. getD w x 0)), head-same f i)
 
-module _ (l : Layout) (g : LongFitting l) (w : List ℕ) where
+module _ (l : Layout) (g : LongLayoutFits l) (w : List ℕ) where
   pub long-found-is : indexIn l w ≡ alone (found (longOf (figuresOf l)) w)
   long-found-is = ap (λ (f : Params). indexFound (parts f) (f .m) (looksFixed f w)) (base-is l g) ∙ found-same (longOf (figuresOf l)) w
 
@@ -92,7 +92,7 @@ module _ (l : Layout) (g : Serves l) (w : List ℕ) where
   read-is : codingIn l .codec .decode w ≡ readIndex (l .spells) l w (indexIn l w)
   read-is = go (l .spells) g
     where
-      go : (s : Spells) → FittingWith s l → codingWith s (figuresOf l) .codec .decode w ≡ readIndex s l w (indexIn l w)
+      go : (s : Spells) → LayoutFitsWith s l → codingWith s (figuresOf l) .codec .decode w ≡ readIndex s l w (indexIn l w)
       go Rank h = read-ranked l h w
       go EndOffset h = read-long l h w
 

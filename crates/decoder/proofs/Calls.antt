@@ -31,10 +31,10 @@ use Rattle.construction_b.proofs.Figures.{placed-start}
 use Rattle.params.specs.declared.Layout.{Layout}
 use Rattle.params.specs.declared.Spells.{Spells}
 use Rattle.params.specs.declared.Spells.the-variants.{Rank, EndOffset}
-use Rattle.params.specs.Given.{figuresOf, longOf, codingWith, codingIn, Fitting, FittingWith, Serves}
+use Rattle.params.specs.Given.{figuresOf, longOf, codingWith, codingIn, LayoutFits, LayoutFitsWith, Serves}
 use Rattle.params.proofs.Fitting.{served, shaped, plan-is}
 use Rattle.placements.specs.declared.Placement.{Placement}
-use Rattle.placements.specs.Bridge.{heldAs, Placing}
+use Rattle.placements.specs.Bridge.{heldAs, PlacesBursts}
 use Rattle.placements.proofs.Calls.{starts-held}
 use Rattle.heads.specs.declared.pattern.IndexBlocks.{IndexBlocks}
 use Rattle.heads.specs.Patterns.{indexIn}
@@ -86,7 +86,7 @@ module _ (f : Params) (w ks : List ℕ) where
   unfolding readRank
   disagreeing v below e = rw (leb-holds (suc v) (placementCount f) below, e)
 
-module _ (l : Layout) (g : Fitting l) where
+module _ (l : Layout) (g : LayoutFits l) where
   ranked-coding : codingIn l ≡ coding (figuresOf l)
   ranked-coding = ap (λ (s : Spells). codingWith s (figuresOf l)) (g .laid .spells-is)
 
@@ -105,7 +105,7 @@ module _ (l : Layout) (g : Fitting l) where
   ranked-read w ks v i e = ap (λ (d : Coding). d .codec .decode w) ranked-coding ∙ rw (i .pattern, i .whole, e)
 
 -- the placement of a rank
-pub placing : (l : Layout) (v : ℕ) (p : Placement) → Fitting l → v < placementCount (figuresOf l) → heldAs p ≡ held (placementOf (figuresOf l) v) → Placing l p
+pub placing : (l : Layout) (v : ℕ) (p : Placement) → LayoutFits l → v < placementCount (figuresOf l) → heldAs p ≡ held (placementOf (figuresOf l) v) → PlacesBursts l p
 placing l v p g below e =
     let f = figuresOf l in
     let ss = placementOf f v in
@@ -155,7 +155,7 @@ pub accepted-count : (l : Layout) → Serves l → (w out : List ℕ) (v : ℕ) 
     → decodeUnder (codingIn l) w out .placement .count ≡ l .m
 accepted-count l g w out v = go (l .spells) g
   where
-    go : (s : Spells) → FittingWith s l → decodeUnder (codingWith s (figuresOf l)) w out .answer ≡ rankIs v
+    go : (s : Spells) → LayoutFitsWith s l → decodeUnder (codingWith s (figuresOf l)) w out .answer ≡ rankIs v
         → decodeUnder (codingWith s (figuresOf l)) w out .placement .count ≡ l .m
     go Rank h r =
         let f = figuresOf l in

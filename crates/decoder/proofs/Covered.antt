@@ -25,7 +25,7 @@ use Rattle.construction_a.specs.DemandTwo as A
 use Rattle.construction_a.proofs.DemandTwo as A′
 use Rattle.construction_b.specs.DemandTwo as B
 use Rattle.construction_b.proofs.DemandTwo as B′
-use Rattle.params.specs.Given.{figuresOf, longOf, frameOf, codingWith, codingIn, FittingWith, Serves}
+use Rattle.params.specs.Given.{figuresOf, longOf, frameOf, codingWith, codingIn, LayoutFitsWith, Serves}
 use Rattle.params.specs.declared.Layout.{Layout}
 use Rattle.params.specs.declared.Spells.{Spells}
 use Rattle.params.specs.declared.Spells.the-variants.{Rank, EndOffset}
@@ -70,7 +70,7 @@ module _ (l : Layout) (g : Serves l) (w : List ℕ) (complete : length w ≡ l .
   some-symbol : 0 < l .q
   some-symbol = omega (arith, bound l (in-shape l g) .q-least)
 
-  covered-by : (s : Spells) → FittingWith s l → codingWith s (figuresOf l) .codec .decode w ≡ readMessage l w ss
+  covered-by : (s : Spells) → LayoutFitsWith s l → codingWith s (figuresOf l) .codec .decode w ≡ readMessage l w ss
       → covers (l .n) (l .b) (erasedAt (l .q) w) ss ≡ allBelow (l .q) (pick message (planIn (frameOf l ss)) w)
   covered-by Rank h e =
       let f = figuresOf l in

@@ -24,13 +24,13 @@ use Rattle.construction_b.specs.Reading.{before, written, endAt, readPart, read
 use Rattle.construction_b.proofs.Base.{head-same, length-below}
 use Rattle.construction_b.proofs.Figures.{part-rises, part-end, start-placed, count-is, counted}
 use Rattle.construction_b.proofs.Ranking.{burst-fits, start-ranked}
-use Rattle.params.specs.Given.{figuresOf, longOf, codingWith, codingIn, LongFitting}
+use Rattle.params.specs.Given.{figuresOf, longOf, codingWith, codingIn, LongLayoutFits}
 use Rattle.params.specs.declared.Layout.{Layout}
 use Rattle.params.specs.declared.Spells.{Spells}
 use Rattle.params.proofs.LongFitting.{served-long, base-is, long-plan-is, long-shaped}
 use Rattle.params.proofs.Shape.{blocks-is, head-is}
 use Rattle.placements.specs.declared.Placement.{Placement}
-use Rattle.placements.specs.Bridge.{heldAs, startsIn, Placing, Room}
+use Rattle.placements.specs.Bridge.{heldAs, startsIn, PlacesBursts, Room}
 use Rattle.placements.proofs.Calls.{starts-held}
 use Rattle.decoder.specs.Reader.{readMessage}
 
@@ -41,7 +41,7 @@ before-lt (suc zero) l = omega arith
 before-lt (suc (suc zero)) l = omega arith
 before-lt (suc (suc (suc i))) l = absurd (omega arith)
 
-module _ (l : Layout) (g : LongFitting l) where
+module _ (l : Layout) (g : LongLayoutFits l) where
   long-coding : codingIn l ≡ coding (longOf (figuresOf l))
   long-coding = ap (λ (s : Spells). codingWith s (figuresOf l)) (g .laid .spells-is)
 
@@ -128,7 +128,7 @@ module _ (l : Layout) (g : LongFitting l) where
     unfolding isPlacement B.isPlacement
     start-valid = ap (λ (f : Params). isPlacement f (s ∷ [])) (base-is l g) ∙ start-placed (longOf (figuresOf l)) s inside
 
-    pub start-placing : Placing l p
+    pub start-placing : PlacesBursts l p
     start-placing =
         record {
           layout = long-shaped l g;

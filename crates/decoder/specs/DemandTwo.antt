@@ -15,7 +15,7 @@ use Rattle.params.specs.declared.Figures.{Figures}
 use Rattle.params.specs.declared.Figures.the-variants.{Ranked, Long}
 
 -- figures that fit, a word that can be found, and a buffer for its message
-pub record Readable (d : Coding) (w out : List ℕ) : Type 0 where
+pub record ReadableWord (d : Coding) (w out : List ℕ) : Type 0 where
   pub range : d .inRange ≡ true
   pub fit : d .fits ≡ true
   pub word : Word (d .codec) w
@@ -33,7 +33,7 @@ pub record ReadsAsWritten (d : Coding) (Listed : List ℕ → ℕ → Type 0) (w
   pub listed : (a : ℕ) → (r ≡ unread out a) ↔ Listed w a
 
 abbrev pub DecodesExactlyUnder : Coding → (List ℕ → ℕ → Type 0) → List ℕ → List ℕ → Decoded → Type 0
-DecodesExactlyUnder d Listed w out r = Readable d w out → ReadsAsWritten d Listed w out r
+DecodesExactlyUnder d Listed w out r = ReadableWord d w out → ReadsAsWritten d Listed w out r
 
 -- the listed conditions of either construction
 abbrev pub ListedIn : Figures → List ℕ → ℕ → Type 0

@@ -24,12 +24,12 @@ startBytes [] = []
 startBytes (s ∷ ss) = s / byteValues ∷ s % byteValues ∷ startBytes ss
 
 -- what the word reader answers, with its placement as bytes; a refusal leaves the starts alone, as it does the message
-abbrev pub answered : List ℕ → WordAnswer → Held → List ℕ → Exported
-answered bytes (rankIs v) at ms = lentAs (answerNumber (rankIs v)) ms (startBytes (inUse at))
-answered bytes (refusal a) at ms = lentAs (answerNumber (refusal a)) ms bytes
+abbrev pub exportedAnswer : List ℕ → WordAnswer → Held → List ℕ → Exported
+exportedAnswer bytes (rankIs v) at ms = lentAs (answerNumber (rankIs v)) ms (startBytes (inUse at))
+exportedAnswer bytes (refusal a) at ms = lentAs (answerNumber (refusal a)) ms bytes
 
 abbrev pub exportedAs : List ℕ → Decoded → Exported
-exportedAs bytes d = answered bytes (d .answer) (d .placement) (d .message)
+exportedAs bytes d = exportedAnswer bytes (d .answer) (d .placement) (d .message)
 
 -- "word read 1 2 3 4 7 8 9", with 19 "between 7 and 8" and "after 9", by the Larsson code 1 2 3 4 21 8 9 19, where 3 stands for the buffer of starts too
 abbrev pub exportedUnder : Coding → List ℕ → List ℕ → List ℕ → Exported

@@ -19,10 +19,10 @@ use Rattle.construction_a.specs.Reading.{written}
 use Rattle.construction_b.specs.DemandTwo as B
 use Rattle.construction_b.specs.Reading as B′
 use Rattle.params.specs.declared.Layout.{Layout}
-use Rattle.params.specs.Given.{figuresOf, longOf, frameOf, codingIn, Fitting, LongFitting, Serves}
+use Rattle.params.specs.Given.{figuresOf, longOf, frameOf, codingIn, LayoutFits, LongLayoutFits, Serves}
 use Rattle.placements.specs.declared.Placement.{Placement}
-use Rattle.placements.specs.Bridge.{heldAs, startsIn, Placing}
-use Rattle.heads.specs.Given.{Finding}
+use Rattle.placements.specs.Bridge.{heldAs, startsIn, PlacesBursts}
+use Rattle.heads.specs.Given.{CompleteWord}
 use Rattle.decoder.specs.declared.Decoded.{Decoded}
 use Rattle.decoder.specs.declared.WordAnswer.the-variants.{Accepted}
 
@@ -33,32 +33,32 @@ readMessage l w ss =
     must (not (hasErasure (l .q) ms)) (refused erased) (accepted ss ms)
 
 -- a layout of figures that fit; a complete word without values above q, whether all of it could be read, and a buffer of k symbols
-pub record Lent (l : Layout) (whole : Bool) (w out : List ℕ) : Type 0 where
+pub record WordLent (l : Layout) (whole : Bool) (w out : List ℕ) : Type 0 where
   pub fitting : Serves l
-  pub finding : Finding l w
+  pub finding : CompleteWord l w
   pub found : allBelow (foundBound (l .q)) w ≡ true
   pub scanned : whole ≡ allBelow (l .q) w
   pub room : length out ≡ l .«message_len»
 
 -- the same with the value that index blocks without an erasure spell, no further than T: of Construction A
 pub record Ranked (l : Layout) (ks : List ℕ) (v : ℕ) (whole : Bool) (w out : List ℕ) : Type 0 where
-  pub fitting : Fitting l
-  pub lent : Lent l whole w out
+  pub fitting : LayoutFits l
+  pub lent : WordLent l whole w out
   pub index : IndexRead (figuresOf l) w ks
   pub spelled : v ≡ min (written (figuresOf l) w ks) (l .«placement_count»)
 
 -- and of Construction B, with its index part
 pub record EndsAt (l : Layout) (i v : ℕ) (whole : Bool) (w out : List ℕ) : Type 0 where
-  pub fitting : LongFitting l
-  pub lent : Lent l whole w out
+  pub fitting : LongLayoutFits l
+  pub lent : WordLent l whole w out
   pub among : i < l .parts
   pub index : B.IndexRead (longOf (figuresOf l)) w i
   pub spelled : v ≡ min (B′.written (longOf (figuresOf l)) w i) (l .«placement_count»)
 
 -- the same with the placement that the word was read to have, and its rank
 pub record Located (l : Layout) (at : Placement) (v : ℕ) (whole : Bool) (w out : List ℕ) : Type 0 where
-  pub lent : Lent l whole w out
-  pub placing : Placing l at
+  pub lent : WordLent l whole w out
+  pub placing : PlacesBursts l at
   pub is-held : heldAs at ≡ held (startsIn at)
   pub ranked : v ≡ rankOf (l .b) (startsIn at)
   pub read-as : codingIn l .codec .decode w ≡ readMessage l w (startsIn at)

@@ -11,7 +11,7 @@ ghost use Rattle.construction_a.specs.Reading;
 ghost use Rattle.construction_a.specs.Reading.{looksFixed};
 ghost use Rattle.params.specs.Given.{figuresOf, maxBlocks, HeadsOf};
 ghost use Rattle.blocks.specs.Blocks.{fixedKind, indexKind, KindsOf};
-ghost use Rattle.heads.specs.Given.{Finding};
+ghost use Rattle.heads.specs.Given.{CompleteWord};
 ghost use Rattle.decoder.specs.Reader.{ofKind};
 use blocks::FIXED;
 use blocks::INDEX;
@@ -27,8 +27,9 @@ pub fn agrees(
     index: [u8; Placement::MAX],
     word: &[u8],
 ) -> bool
-    requires { ⌜ Finding layout (now word) × HeadsOf (figuresOf layout) (now heads) ⌝ }
-    ensures { λ r. ⌜ ((ss : List ℕ) → KindsOf (figuresOf layout) ss (now (kinds .entry)) → r ≡ Rattle.construction_a.specs.Reading.agrees (figuresOf layout) (now (word .entry)) (take (layout .m) index) ss) ⌝ }
+    requires { ⌜ CompleteWord layout (now word) × HeadsOf (figuresOf layout) (now heads) ⌝ }
+    ensures { λ r. ⌜ ((ss : List ℕ) → KindsOf (figuresOf layout) ss (now (kinds .entry)) → r
+        ≡ Rattle.construction_a.specs.Reading.agrees (figuresOf layout) (now (word .entry)) (take (layout .m) index) ss) ⌝ }
 {
     if !same_index(kinds, layout.parts * layout.m, index, layout.m) {
         return false;
@@ -70,8 +71,9 @@ fn fixed_heads(
     kinds: &[u8; Layout::MAX_BLOCKS],
     word: &[u8],
 ) -> bool
-    requires { ⌜ Finding layout (now word) × HeadsOf (figuresOf layout) (now heads) ⌝ }
-    ensures { λ r. ⌜ r ≡ not (has (blocksOf (figuresOf layout)) 0 (λ k. ofKind fixedKind (now (kinds .entry)) k && not (looksFixed (figuresOf layout) (now (word .entry)) k))) ⌝ }
+    requires { ⌜ CompleteWord layout (now word) × HeadsOf (figuresOf layout) (now heads) ⌝ }
+    ensures { λ r. ⌜ r ≡ not (has (blocksOf (figuresOf layout)) 0 (λ k. ofKind fixedKind (now (kinds .entry)) k
+        && not (looksFixed (figuresOf layout) (now (word .entry)) k))) ⌝ }
 {
     let blocks = layout.parts * layout.m;
     let mut k: usize = 0;

@@ -5,7 +5,7 @@ ghost use lib.ListN.{take};
 ghost use Rattle.combinatorics.specs.Lists.{allBelow};
 ghost use Rattle.cells.specs.Erasures.{foundBound};
 ghost use Rattle.params.specs.Given.{figuresOf, HeadsOf};
-ghost use Rattle.heads.specs.Written.{headsIn, Shown};
+ghost use Rattle.heads.specs.Written.{headsIn, OpenHeads};
 use params::Layout;
 use placements::Placement;
 
@@ -28,7 +28,7 @@ pub fn index_whole(
     whole: bool,
     word: &[u8],
 ) -> bool
-    requires { ⌜ (whole ≡ allBelow (layout .q) (now word)) × Shown layout (now word) index × HeadsOf (figuresOf layout) (now heads) ⌝ }
+    requires { ⌜ (whole ≡ allBelow (layout .q) (now word)) × OpenHeads layout (now word) index × HeadsOf (figuresOf layout) (now heads) ⌝ }
     ensures { λ r. ⌜ r ≡ allBelow (layout .q) (headsIn layout (now (word .entry)) (take (layout .m) index)) ⌝ }
 {
     if whole {

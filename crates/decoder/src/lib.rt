@@ -11,7 +11,7 @@ ghost use Rattle.placements.specs.Bridge.{startsIn};
 ghost use Rattle.stretches.specs.ByBlock.{Tables};
 ghost use Rattle.decoder.specs.Answer.{wordNumber, decodedAs};
 ghost use Rattle.decoder.specs.DemandTwo.{DecodesExactly};
-ghost use Rattle.decoder.specs.Reader.{readMessage, Lent, Ranked, Located};
+ghost use Rattle.decoder.specs.Reader.{readMessage, WordLent, Ranked, Located};
 use params::Figures;
 use params::Layout;
 use params::LayoutAnswer;
@@ -79,7 +79,7 @@ fn decode_found(
     word: &[u8],
     message: &mut [u8],
 ) -> Decoded
-    requires { ⌜ Lent layout whole (now word) (now message) × HeadsOf (figuresOf layout) (now heads) ⌝ }
+    requires { ⌜ WordLent layout whole (now word) (now message) × HeadsOf (figuresOf layout) (now heads) ⌝ }
     ensures { λ r. ⌜ decodedAs r (now (message .exit)) ≡ decodedFrom (layout .b) (now (message .entry)) (codingIn layout .codec .decode (now (word .entry))) ⌝ }
 {
     let shown = heads::pattern::index_read(layout, heads, word);
@@ -112,7 +112,9 @@ fn decode_rank(
     message: &mut [u8],
 ) -> Decoded
     requires { ⌜ Ranked layout (take (layout .m) index) rank whole (now word) (now message) × HeadsOf (figuresOf layout) (now heads) ⌝ }
-    ensures { λ r. ⌜ decodedAs r (now (message .exit)) ≡ decodedFrom (layout .b) (now (message .entry)) (readRank (figuresOf layout) (now (word .entry)) (take (layout .m) index) (written (figuresOf layout) (now (word .entry)) (take (layout .m) index))) ⌝ }
+    ensures { λ r. ⌜ decodedAs r (now (message .exit))
+        ≡ decodedFrom (layout .b) (now (message .entry))
+        (readRank (figuresOf layout) (now (word .entry)) (take (layout .m) index) (written (figuresOf layout) (now (word .entry)) (take (layout .m) index))) ⌝ }
 {
     if layout.placement_count <= rank {
         return unread(Refusal::VALUE);
@@ -137,7 +139,8 @@ fn decode_placed(
     message: &mut [u8],
 ) -> Decoded
     requires { ⌜ Located layout placement rank whole (now word) (now message) × Tables layout placement (now heads) (now kinds) ⌝ }
-    ensures { λ r. ⌜ decodedAs r (now (message .exit)) ≡ decodedFrom (layout .b) (now (message .entry)) (readMessage layout (now (word .entry)) (startsIn placement)) ⌝ }
+    ensures { λ r. ⌜ decodedAs r (now (message .exit))
+        ≡ decodedFrom (layout .b) (now (message .entry)) (readMessage layout (now (word .entry)) (startsIn placement)) ⌝ }
 {
     let walk = stretches::walk_of(layout);
     if !message_whole(walk, layout.q, placement, whole, word) {

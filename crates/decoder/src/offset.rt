@@ -25,7 +25,9 @@ pub fn decode_offset(
     message: &mut [u8],
 ) -> Decoded
     requires { ⌜ EndsAt layout part value whole (now word) (now message) × HeadsOf (figuresOf layout) (now heads) ⌝ }
-    ensures { λ r. ⌜ decodedAs r (now (message .exit)) ≡ decodedFrom (layout .b) (now (message .entry)) (readPart (longOf (figuresOf layout)) (now (word .entry)) (before part) (written (longOf (figuresOf layout)) (now (word .entry)) part)) ⌝ }
+    ensures { λ r. ⌜ decodedAs r (now (message .exit))
+        ≡ decodedFrom (layout .b) (now (message .entry))
+        (readPart (longOf (figuresOf layout)) (now (word .entry)) (before part) (written (longOf (figuresOf layout)) (now (word .entry)) part)) ⌝ }
 {
     let ends = part_before(layout.parts, part);
     let head = layout.block_head(heads, ends);

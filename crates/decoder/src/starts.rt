@@ -13,14 +13,15 @@ use crate::Decoded;
 use crate::WordAnswer;
 use crate::decode_fitting;
 use params::Layout;
-use params::bytes::BYTE_VALUES;
 use placements::Placement;
 use refusals::Refusal;
+use symbols::numbers::BYTE_VALUES;
 
 // Word read for figures that fit, with the placement as bytes. Refusals: 3 4 7 19 8 9 19.
 pub fn decode_bytes(layout: Layout, word: &[u8], message: &mut [u8], starts: &mut [u8]) -> u8
     requires { ⌜ Serves layout ⌝ }
-    ensures { λ r. ⌜ lentAs r (now (message .exit)) (now (starts .exit)) ≡ exportedUnder (codingIn layout) (now (word .entry)) (now (message .entry)) (now (starts .entry)) ⌝ }
+    ensures { λ r. ⌜ lentAs r (now (message .exit)) (now (starts .exit))
+        ≡ exportedUnder (codingIn layout) (now (word .entry)) (now (message .entry)) (now (starts .entry)) ⌝ }
 {
     if starts.len() != 2 * layout.m {
         return Refusal::LENGTH;

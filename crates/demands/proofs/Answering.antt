@@ -31,7 +31,7 @@ use Rattle.jobs.specs.Jobs.{Status, unknown, opened, onHold, cancelled}
 use Rattle.payloads.specs.Payload.{carriesJob}
 use Rattle.jobcodec.specs.DemandThree.{isRefusal}
 use Rattle.jobcodec.specs.JobWrite.{whereOpen}
-use Rattle.lent.specs.Jobs.{isWhole, slotsFit, withTable}
+use Rattle.lent.specs.Jobs.{hasTableLen, slotsFit, withTable}
 use Rattle.demands.specs.DemandOne.{AnswersBy}
 
 -- ---- The two ways to answer, and an order of refusals test by test
@@ -137,7 +137,7 @@ with-table P d table lengths refuse p₁ p₂ p₁₀ p₃ r =
     tested P (d .inRange && slotsFit table) p₁
     (tested P (d .fits) p₂
     (tested P (carriesJob (d .codec .alphabet) (d .codec .messageLen)) p₁₀
-    (tested P (isWhole table && lengths) p₃ r)))
+    (tested P (hasTableLen table && lengths) p₃ r)))
 
 -- a word is lent
 abbrev pub Writes : List ℕ → List ℕ → Encoded → Type 0

@@ -16,7 +16,7 @@ use Rattle.cells.specs.Bytes.{payloadLen}
 use Rattle.cells.specs.Erasures.{foundBound}
 use Rattle.cells.specs.Ranking.{CoversLeast}
 use Rattle.construction_a.specs.Figures.{Params, inRange, fits, messageLen}
-use Rattle.cells.specs.Outcomes.{Coding, Held, held, inUse, FiguresOut, figuresNumber, figuresUnder, unwritten, encodeUnder, worn, Covered, coverUnder, WordAnswer, rankIs, refusal, answerNumber, Decoded, decodedFrom, decodeUnder}
+use Rattle.cells.specs.Outcomes.{Coding, Held, held, inUse, FiguresOut, figuresNumber, figuresUnder, unwritten, encodeUnder, defectAt, Covered, coverUnder, WordAnswer, rankIs, refusal, answerNumber, Decoded, decodedFrom, decodeUnder}
 use Rattle.params.specs.declared.Figures.{Figures}
 use Rattle.params.specs.declared.Figures.the-variants.{Ranked, Long}
 use Rattle.params.specs.Bridge.{given, givenLong, codingOf}
@@ -37,7 +37,7 @@ use Rattle.jobs.specs.Letters.{kindOf, listKind, known, callBy, isLetter, isLis
 use Rattle.ledger.specs.Replay.{lengthsFit, ReplayOut, replayOut}
 use Rattle.jobs.specs.Table.{isFree, lookup, TableOut, put, twice, decide, openJob, openAt, cancelAt, finishAt, reinstateAt, holdAt, releaseAt, openOut, cancelOut, finishOut, reinstateOut, holdOut, releaseOut, callAs}
 use Rattle.payloads.specs.Payload.{carriesJob, payloadIn, spellsPayload, jobNumber}
-use Rattle.decoder.specs.Exported.{Exported, answered, exportedUnder}
+use Rattle.decoder.specs.Exported.{Exported, exportedAnswer, exportedUnder}
 use Rattle.jobcodec.specs.DemandThree.{isRefusal}
 use Rattle.jobcodec.specs.JobWrite.{jobStatus, jobWriteUnder}
 use Rattle.jobcodec.specs.JobRead.{JobRead, withhold, jobIn, jobReading, jobReadUnder}
@@ -52,9 +52,9 @@ use Rattle.lent.specs.Table.{tableLen, statesKnown, tableIn}
 use Rattle.exports.specs.Words.{differs, verifyBytesOut}
 use Rattle.exports.specs.Jobs.{CallLent, called, calledAs, callBytesOut}
 use Rattle.text.specs.Text.{decimal, hex}
-use Rattle.records.specs.Session.{Session, maxRecords, after}
+use Rattle.records.specs.Session.{Session, maxRecords, nextSession}
 use Rattle.lines.specs.Lines.{refusalLine, servedLine, letterS, letterL, letterW, letterR}
-use Rattle.records.specs.Records.{headLen, letterOf, isEmpty, current, payloadLenOf, figuresIn, longFiguresIn, startsIn, payloadOf, readable}
+use Rattle.records.specs.Records.{recordHeadLen, letterOf, isEmpty, current, payloadLenOf, figuresIn, longFiguresIn, recordStarts, payloadOf, readable}
 use Rattle.transfer.specs.Steps.{Step, stopped, ended, goesOn, figuresStep, callStep, jobStep, writeOut, readOut, serveOut, stepOut}
 use Rattle.demands.specs.Orders.{figuresAlone, wordWrite, covering, wordRead, larssonRead, rearrangement, jobWrite, jobRead, call, callByLetter, callOnBytes, listOfCalls}
 use Rattle.demands.proofs.Answering.{keep, done, tested, where-open, in-all, Judges, by-read, judges, by-larsson, with-table, one-more, Writes}
@@ -94,7 +94,7 @@ cover d map =
     (tested Covers (d .fits) (keep refl refl)
     (tested Covers (eqb (length map) n) (keep refl refl)
     (tested Covers (allBelow 2 map) (keep refl refl)
-    (tested Covers (ltb (coverRank n (d .bursts) (d .burstLen) (worn map)) (d .placementCount)) (keep refl refl)
+    (tested Covers (ltb (coverRank n (d .bursts) (d .burstLen) (defectAt map)) (d .placementCount)) (keep refl refl)
     (done refl)))))
 
 -- an order that begins with 1 2 3 4, as every word read's does
@@ -371,7 +371,7 @@ module _ (out starts : List ℕ) where
   ReadsIn order o = AnswersBy {A = List ℕ × List ℕ} order (o .answer) (out, starts) (o .message, o .starts)
 
   read-in : (order : List ℕ) (a : WordAnswer) (at : Held) (ms : List ℕ)
-      → AnswersBy {A = Held × List ℕ} order (answerNumber a) (held [], out) (at, ms) → ReadsIn order (answered starts a at ms)
+      → AnswersBy {A = Held × List ℕ} order (answerNumber a) (held [], out) (at, ms) → ReadsIn order (exportedAnswer starts a at ms)
   read-in order (rankIs v) at ms h = done (h .numbers)
   read-in order (refusal a) at ms h =
       record { numbers = h .numbers; answer = h .answer; keeps = λ d. ap (λ (x : Held × List ℕ). (x .1, starts)) (h .keeps d) }
@@ -472,7 +472,7 @@ module _ (s : Session) (letter : ℕ) (bytes : List ℕ) where
 
   job-step : {A : Type 0} {lent left : A} (order : List ℕ) (a : ℕ) (fields : List (List ℕ)) → AnswersBy order a lent left → Answers (jobStep s letter a fields)
   job-step order a fields h =
-      by-eq a served (λ t. Answers (goesOn (after s (s .figures) (s .table)) (must t (refusalLine letter a) (servedLine letter fields))))
+      by-eq a served (λ t. Answers (goesOn (nextSession s (s .figures) (s .table)) (must t (refusalLine letter a) (servedLine letter fields))))
       (λ _. serves (s .figures) (s .table) fields)
       (λ d. refuses a (listed order a h d))
 
@@ -481,17 +481,17 @@ module _ (s : Session) (letter : ℕ) (bytes : List ℕ) where
   write-step (some f) e =
       let d = codingOf f in
       let zeros : List ℕ = replicate (d .codec .wordLen) 0 in
-      let o = jobWriteUnder d (s .table) (startsIn f bytes) (payloadOf f bytes) zeros in
-      rw (← e) (job-step jobWrite (o .answer) (hex (o .word) ∷ []) (job-write d (s .table) (startsIn f bytes) (payloadOf f bytes) zeros))
+      let o = jobWriteUnder d (s .table) (recordStarts f bytes) (payloadOf f bytes) zeros in
+      rw (← e) (job-step jobWrite (o .answer) (hex (o .word) ∷ []) (job-write d (s .table) (recordStarts f bytes) (payloadOf f bytes) zeros))
 
   read-step : (f : Option Figures) → letter ≡ letterR → Answers (readOut s bytes f)
   read-step none e = stops
   read-step (some f) e =
       let d = codingOf f in
       let zeros : List ℕ = replicate (payloadLenOf f) 0 in
-      let o = jobReadUnder d (s .table) (drop headLen bytes) zeros in
+      let o = jobReadUnder d (s .table) (drop recordHeadLen bytes) zeros in
       rw (← e) (job-step jobRead (o .answer) (hex (take 4 (o .payload)) ∷ hex (drop 4 (o .payload)) ∷ [])
-      (job-read d (judges f) (s .table) (drop headLen bytes) zeros))
+      (job-read d (judges f) (s .table) (drop recordHeadLen bytes) zeros))
 
   served-step : Answers (serveOut s letter bytes)
   unfolding serveOut
@@ -502,11 +502,11 @@ module _ (s : Session) (letter : ℕ) (bytes : List ℕ) where
       go : (a l b c d : Bool) → (c ≡ true → letter ≡ letterW) → (d ≡ true → letter ≡ letterR)
           → Answers (cond a (figuresStep s letter (figuresIn bytes) (figuresUnder (codingOf (figuresIn bytes))))
           (cond l (figuresStep s letter (longFiguresIn bytes) (figuresUnder (codingOf (longFiguresIn bytes))))
-          (cond b (callStep s letter (callBy (kindOf letter) (s .table) (jobNumber (drop headLen bytes))))
+          (cond b (callStep s letter (callBy (kindOf letter) (s .table) (jobNumber (drop recordHeadLen bytes))))
           (cond c (writeOut s bytes (current (s .figures))) (cond d (readOut s bytes (current (s .figures))) (stopped s))))))
       go true l b c d y z = figures-step (figuresIn bytes)
       go false true b c d y z = figures-step (longFiguresIn bytes)
-      go false false true c d y z = call-step (kindOf letter) (jobNumber (drop headLen bytes))
+      go false false true c d y z = call-step (kindOf letter) (jobNumber (drop recordHeadLen bytes))
       go false false false true d y z = write-step (current (s .figures)) (y refl)
       go false false false false true y z = read-step (current (s .figures)) (z refl)
       go false false false false false y z = stops
@@ -521,9 +521,9 @@ step s bytes = go (isEmpty bytes) (ltb (s .count) maxRecords) (readable s bytes)
     go false true false = stops
     go false true true = served-step s (letterOf bytes) bytes
 
-cover-conditions : (f : Figures) → codingOf f .inRange ≡ true → codingOf f .fits ≡ true → (map : List ℕ) → CoversLeast (codingOf f) (worn map)
-cover-conditions (Ranked p) i h map = faithful (given p) i h .covers (worn map)
-cover-conditions (Long p) i h map = faithful-b (givenLong p) i h .covers (worn map)
+cover-conditions : (f : Figures) → codingOf f .inRange ≡ true → codingOf f .fits ≡ true → (map : List ℕ) → CoversLeast (codingOf f) (defectAt map)
+cover-conditions (Ranked p) i h map = faithful (given p) i h .covers (defectAt map)
+cover-conditions (Long p) i h map = faithful-b (givenLong p) i h .covers (defectAt map)
 
 pub demand-one : DemandOne
 demand-one =
@@ -577,7 +577,7 @@ demand-one =
       step = step;
       table-conditions = simulation;
       cover-conditions = cover-conditions;
-      larsson-cover-conditions = λ f i h map. covers-least f (serve f i h) (worn map);
+      larsson-cover-conditions = λ f i h map. covers-least f (serve f i h) (defectAt map);
       read-conditions = demand-two;
       long-read-conditions = demand-two-b;
       larsson-read-conditions = larsson-exact;

@@ -31,9 +31,9 @@ use Rattle.exports.specs.Follows.{answersOn, bytesAfter}
 use Rattle.lent.specs.Table.{tableIn}
 use Rattle.exports.proofs.Follows.{bytes-left, bytes-follow}
 use Rattle.lent.proofs.JobLaws.{read-whole}
-use Rattle.records.specs.Session.{Session, atStart, maxRecords, after}
+use Rattle.records.specs.Session.{Session, atStart, maxRecords, nextSession}
 use Rattle.lines.specs.Lines.{refusalLine, letterS, letterL, letterR}
-use Rattle.records.specs.Records.{headLen, isMarked, letterOf, current, payloadLenOf, recordLen, readable, figuresIn, longFiguresIn}
+use Rattle.records.specs.Records.{recordHeadLen, isMarked, letterOf, current, payloadLenOf, recordLen, readable, figuresIn, longFiguresIn}
 use Rattle.transfer.specs.Steps.{Step, figuresStep, callStep, readStep, readOut, stepOut}
 use Rattle.transfer.proofs.Serving.{step-serves, serve-S, serve-L, serve-R, serve-call-is}
 use Rattle.demands.specs.DemandThree.{BytesClaimed, sessionAfter, linesOf, isRecord, isCall, figuresCarried, callsIn, answerLines, IsSession, SessionClaimed}
@@ -87,14 +87,14 @@ parts r letter len h =
     record { marked = a .0; lettered = a .1; whole = b .1 }
 
 one-made : (s : Session) (r : List ℕ) → isCall r ≡ true → s .count < maxRecords
-    → stepOut s r ≡ callStep s (letterOf r) (callBy (kindOf (letterOf r)) (s .table) (jobNumber (drop headLen r)))
+    → stepOut s r ≡ callStep s (letterOf r) (callBy (kindOf (letterOf r)) (s .table) (jobNumber (drop recordHeadLen r)))
 unfolding readable recordLen
 one-made s r h few =
-    let p = parts r (isLetter (letterOf r)) (headLen + 4) h in
+    let p = parts r (isLetter (letterOf r)) (recordHeadLen + 4) h in
     let l = letterOf r in
     let other = not-S l (p .lettered) in
     let long = not-L l (p .lettered) in
-    step-serves s r (some-bytes r (headLen + 4) (p .whole) (omega arith)) few
+    step-serves s r (some-bytes r (recordHeadLen + 4) (p .whole) (omega arith)) few
     (rw (p .marked, eqb-other l letterS other, eqb-other l letterL long, p .lettered, p .whole))
     ∙ serve-call-is s l r other long (p .lettered)
 
@@ -110,12 +110,12 @@ all-made [] s h few = record { lines = refl; figures = refl; table = refl; count
 all-made (r ∷ rs) s h few =
     let b = both (isCall r) (all isCall rs) h in
     let l = letterOf r in
-    let n = jobNumber (drop headLen r) in
+    let n = jobNumber (drop recordHeadLen r) in
     let o = callBy (kindOf l) (s .table) n in
     let e = one-made s r (b .0) (omega (arith, few)) in
-    let known-letter = parts r (isLetter l) (headLen + 4) (b .0) .lettered in
-    let m = all-made rs (after s (s .figures) (o .table)) (b .1) (omega (arith, few)) in
-    let to : sessionAfter s (r ∷ rs) ≡ sessionAfter (after s (s .figures) (o .table)) rs = ap (λ (o : Step). sessionAfter (o .next) rs) e in
+    let known-letter = parts r (isLetter l) (recordHeadLen + 4) (b .0) .lettered in
+    let m = all-made rs (nextSession s (s .figures) (o .table)) (b .1) (omega (arith, few)) in
+    let to : sessionAfter s (r ∷ rs) ≡ sessionAfter (nextSession s (s .figures) (o .table)) rs = ap (λ (o : Step). sessionAfter (o .next) rs) e in
     record {
       lines = rw (e, answers-before (s .table) n (callsIn rs) (kindOf l) known-letter) (ap {B = List (List ℕ)} (λ x. refusalLine l (o .answer) ∷ x) (m .lines));
       figures = ap (λ (s : Session). s .figures) to ∙ m .figures;
@@ -137,12 +137,12 @@ figures-are d = go (d .inRange) (d .fits)
     go true true e = refl
 
 -- an S or an L: what it is made of
-carried : (r : List ℕ) → (isRecord letterS (headLen + 6) r || isRecord letterL (headLen + 5) r) ≡ true
-    → Parts r (eqb (letterOf r) letterS) (headLen + 6) ⊎ Parts r (eqb (letterOf r) letterL) (headLen + 5)
+carried : (r : List ℕ) → (isRecord letterS (recordHeadLen + 6) r || isRecord letterL (recordHeadLen + 5) r) ≡ true
+    → Parts r (eqb (letterOf r) letterS) (recordHeadLen + 6) ⊎ Parts r (eqb (letterOf r) letterL) (recordHeadLen + 5)
 carried r h =
-    by-bool (isRecord letterS (headLen + 6) r)
-    (λ e. inl (parts r (eqb (letterOf r) letterS) (headLen + 6) e))
-    (λ e. inr (parts r (eqb (letterOf r) letterL) (headLen + 5) (rw e at h)))
+    by-bool (isRecord letterS (recordHeadLen + 6) r)
+    (λ e. inl (parts r (eqb (letterOf r) letterS) (recordHeadLen + 6) e))
+    (λ e. inr (parts r (eqb (letterOf r) letterL) (recordHeadLen + 5) (rw e at h)))
 
 module _ (figures reading : List ℕ) (calls : List (List ℕ)) (h : IsSession figures calls reading) where
   abbrev f : Figures
@@ -158,19 +158,19 @@ module _ (figures reading : List ℕ) (calls : List (List ℕ)) (h : IsSession f
       l : ℕ
       l = letterOf figures
 
-      go : Parts figures (eqb l letterS) (headLen + 6) ⊎ Parts figures (eqb l letterL) (headLen + 5)
+      go : Parts figures (eqb l letterS) (recordHeadLen + 6) ⊎ Parts figures (eqb l letterL) (recordHeadLen + 5)
           → stepOut atStart figures ≡ figuresStep atStart l f (figuresUnder (codingOf f))
       go (inl p) =
-          step-serves atStart figures (some-bytes figures (headLen + 6) (p .whole) (omega arith)) (omega arith) (rw (p .marked, p .lettered, p .whole))
+          step-serves atStart figures (some-bytes figures (recordHeadLen + 6) (p .whole) (omega arith)) (omega arith) (rw (p .marked, p .lettered, p .whole))
           ∙ serve-S atStart l figures (eqb-true l letterS (p .lettered))
           ∙ rw (p .lettered)
       go (inr p) =
           let e = eqb-true l letterL (p .lettered) in
-          step-serves atStart figures (some-bytes figures (headLen + 5) (p .whole) (omega arith)) (omega arith) (rw (p .marked, e, p .whole))
+          step-serves atStart figures (some-bytes figures (recordHeadLen + 5) (p .whole) (omega arith)) (omega arith) (rw (p .marked, e, p .whole))
           ∙ serve-L atStart l figures e
           ∙ rw e
 
-  is-begun : begun ≡ after atStart (some f) emptyTable
+  is-begun : begun ≡ nextSession atStart (some f) emptyTable
   is-begun = ap (λ (o : Step). o .next) (step-begun ∙ ap (figuresStep atStart (letterOf figures) f) (figures-are (codingOf f) (h .accepted)))
 
   abbrev ended : Session
@@ -186,9 +186,9 @@ module _ (figures reading : List ℕ) (calls : List (List ℕ)) (h : IsSession f
   buffer = replicate (payloadLenOf f) 0
 
   abbrev len : ℕ
-  len = headLen + codingOf f .codec .wordLen
+  len = recordHeadLen + codingOf f .codec .wordLen
 
-  read-last : stepOut ended reading ≡ readStep ended (jobReadUnder (codingOf f) (tableFrom emptyTable (callsIn calls)) (drop headLen reading) buffer)
+  read-last : stepOut ended reading ≡ readStep ended (jobReadUnder (codingOf f) (tableFrom emptyTable (callsIn calls)) (drop recordHeadLen reading) buffer)
   unfolding readable recordLen kindOf
   read-last =
       let p = parts reading (eqb (letterOf reading) letterR) len (h .is-R) in
@@ -197,7 +197,7 @@ module _ (figures reading : List ℕ) (calls : List (List ℕ)) (h : IsSession f
       (rw (p .marked, s, figures-held, p .whole))
       ∙ serve-R ended (letterOf reading) reading s
       ∙ ap (readOut ended reading) figures-held
-      ∙ ap (λ (es : List Entry). readStep ended (jobReadUnder (codingOf f) es (drop headLen reading) buffer))
+      ∙ ap (λ (es : List Entry). readStep ended (jobReadUnder (codingOf f) es (drop recordHeadLen reading) buffer))
       (made .table ∙ ap (λ (s : Session). tableFrom (s .table) (callsIn calls)) is-begun)
 
   lines-are : linesOf begun calls ≡ answerLines calls (answersFrom emptyTable (callsIn calls))
@@ -209,10 +209,10 @@ session-claimed figures calls reading h =
     let g = figuresCarried figures in
     let out : List ℕ = replicate (payloadLenOf g) 0 in (
       answersFrom emptyTable cs,
-      jobReadUnder (codingOf g) (tableFrom emptyTable cs) (drop headLen reading) out,
+      jobReadUnder (codingOf g) (tableFrom emptyTable cs) (drop recordHeadLen reading) out,
       record {
         claim =
-            follows-either g [] cs (answersFrom emptyTable cs) (tableFrom emptyTable cs) (drop headLen reading) out (simulation-from-start emptyTable [] empty cs);
+            follows-either g [] cs (answersFrom emptyTable cs) (tableFrom emptyTable cs) (drop recordHeadLen reading) out (simulation-from-start emptyTable [] empty cs);
         answered = lines-are figures reading calls h;
         printed = read-last figures reading calls h;
       },

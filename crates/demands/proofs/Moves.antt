@@ -21,9 +21,9 @@ use Rattle.payloads.specs.Payload.{carriesJob, jobNumber, payloadIn, spellsPayl
 use Rattle.jobcodec.specs.DemandThree.{isRefusal}
 use Rattle.jobcodec.specs.JobWrite.{jobStatus}
 use Rattle.moving.specs.Resize.{hasRoom}
-use Rattle.moving.specs.Move.{bytesOf, moveJob, moveMessage, moveRead, move, moveOut, toConstructionA, toLarsson}
+use Rattle.moving.specs.Move.{payloadBytes, moveJob, moveMessage, moveRead, move, moveOut, toConstructionA, toLarsson}
 use Rattle.lent.specs.Table.{tableIn}
-use Rattle.lent.specs.Jobs.{isWhole, slotsFit}
+use Rattle.lent.specs.Jobs.{hasTableLen, slotsFit}
 use Rattle.lent_moving.specs.Moves.{moveBytesOut, toConstructionABytes, toLarssonBytes}
 use Rattle.demands.specs.Orders.{moveAccepted, moveToA, moveToLarsson}
 use Rattle.demands.specs.DemandOne.{AnswersBy}
@@ -55,7 +55,7 @@ module _ (order : List ℕ) (o : Moves order) (from to : Codec) where
       let payload = payloadIn (from .alphabet) (from .messageLen) ms in
       tested P (spellsPayload (from .alphabet) (from .messageLen) ms) (one-of refl)
       (where-open P (unwritten out) (jobStatus es payload) (one-of refl) (one-of refl) (one-of refl)
-      (tested P (hasRoom (bytesOf to) payload) (one-of refl)
+      (tested P (hasRoom (payloadBytes to) payload) (one-of refl)
       (tested P (isJob (jobNumber payload)) (one-of refl)
       (done (o .numbers)))))
 
@@ -78,7 +78,7 @@ module _ (order : List ℕ) (o : Moves order) (from to : Codec) where
         tested P (inRange f && slotsFit table) (one-of refl)
         (tested P (fitsA f && fitsLarsson f) (one-of refl)
         (tested P (carriesJob (from .alphabet) (from .messageLen) && carriesJob (to .alphabet) (to .messageLen)) (one-of refl)
-        (tested P (isWhole table) (one-of refl)
+        (tested P (hasTableLen table) (one-of refl)
         (moves (tableIn table) w out))))
 
 -- ---- To Construction A

@@ -26,7 +26,7 @@ use Rattle.prescription.specs.Fractions.{fraction}
 use Rattle.prescription.specs.Lens.{transposed, equivalent}
 use Rattle.prescription.specs.Eyes.{lensOf, eyeOf, Prescribed, prescribedOf, prescriptionOf}
 use Rattle.prescription.specs.Stored.{storedLen, prescribedIn}
-use Rattle.prescription.specs.Outcomes.{Answered, refused, orRefused, transposeOut, equivalentOut, readOut, Written, writtenOr, writeOut}
+use Rattle.prescription.specs.Outcomes.{Answered, refused, orRefused, transposeOut, equivalentOut, readTextOut, Written, writtenOr, writeTextOut}
 use Rattle.prescriptioncodec.specs.PrescriptionWrite.{numberLen, prescriptionPayload, minPayload, writePrescribed, prescriptionWriteUnder}
 use Rattle.prescriptioncodec.specs.PrescriptionRead.{HandedOut, handPrescription, prescriptionIn, prescriptionReading, prescriptionReadUnder}
 use Rattle.lent_prescriptions.specs.Eyes.{marksOf, powersOf, powersLent, answerLent, transposeLent, PowerLent, equivalentLentAs, equivalentLent}
@@ -54,8 +54,8 @@ pub spherical-equivalent : (e : Eye) → Answers prescriptionAlone (equivalentOu
 unfolding equivalentOut
 spherical-equivalent e = or-refused (λ l. fraction 16 (equivalent l)) (lensOf e)
 
-pub read-text : (text : List ℕ) → Answers prescriptionAlone (readOut text)
-unfolding readOut
+pub read-text : (text : List ℕ) → Answers prescriptionAlone (readTextOut text)
+unfolding readTextOut
 read-text text = or-refused prescriptionOf (prescribedIn text)
 
 module _ (text : List ℕ) where
@@ -67,8 +67,8 @@ module _ (text : List ℕ) where
   written-or none = keep refl refl
   written-or (some x) = done refl
 
-  pub write-text : (p : Prescription) → WritesText (writeOut p text)
-  unfolding writeOut isRefusal all any
+  pub write-text : (p : Prescription) → WritesText (writeTextOut p text)
+  unfolding writeTextOut isRefusal all any
   write-text p = tested WritesText (leb storedLen (length text)) (keep refl refl) (written-or (prescribedOf p))
 
 -- ---- On a strip

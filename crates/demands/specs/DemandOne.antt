@@ -12,7 +12,7 @@ use lib.Dec.{eqb}
 use lib.Ieee.{Float}
 use Rattle.refusals.specs.Refusals.{served}
 use Rattle.combinatorics.specs.Lists.{all, any}
-use Rattle.cells.specs.Outcomes.{Held, held, figuresNumber, figuresUnder, encodeUnder, worn, coverUnder, answerNumber, decodeUnder}
+use Rattle.cells.specs.Outcomes.{Held, held, figuresNumber, figuresUnder, encodeUnder, defectAt, coverUnder, answerNumber, decodeUnder}
 use Rattle.cells.specs.Ranking.{CoversLeast}
 use Rattle.construction_a.specs.Figures.{Params}
 use Rattle.construction_a.specs.DemandTwo.{DemandTwo}
@@ -34,7 +34,7 @@ use Rattle.jobcodec.specs.JobRead.{jobReadUnder}
 use Rattle.jobcodec.specs.ListRead.{ListSaid, listRefused, jobAnswer, ListOut, listOut}
 use Rattle.prescription.specs.declared.eyes.Eye.{Eye}
 use Rattle.prescription.specs.declared.texts.Prescription.{Prescription}
-use Rattle.prescription.specs.Outcomes.{transposeOut, equivalentOut, readOut, writeOut}
+use Rattle.prescription.specs.Outcomes.{transposeOut, equivalentOut, readTextOut, writeTextOut}
 use Rattle.prescriptioncodec.specs.PrescriptionWrite.{prescriptionWriteUnder}
 use Rattle.prescriptioncodec.specs.PrescriptionRead.{prescriptionReadUnder}
 use Rattle.moving.specs.Move.{toConstructionA, toLarsson}
@@ -48,7 +48,7 @@ use Rattle.lent_prescriptions.specs.Eyes.{PowersLent, transposeLent, equivalent
 use Rattle.lent_prescriptions.specs.Prescriptions.{prescriptionWriteBytesUnder, prescriptionReadBytesUnder}
 use Rattle.exports.specs.Words.{differs, verdictNumber, verifyBytesOut}
 use Rattle.exports.specs.Jobs.{callBytesOut}
-use Rattle.records.specs.Session.{Session, after}
+use Rattle.records.specs.Session.{Session, nextSession}
 use Rattle.lines.specs.Lines.{refusalLine, servedLine}
 use Rattle.records.specs.Records.{letterOf}
 use Rattle.transfer.specs.Steps.{Step, stopped, ended, goesOn, stepOut}
@@ -88,8 +88,8 @@ pub data StepAnswers (s : Session) (letter : ℕ) : Step → Type 0 where
   at-end : StepAnswers s letter (ended s)
   -- "prints "stop 11" and ends"
   stops : StepAnswers s letter (stopped s)
-  refuses : (a : ℕ) → isRefusal a ≡ true → StepAnswers s letter (goesOn (after s (s .figures) (s .table)) (refusalLine letter a))
-  serves : (f : Option Figures) (es : List Entry) (fields : List (List ℕ)) → StepAnswers s letter (goesOn (after s f es) (servedLine letter fields))
+  refuses : (a : ℕ) → isRefusal a ≡ true → StepAnswers s letter (goesOn (nextSession s (s .figures) (s .table)) (refusalLine letter a))
+  serves : (f : Option Figures) (es : List Entry) (fields : List (List ℕ)) → StepAnswers s letter (goesOn (nextSession s f es) (servedLine letter fields))
 
 pub record DemandOne : Type 0 where
   -- ---- Words, under the figures of either construction. Nothing is lent to "figures alone"; a refused covering or reading has no start beside it.
@@ -143,8 +143,8 @@ pub record DemandOne : Type 0 where
   -- ---- Prescriptions. A refusal has no value beside it.
   pub transpose : (e : Eye) → AnswersBy prescriptionAlone (transposeOut e .number) none (transposeOut e .value)
   pub spherical-equivalent : (e : Eye) → AnswersBy prescriptionAlone (equivalentOut e .number) none (equivalentOut e .value)
-  pub read-text : (text : List ℕ) → AnswersBy prescriptionAlone (readOut text .number) none (readOut text .value)
-  pub write-text : (p : Prescription) (text : List ℕ) → AnswersBy prescriptionAlone (writeOut p text .answer) text (writeOut p text .text)
+  pub read-text : (text : List ℕ) → AnswersBy prescriptionAlone (readTextOut text .number) none (readTextOut text .value)
+  pub write-text : (p : Prescription) (text : List ℕ) → AnswersBy prescriptionAlone (writeTextOut p text .answer) text (writeTextOut p text .text)
   pub prescription-write : (f : Figures) (es : List Entry) (at : Held) (n : ℕ) (p : Prescription) (out : List ℕ)
       → AnswersBy prescriptionWrite (prescriptionWriteUnder (codingOf f) es at n p out .answer) out (prescriptionWriteUnder (codingOf f) es at n p out .word)
   pub prescription-read : (f : Figures) (es : List Entry) (w : List ℕ)
@@ -189,9 +189,9 @@ pub record DemandOne : Type 0 where
   -- ---- "Each number comes under its condition and under no other": those of the table as the ledger has them, 6 where no placement covers the map,
   -- and 7, 8, 9, 19 and 21 as the found word has them. The others' conditions are the tests in the outcomes themselves.
   pub table-conditions : Simulation
-  pub cover-conditions : (f : Figures) → codingOf f .inRange ≡ true → codingOf f .fits ≡ true → (map : List ℕ) → CoversLeast (codingOf f) (worn map)
+  pub cover-conditions : (f : Figures) → codingOf f .inRange ≡ true → codingOf f .fits ≡ true → (map : List ℕ) → CoversLeast (codingOf f) (defectAt map)
   pub larsson-cover-conditions : (f : Params) → larssonCoding f .inRange ≡ true → larssonCoding f .fits ≡ true → (map : List ℕ)
-      → CoversLeast (larssonCoding f) (worn map)
+      → CoversLeast (larssonCoding f) (defectAt map)
   pub read-conditions : DemandTwo
   pub long-read-conditions : B.DemandTwo
   pub larsson-read-conditions : LarssonExact

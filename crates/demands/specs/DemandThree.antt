@@ -19,11 +19,11 @@ use Rattle.ledger.specs.Simulation.{Start}
 use Rattle.payloads.specs.Payload.{jobNumber}
 use Rattle.jobcodec.specs.DemandThree.{Claim}
 use Rattle.jobcodec.specs.JobRead.{JobRead}
-use Rattle.exports.specs.Follows.{answersOn, bytesAfter, numbered}
+use Rattle.exports.specs.Follows.{answersOn, bytesAfter, has32Bits}
 use Rattle.lent.specs.Jobs.{jobReadBytesUnder}
 use Rattle.lent.specs.Table.{TableOf}
 use Rattle.lines.specs.Lines.{refusalLine, letterS, letterL, letterR}
-use Rattle.records.specs.Records.{headLen, isMarked, letterOf, payloadLenOf, figuresIn, longFiguresIn}
+use Rattle.records.specs.Records.{recordHeadLen, isMarked, letterOf, payloadLenOf, figuresIn, longFiguresIn}
 use Rattle.transfer.specs.Steps.{readStep, stepOut}
 use Rattle.records.specs.Session.{Session, atStart, maxRecords}
 
@@ -35,7 +35,7 @@ use Rattle.records.specs.Session.{Session, atStart, maxRecords}
 abbrev pub BytesClaimed : Type 0
 BytesClaimed =
     (f : Figures) (bytes : List ℕ) (es : List Entry) (before : List Call) → TableOf bytes es → Start es before
-    → (calls : List Call) (w out : List ℕ) → all numbered calls ≡ true
+    → (calls : List Call) (w out : List ℕ) → all has32Bits calls ≡ true
     → Claim (codingOf f) before calls w out (answersOn bytes calls) (jobReadBytesUnder (codingOf f) (bytesAfter bytes calls) w out)
 
 -- ---- A session of the transfer program: an S or L, any calls, then an R. "The book starts empty"
@@ -55,11 +55,11 @@ isRecord letter len r = isMarked r && eqb (letterOf r) letter && eqb (length r) 
 
 -- "O (open), C (cancel), F (finish) a job number (4)"
 abbrev pub isCall : List ℕ → Bool
-isCall r = isMarked r && isLetter (letterOf r) && eqb (length r) (headLen + 4)
+isCall r = isMarked r && isLetter (letterOf r) && eqb (length r) (recordHeadLen + 4)
 
 -- "S (figures) n (2 bytes), q−1 (1), m (1), b (2)"; document 02, ticket 1: "letter L carries n (2 bytes), q−1 (1) and b (2)"
 abbrev pub carriesFigures : List ℕ → Bool
-carriesFigures r = isRecord letterS (headLen + 6) r || isRecord letterL (headLen + 5) r
+carriesFigures r = isRecord letterS (recordHeadLen + 6) r || isRecord letterL (recordHeadLen + 5) r
 
 abbrev pub figuresCarried : List ℕ → Figures
 figuresCarried r = cond (eqb (letterOf r) letterS) (figuresIn r) (longFiguresIn r)
@@ -67,14 +67,14 @@ figuresCarried r = cond (eqb (letterOf r) letterS) (figuresIn r) (longFiguresIn 
 -- the calls that they are
 unfoldable pub callsIn : List (List ℕ) → List Call
 callsIn [] = []
-callsIn (r ∷ rs) = callBefore (kindOf (letterOf r)) (jobNumber (drop headLen r)) (callsIn rs)
+callsIn (r ∷ rs) = callBefore (kindOf (letterOf r)) (jobNumber (drop recordHeadLen r)) (callsIn rs)
 
 pub record IsSession (figures : List ℕ) (calls : List (List ℕ)) (reading : List ℕ) : Type 0 where
   pub carries : carriesFigures figures ≡ true
   -- "an accepted S"; "an accepted L serves a W or R as an accepted S does"
   pub accepted : figuresNumber (figuresUnder (codingOf (figuresCarried figures))) ≡ served
   pub are-calls : all isCall calls ≡ true
-  pub is-R : isRecord letterR (headLen + codingOf (figuresCarried figures) .codec .wordLen) reading ≡ true
+  pub is-R : isRecord letterR (recordHeadLen + codingOf (figuresCarried figures) .codec .wordLen) reading ≡ true
   -- not "any record after the 4294967295th"
   pub few : length calls + 2 ≤ maxRecords
 
@@ -86,7 +86,7 @@ answerLines (r ∷ rs) (a ∷ answers) = refusalLine (letterOf r) a ∷ answerLi
 
 -- what is printed are the lines of answers and of a job reading that the claim is true of; the payload's buffer is the program's own and holds 0
 pub record SessionClaim (figures : List ℕ) (calls : List (List ℕ)) (reading answers : List ℕ) (r : JobRead) : Type 0 where
-  pub claim : let f = figuresCarried figures in Claim (codingOf f) [] (callsIn calls) (drop headLen reading) (replicate (payloadLenOf f) 0) answers r
+  pub claim : let f = figuresCarried figures in Claim (codingOf f) [] (callsIn calls) (drop recordHeadLen reading) (replicate (payloadLenOf f) 0) answers r
   pub answered : linesOf (stepOut atStart figures .next) calls ≡ answerLines calls answers
   pub printed : let s = sessionAfter (stepOut atStart figures .next) calls in stepOut s reading ≡ readStep s r
 

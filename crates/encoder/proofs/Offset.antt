@@ -7,10 +7,10 @@ use Rattle.cells.specs.Cut.{pieceStart}
 use Rattle.construction_b.specs.Figures.{LongParams, parts, headOf}
 use Rattle.construction_b.specs.Writing.{startIn, burstPart, endOffset}
 use Rattle.construction_b.proofs.Plan.{in-part}
-use Rattle.params.specs.Given.{figuresOf, longOf, LongFitting}
+use Rattle.params.specs.Given.{figuresOf, longOf, LongLayoutFits}
 use Rattle.params.specs.declared.Layout.{Layout}
 use Rattle.params.proofs.LongFitting.{served-long}
-use Rattle.placements.specs.Bridge.{startsIn, Placing}
+use Rattle.placements.specs.Bridge.{startsIn, PlacesBursts}
 use Rattle.placements.specs.declared.Placement.{Placement}
 use Rattle.placements.proofs.Placing.{start-is, start-in}
 
@@ -21,7 +21,7 @@ unfolding endOffset burstPart
 offset-is f s p e head same h =
     rw (h, same) (λ (l : e < parts) (a : headOf f e ≤ s + f .b - 1) (c : s + f .b - 1 < headOf f (suc e)). rw (in-part f e (s + f .b - 1) l a c))
 
-module _ (l : Layout) (at : Placement) (g : LongFitting l) (p : Placing l at) where
+module _ (l : Layout) (at : Placement) (g : LongLayoutFits l) (p : PlacesBursts l at) where
   -- its one start
   pub first-start : getD (at .starts) 0 0 ≡ startIn (startsIn at)
   first-start = sym (start-is l at p 0 (omega (arith, g .laid .m-is)))

@@ -23,13 +23,13 @@ use Rattle.construction_b.specs.Writing as B′
 use Rattle.construction_b.specs.Writing.{startIn, burstPart}
 use Rattle.construction_b.proofs.Figures as BFigures
 use Rattle.construction_b.proofs.Plan.{burst-lt, offset-lt}
-use Rattle.params.specs.Given.{figuresOf, longOf, frameOf, LongFitting, FittingWith, codingWith, codingIn, Serves, spelledWith, spelledIn}
+use Rattle.params.specs.Given.{figuresOf, longOf, frameOf, LongLayoutFits, LayoutFitsWith, codingWith, codingIn, Serves, spelledWith, spelledIn}
 use Rattle.params.specs.declared.Layout.{Layout}
 use Rattle.params.specs.declared.Spells.{Spells}
 use Rattle.params.specs.declared.Spells.the-variants.{Rank, EndOffset}
 use Rattle.params.proofs.Fitting.{served, plan-is}
 use Rattle.params.proofs.LongFitting.{served-long, start-is, long-plan-is}
-use Rattle.encoder.specs.Digits.{maxDigits, Spellable}
+use Rattle.encoder.specs.Digits.{maxDigits, SpellableRank}
 
 -- the largest count that is served is below this power of 2
 abbrev countBits : ℕ
@@ -73,7 +73,7 @@ values-few : (n : ℕ) → n ≤ 4096 → (n + 2) / 3 ≤ maxCount
 values-few n h = omega (arith, div-le-self (n + 2) 3)
 
 module _ (l : Layout) where
-  room-with : (s : Spells) → FittingWith s l → (l .m * suc (l .«index_tail») ≤ maxDigits) × (1 ≤ l .m)
+  room-with : (s : Spells) → LayoutFitsWith s l → (l .m * suc (l .«index_tail») ≤ maxDigits) × (1 ≤ l .m)
   unfolding B.partMost
   room-with Rank g =
       let f = figuresOf l in
@@ -97,7 +97,7 @@ module _ (l : Layout) where
       omega (arith, count-most g, le-mul-of-pos-right {m = l .m} (suc (l .«index_tail»)) (room-with (l .spells) g .1), mul-comm (l .m) (suc (l .«index_tail»)))
 
   -- what is spelled is below what the places can spell
-  below-with : (s : Spells) → FittingWith s l → (ss : List ℕ) → isPlacement (figuresOf l) ss ≡ true
+  below-with : (s : Spells) → LayoutFitsWith s l → (ss : List ℕ) → isPlacement (figuresOf l) ss ≡ true
       → (2 ≤ l .q) × (l .q ≤ 256) × (spelledWith s (figuresOf l) ss < span (l .q) (places (l .m) (l .«index_tail»)))
   below-with Rank g ss placed =
       let f = figuresOf l in
@@ -113,13 +113,13 @@ module _ (l : Layout) where
             (omega (arith, offset-lt f ok (startIn ss) inside, BFigures.part-most f (burstPart f (startIn ss)) (burst-lt f ok (startIn ss) inside), BFigures.span-enough f ok)),
       )
 
-  pub spellable : Serves l → (ss : List ℕ) (v : ℕ) → isPlacement (figuresOf l) ss ≡ true → v ≡ spelledIn l ss → Spellable (l .q) (l .m) (l .«index_tail») v
+  pub spellable : Serves l → (ss : List ℕ) (v : ℕ) → isPlacement (figuresOf l) ss ≡ true → v ≡ spelledIn l ss → SpellableRank (l .q) (l .m) (l .«index_tail») v
   spellable g ss v placed e =
       let b = below-with (l .spells) g ss placed in
       record { alphabet = b .0; bytes = b .1; room = count-most g; tail = tail-few g; below = omega (arith, b .2, e) }
 
   -- the digits of what is spelled, woven into the plan, give the word of either construction
-  woven-with : (s : Spells) → FittingWith s l → (ss ms : List ℕ) → isPlacement (figuresOf l) ss ≡ true
+  woven-with : (s : Spells) → LayoutFitsWith s l → (ss ms : List ℕ) → isPlacement (figuresOf l) ss ≡ true
       → weave (planIn (frameOf l ss)) (spell (l .q) (places (l .m) (l .«index_tail»)) (spelledWith s (figuresOf l) ss)) ms
       ≡ codingWith s (figuresOf l) .codec .encode ss ms
   unfolding word B′.wordFrom

@@ -14,7 +14,7 @@ unfoldable pub placeAt : ℕ → ℕ → Place
 placeAt r i = cond (eqb (i % suc r) 0) lead plain
 
 -- a value that the places can spell, in an alphabet of bytes
-pub record Spellable (q m r v : ℕ) : Type 0 where
+pub record SpellableRank (q m r v : ℕ) : Type 0 where
   pub alphabet : 2 ≤ q
   pub bytes : q ≤ maxAlphabet
   pub room : m * suc r ≤ maxDigits

@@ -3,14 +3,14 @@ ghost use mathlib.Core.Path.{_≡_};
 ghost use Prim.Native.Nat.{suc, _*_, _≤_, _<_};
 ghost use lib.ListN.{take};
 ghost use Rattle.cells.specs.Digits.{radix, spell, places};
-ghost use Rattle.encoder.specs.Digits.{maxDigits, placeAt, Spellable};
+ghost use Rattle.encoder.specs.Digits.{maxDigits, placeAt, SpellableRank};
 
 // Room for the digits of a rank.
 pub const MAX_DIGITS: usize = 128;
 
 // The stored digits of a value over m blocks of one lead place and `tail` plain ones, made from the right by quotient and remainder.
 pub fn spelled(q: u64, m: usize, tail: usize, value: u64) -> [u8; MAX_DIGITS]
-    requires { ⌜ Spellable q m tail value ⌝ }
+    requires { ⌜ SpellableRank q m tail value ⌝ }
     ensures { λ r. ⌜ take (m * suc tail) r ≡ spell q (places m tail) value ⌝ }
 {
     let mut digits = [0u8; MAX_DIGITS];

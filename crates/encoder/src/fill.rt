@@ -2,7 +2,7 @@
 ghost use mathlib.Core.Path.{_≡_};
 ghost use Rattle.placements.specs.Bridge.{startsIn};
 ghost use Rattle.params.specs.Given.{codingIn, Serves};
-ghost use Rattle.encoder.specs.Fill.{Fillable};
+ghost use Rattle.encoder.specs.Fill.{PlacedMessage};
 use crate::digits;
 use crate::value;
 use params::Layout;
@@ -11,7 +11,7 @@ use placements::Placement;
 
 // The word of a placement and a message.
 pub fn fill(layout: Layout, at: Placement, message: &[u8], word: &mut [u8])
-    requires { ⌜ Serves layout × Fillable layout at (now message) (now word) ⌝ }
+    requires { ⌜ Serves layout × PlacedMessage layout at (now message) (now word) ⌝ }
     ensures { λ _. ⌜ now (word .exit) ≡ codingIn layout .codec .encode (startsIn at) (now (message .entry)) ⌝ }
 {
     let kinds = blocks::kinds_of(layout, at);

@@ -1,15 +1,15 @@
 // What the index blocks spell of a placement: its rank, or how far into its part the one burst of Construction B ends. Assumes nothing.
 ghost use mathlib.Core.Path.{_≡_};
 ghost use Rattle.construction_b.specs.Writing.{startIn, endOffset};
-ghost use Rattle.params.specs.Given.{figuresOf, longOf, LongFitting, Serves, spelledIn};
-ghost use Rattle.placements.specs.Bridge.{startsIn, Placing};
+ghost use Rattle.params.specs.Given.{figuresOf, longOf, LongLayoutFits, Serves, spelledIn};
+ghost use Rattle.placements.specs.Bridge.{startsIn, PlacesBursts};
 use params::Layout;
 use params::Spells;
 use params::cut;
 use placements::Placement;
 
 pub fn index_value(layout: Layout, at: Placement) -> u64
-    requires { ⌜ Serves layout × Placing layout at ⌝ }
+    requires { ⌜ Serves layout × PlacesBursts layout at ⌝ }
     ensures { λ r. ⌜ r ≡ spelledIn layout (startsIn at) ⌝ }
 {
     let spells = layout.spells;
@@ -21,7 +21,7 @@ pub fn index_value(layout: Layout, at: Placement) -> u64
 
 // The burst's last position, counted from the first one of its part.
 fn end_offset(layout: Layout, at: Placement) -> u64
-    requires { ⌜ LongFitting layout × Placing layout at ⌝ }
+    requires { ⌜ LongLayoutFits layout × PlacesBursts layout at ⌝ }
     ensures { λ r. ⌜ r ≡ endOffset (longOf (figuresOf layout)) (startIn (startsIn at)) ⌝ }
 {
     let start = at.starts[0];

@@ -21,10 +21,10 @@ use Rattle.jobs.specs.Table.{isFree, holds, lookup, emptyTable, TableOut, refus
 use Rattle.ledger.specs.Calls.{callOut, answersFrom, tableFrom}
 use Rattle.ledger.specs.Simulation.{Start, empty, zero-open, zero-cancelled, zero-opened-cancelled, zero-on-hold-cancelled}
 use Rattle.ledger.proofs.Simulates.{simulation-from-start}
-use Rattle.lent.specs.Table.{hasRoom, IsTable, TableOf}
+use Rattle.lent.specs.Table.{numberFits, IsTable, TableOf}
 use Rattle.lent.proofs.TableBack.{table-back, empty-bytes, empty-table}
 use Rattle.exports.specs.Jobs.{CallLent, calledAs}
-use Rattle.exports.specs.Follows.{letterOf, callOn, answersOn, bytesAfter, EmptyBytes, numbered, BytesFollow}
+use Rattle.exports.specs.Follows.{letterFor, callOn, answersOn, bytesAfter, EmptyBytes, has32Bits, BytesFollow}
 use Rattle.exports.proofs.JobLaws.{as-called}
 
 -- ---- A call leaves a table, and a refused one the table that it found
@@ -35,14 +35,14 @@ module _ (t : Entry → Bool) (x : Entry) where
   length-replaced [] = refl
   length-replaced (e ∷ es) = by-bool (t e) (λ p. rw p) (λ p. rw p (ap suc (length-replaced es)))
 
-  room-replaced : (es : List Entry) → hasRoom x ≡ true → all hasRoom es ≡ true → all hasRoom (replaceFirst t x es) ≡ true
+  room-replaced : (es : List Entry) → numberFits x ≡ true → all numberFits es ≡ true → all numberFits (replaceFirst t x es) ≡ true
   unfolding replaceFirst all
   room-replaced [] h g = refl
   room-replaced (e ∷ es) h g =
-      let b = both (hasRoom e) (all hasRoom es) g in
+      let b = both (numberFits e) (all numberFits es) g in
       by-bool (t e) (λ p. rw (p, h) (b .1)) (λ p. rw (p, b .0) (room-replaced es h (b .1)))
 
-  replaced : (es : List Entry) → hasRoom x ≡ true → IsTable es → IsTable (replaceFirst t x es)
+  replaced : (es : List Entry) → numberFits x ≡ true → IsTable es → IsTable (replaceFirst t x es)
   replaced es h g = record { many = length-replaced es ∙ g .many; numbers = room-replaced es h (g .numbers) }
 
 record Sound (es : List Entry) (out : TableOut) : Type 0 where
@@ -53,10 +53,10 @@ module _ (es : List Entry) (g : IsTable es) where
   refused : (a : ℕ) → Sound es (refuse es a)
   refused a = record { table = g; kept = λ _. refl }
 
-  accepted : (t : Entry → Bool) (x : Entry) → hasRoom x ≡ true → Sound es (accept (replaceFirst t x es))
+  accepted : (t : Entry → Bool) (x : Entry) → numberFits x ≡ true → Sound es (accept (replaceFirst t x es))
   accepted t x h = record { table = replaced t x es h g; kept = λ n. absurd (n refl) }
 
-  stored : (t : Entry → Bool) (x : Entry) → hasRoom x ≡ true → Sound es (put t x es)
+  stored : (t : Entry → Bool) (x : Entry) → numberFits x ≡ true → Sound es (put t x es)
   unfolding put
   stored t x h = by-bool (any t es) (λ p. rw p (accepted t x h)) (λ p. rw p (refused _))
 
@@ -86,7 +86,7 @@ module _ (es : List Entry) (g : IsTable es) where
     finish-sound (Open x) = accepted (holds n) Free refl
     finish-sound Free = refused _
 
-    restored-room : (was : Before) → hasRoom (restored was n) ≡ true
+    restored-room : (was : Before) → numberFits (restored was n) ≡ true
     restored-room WasAbsent = refl
     restored-room WasOpen = h
     restored-room WasOnHold = h
@@ -123,7 +123,7 @@ module _ (es : List Entry) (g : IsTable es) where
 
 -- ---- So a call on the bytes is one on the table
 
-letter-call : (k : Kind) (es : List Entry) (n : ℕ) → callBy (listKind (letterOf k)) es n ≡ callAs k es n
+letter-call : (k : Kind) (es : List Entry) (n : ℕ) → callBy (listKind (letterFor k)) es n ≡ callAs k es n
 unfolding kindOf listKind
 letter-call opening es n = refl
 letter-call cancelling es n = refl
@@ -132,7 +132,7 @@ letter-call reinstating es n = refl
 letter-call holding es n = refl
 letter-call releasing es n = refl
 
-letter-known : (k : Kind) → isListLetter (letterOf k) ≡ true
+letter-known : (k : Kind) → isListLetter (letterFor k) ≡ true
 unfolding kindOf listKind
 letter-known opening = refl
 letter-known cancelling = refl
@@ -143,7 +143,7 @@ letter-known releasing = refl
 
 one-call : (bytes : List ℕ) (es : List Entry) → TableOf bytes es → (c : Call) → callOn bytes c ≡ calledAs bytes (callOut es c)
 one-call bytes es b c =
-    let k = letterOf (c .kind) in
+    let k = letterFor (c .kind) in
     as-called bytes k (c .number) (b .size) (letter-known (c .kind)) (b .known) (callOut es c)
     (sym (letter-call (c .kind) es (c .number)) ∙ ap (λ (x : List Entry). callBy (listKind k) x (c .number)) (sym (b .same)))
 
@@ -152,7 +152,7 @@ record Left (o : CallLent) (out : TableOut) : Type 0 where
   answer : o .answer ≡ out .answer
   holds-table : TableOf (o .table) (out .table)
 
-call-left : (bytes : List ℕ) (es : List Entry) → TableOf bytes es → IsTable es → (c : Call) → numbered c ≡ true → Left (callOn bytes c) (callOut es c)
+call-left : (bytes : List ℕ) (es : List Entry) → TableOf bytes es → IsTable es → (c : Call) → has32Bits c ≡ true → Left (callOn bytes c) (callOut es c)
 call-left bytes es b g c h =
     let out = callOut es c in
     let s = call-sound es g (c .number) h (c .kind) in
@@ -167,24 +167,24 @@ record Alike (bytes : List ℕ) (es : List Entry) (calls : List Call) : Type 0 w
   pub answers : answersOn bytes calls ≡ answersFrom es calls
   pub after : TableOf (bytesAfter bytes calls) (tableFrom es calls)
 
-calls-alike : (calls : List Call) (bytes : List ℕ) (es : List Entry) → TableOf bytes es → IsTable es → all numbered calls ≡ true → Alike bytes es calls
+calls-alike : (calls : List Call) (bytes : List ℕ) (es : List Entry) → TableOf bytes es → IsTable es → all has32Bits calls ≡ true → Alike bytes es calls
 unfolding all answersOn bytesAfter answersFrom tableFrom
 calls-alike [] bytes es b g h = record { answers = refl; after = b }
 calls-alike (c ∷ cs) bytes es b g h =
-    let n = both (numbered c) (all numbered cs) h in
+    let n = both (has32Bits c) (all has32Bits cs) h in
     let l = call-left bytes es b g c (n .0) in
     let r = calls-alike cs (callOn bytes c .table) (callOut es c .table) (l .holds-table) (call-sound es g (c .number) (n .0) (c .kind) .table) (n .1) in
     record { answers = ap₂ {C = List ℕ} _∷_ (l .answer) (r .answers); after = r .after }
 
 -- ---- from every start
 
-room-set : (es : List Entry) (i : ℕ) (x : Entry) → hasRoom x ≡ true → all hasRoom es ≡ true → all hasRoom (set es i x) ≡ true
+room-set : (es : List Entry) (i : ℕ) (x : Entry) → numberFits x ≡ true → all numberFits es ≡ true → all numberFits (set es i x) ≡ true
 unfolding all
 room-set [] i x h g = refl
-room-set (e ∷ es) zero x h g = rw h (both (hasRoom e) (all hasRoom es) g .1)
-room-set (e ∷ es) (suc i) x h g = let b = both (hasRoom e) (all hasRoom es) g in rw (b .0) (room-set es i x h (b .1))
+room-set (e ∷ es) zero x h g = rw h (both (numberFits e) (all numberFits es) g .1)
+room-set (e ∷ es) (suc i) x h g = let b = both (numberFits e) (all numberFits es) g in rw (b .0) (room-set es i x h (b .1))
 
-alone-table : (i : ℕ) (x : Entry) → hasRoom x ≡ true → IsTable (set emptyTable i x)
+alone-table : (i : ℕ) (x : Entry) → numberFits x ≡ true → IsTable (set emptyTable i x)
 alone-table i x h = record { many = length-set emptyTable i x; numbers = room-set emptyTable i x h (empty-table .numbers) }
 
 pub start-table : (es : List Entry) (before : List Call) → Start es before → IsTable es
@@ -198,7 +198,7 @@ pub empty-bytes-hold : EmptyBytes
 empty-bytes-hold = subst (λ (bytes : List ℕ). TableOf bytes emptyTable) empty-bytes (table-back emptyTable empty-table)
 
 module _ (bytes : List ℕ) (es : List Entry) (before : List Call) (b : TableOf bytes es) (s : Start es before) (calls : List Call)
-    (h : all numbered calls ≡ true) where
+    (h : all has32Bits calls ≡ true) where
   alike : Alike bytes es calls
   alike = calls-alike calls bytes es b (start-table es before s) h
 

@@ -16,16 +16,16 @@ use Rattle.lent.specs.Table.{tableLen, tableIn, TableOf}
 use Rattle.exports.specs.Jobs.{CallLent, callBytesOut}
 
 -- "O (open), C (cancel), F (finish)", and I (reinstate), H (hold), U (release)
-abbrev pub letterOf : Kind → ℕ
-letterOf opening = 79
-letterOf cancelling = 67
-letterOf finishing = 70
-letterOf reinstating = 73
-letterOf holding = 72
-letterOf releasing = 85
+abbrev pub letterFor : Kind → ℕ
+letterFor opening = 79
+letterFor cancelling = 67
+letterFor finishing = 70
+letterFor reinstating = 73
+letterFor holding = 72
+letterFor releasing = 85
 
 abbrev pub callOn : List ℕ → Call → CallLent
-callOn bytes c = callBytesOut bytes (letterOf (c .kind)) (c .number)
+callOn bytes c = callBytesOut bytes (letterFor (c .kind)) (c .number)
 
 -- the answers of the calls, each given the bytes that the one before left
 unfoldable pub answersOn : List ℕ → List Call → List ℕ
@@ -42,11 +42,11 @@ abbrev pub EmptyBytes : Type 0
 EmptyBytes = TableOf (replicate tableLen 0) emptyTable
 
 -- a job number has 32 bits
-abbrev pub numbered : Call → Bool
-numbered c = ltb (c .number) (byteValues ^ 4)
+abbrev pub has32Bits : Call → Bool
+has32Bits c = ltb (c .number) (byteValues ^ 4)
 
 -- from every start: "a ledger that begins with every number unknown", or document 02, ticket 3: "a book that holds 0 alone, in any place, open or cancelled"
 abbrev pub BytesFollow : Type 0
 BytesFollow =
-    (bytes : List ℕ) (es : List Entry) (before : List Call) → TableOf bytes es → Start es before → (calls : List Call) → all numbered calls ≡ true
+    (bytes : List ℕ) (es : List Entry) (before : List Call) → TableOf bytes es → Start es before → (calls : List Call) → all has32Bits calls ≡ true
     → Follows before calls (answersOn bytes calls) (tableIn (bytesAfter bytes calls))

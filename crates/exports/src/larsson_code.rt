@@ -5,7 +5,7 @@ ghost use Rattle.cells.specs.Outcomes.{unwritten};
 ghost use Rattle.construction_a.specs.Figures.{params};
 ghost use Rattle.larsson.specs.Outcomes.{coding};
 ghost use Rattle.decoder.specs.Exported.{lentAs, exportedUnder};
-ghost use Rattle.lent.specs.Covering.{covers, coverBytesUnder};
+ghost use Rattle.lent.specs.Covering.{coverLent, coverBytesUnder};
 ghost use Rattle.lent.specs.Words.{encodeBytesUnder, messageLenUnder, payloadLenUnder};
 use params::Params;
 
@@ -36,7 +36,8 @@ pub extern "C" fn burgzemi_larsson_encode(
     message: &[u8],
     word: &mut [u8],
 ) -> u8
-    ensures { λ r. ⌜ unwritten (now (word .exit)) r ≡ encodeBytesUnder (coding (params n q m b)) (now (starts .entry)) (now (message .entry)) (now (word .entry)) ⌝ }
+    ensures { λ r. ⌜ unwritten (now (word .exit)) r
+        ≡ encodeBytesUnder (coding (params n q m b)) (now (starts .entry)) (now (message .entry)) (now (word .entry)) ⌝ }
 {
     lent_larsson::encode(Params { n, q, m, b }, starts, message, word)
 }
@@ -52,7 +53,8 @@ pub extern "C" fn burgzemi_larsson_decode(
     message: &mut [u8],
     starts: &mut [u8],
 ) -> u8
-    ensures { λ r. ⌜ lentAs r (now (message .exit)) (now (starts .exit)) ≡ exportedUnder (coding (params n q m b)) (now (word .entry)) (now (message .entry)) (now (starts .entry)) ⌝ }
+    ensures { λ r. ⌜ lentAs r (now (message .exit)) (now (starts .exit))
+        ≡ exportedUnder (coding (params n q m b)) (now (word .entry)) (now (message .entry)) (now (starts .entry)) ⌝ }
 {
     lent_larsson::decode(Params { n, q, m, b }, word, message, starts)
 }
@@ -67,7 +69,7 @@ pub extern "C" fn burgzemi_larsson_cover(
     map: &[u8],
     starts: &mut [u8],
 ) -> u8
-    ensures { λ r. ⌜ covers r (now (starts .exit)) ≡ coverBytesUnder (coding (params n q m b)) (now (map .entry)) (now (starts .entry)) ⌝ }
+    ensures { λ r. ⌜ coverLent r (now (starts .exit)) ≡ coverBytesUnder (coding (params n q m b)) (now (map .entry)) (now (starts .entry)) ⌝ }
 {
     lent_larsson::cover_bytes(Params { n, q, m, b }, map, starts)
 }

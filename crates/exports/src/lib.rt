@@ -6,7 +6,7 @@ ghost use Rattle.construction_a.specs.Outcomes.{unwritten};
 ghost use Rattle.decoder.specs.Exported.{lentAs, exportedOut, messageLenOut};
 ghost use Rattle.jobcodec.specs.Given.{seen};
 ghost use Rattle.lanes.specs.Outcomes.{unfilled, interleaveOut, deinterleaveOut};
-ghost use Rattle.lent.specs.Covering.{covers, coverBytesOut};
+ghost use Rattle.lent.specs.Covering.{coverLent, coverBytesOut};
 ghost use Rattle.lent.specs.Jobs.{jobWriteBytesOut, jobReadBytesOut};
 ghost use Rattle.lent.specs.Words.{encodeBytesOut, payloadLenOut};
 ghost use Rattle.lent_prescriptions.specs.Eyes.{eyeFrom, powersLent, transposeLent, powerLent, equivalentLent};
@@ -43,7 +43,8 @@ pub extern "C" fn burgzemi_decode(
     message: &mut [u8],
     starts: &mut [u8],
 ) -> u8
-    ensures { λ r. ⌜ lentAs r (now (message .exit)) (now (starts .exit)) ≡ exportedOut (params n q m b) (now (word .entry)) (now (message .entry)) (now (starts .entry)) ⌝ }
+    ensures { λ r. ⌜ lentAs r (now (message .exit)) (now (starts .exit))
+        ≡ exportedOut (params n q m b) (now (word .entry)) (now (message .entry)) (now (starts .entry)) ⌝ }
 {
     words::decode(
         Figures::Ranked(Params { n, q, m, b }),
@@ -124,7 +125,7 @@ pub extern "C" fn burgzemi_cover(
     map: &[u8],
     starts: &mut [u8],
 ) -> u8
-    ensures { λ r. ⌜ covers r (now (starts .exit)) ≡ coverBytesOut (params n q m b) (now (map .entry)) (now (starts .entry)) ⌝ }
+    ensures { λ r. ⌜ coverLent r (now (starts .exit)) ≡ coverBytesOut (params n q m b) (now (map .entry)) (now (starts .entry)) ⌝ }
 {
     starts::cover_bytes(Figures::Ranked(Params { n, q, m, b }), map, starts)
 }
@@ -166,7 +167,8 @@ pub extern "C" fn burgzemi_job_write(
     payload: &[u8],
     word: &mut [u8],
 ) -> u8
-    ensures { λ r. ⌜ unwritten (now (word .exit)) r ≡ jobWriteBytesOut (params n q m b) (now (table .entry)) (now (starts .entry)) (now (payload .entry)) (now (word .entry)) ⌝ }
+    ensures { λ r. ⌜ unwritten (now (word .exit)) r
+        ≡ jobWriteBytesOut (params n q m b) (now (table .entry)) (now (starts .entry)) (now (payload .entry)) (now (word .entry)) ⌝ }
 {
     job::write(
         Figures::Ranked(Params { n, q, m, b }),
@@ -236,7 +238,8 @@ pub extern "C" fn burgzemi_transpose(
     marks: &mut [u8],
     powers: &mut [f64],
 ) -> u8
-    ensures { λ r. ⌜ powersLent (now (marks .exit)) (now (powers .exit)) r ≡ transposeLent (eyeFrom kind sphere cylinder axis) (now (marks .entry)) (now (powers .entry)) ⌝ }
+    ensures { λ r. ⌜ powersLent (now (marks .exit)) (now (powers .exit)) r
+        ≡ transposeLent (eyeFrom kind sphere cylinder axis) (now (marks .entry)) (now (powers .entry)) ⌝ }
 {
     let eye = eyes::eye_from(kind, sphere, cylinder, axis);
     eyes::transpose(eye, marks, powers)
@@ -279,7 +282,10 @@ pub extern "C" fn burgzemi_prescription_write(
     distance: f64,
     word: &mut [u8],
 ) -> u8
-    ensures { λ r. ⌜ unwritten (now (word .exit)) r ≡ prescriptionWriteBytesOut (params n q m b) (now (table .entry)) (now (starts .entry)) number (prescriptionFrom (eyeFrom «right_kind» «right_sphere» «right_cylinder» «right_axis») (eyeFrom «left_kind» «left_sphere» «left_cylinder» «left_axis») distance) (now (word .entry)) ⌝ }
+    ensures { λ r. ⌜ unwritten (now (word .exit)) r
+        ≡ prescriptionWriteBytesOut (params n q m b) (now (table .entry)) (now (starts .entry)) number
+        (prescriptionFrom (eyeFrom «right_kind» «right_sphere» «right_cylinder» «right_axis»)
+        (eyeFrom «left_kind» «left_sphere» «left_cylinder» «left_axis») distance) (now (word .entry)) ⌝ }
 {
     let prescription = prescriptions::prescription_from(
         right_kind,
@@ -315,7 +321,8 @@ pub extern "C" fn burgzemi_prescription_read(
     marks: &mut [u8],
     powers: &mut [f64],
 ) -> u8
-    ensures { λ r. ⌜ powersLent (now (marks .exit)) (now (powers .exit)) r ≡ prescriptionReadBytesOut (params n q m b) (now (table .entry)) (now (word .entry)) (now (marks .entry)) (now (powers .entry)) ⌝ }
+    ensures { λ r. ⌜ powersLent (now (marks .exit)) (now (powers .exit)) r
+        ≡ prescriptionReadBytesOut (params n q m b) (now (table .entry)) (now (word .entry)) (now (marks .entry)) (now (powers .entry)) ⌝ }
 {
     prescriptions::read(
         Figures::Ranked(Params { n, q, m, b }),

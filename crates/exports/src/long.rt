@@ -7,7 +7,7 @@ ghost use Rattle.construction_b.specs.Outcomes.{coding};
 ghost use Rattle.decoder.specs.Exported.{lentAs, exportedUnder};
 ghost use Rattle.jobcodec.specs.Given.{seen};
 ghost use Rattle.lanes.specs.Outcomes.{unfilled, interleaveUnder, deinterleaveUnder};
-ghost use Rattle.lent.specs.Covering.{covers, coverBytesUnder};
+ghost use Rattle.lent.specs.Covering.{coverLent, coverBytesUnder};
 ghost use Rattle.lent.specs.Jobs.{jobWriteBytesUnder, jobReadBytesUnder};
 ghost use Rattle.lent.specs.Words.{encodeBytesUnder, messageLenUnder, payloadLenUnder};
 ghost use Rattle.lent_prescriptions.specs.Eyes.{eyeFrom, powersLent};
@@ -45,7 +45,8 @@ pub extern "C" fn burgzemi_long_encode(
     message: &[u8],
     word: &mut [u8],
 ) -> u8
-    ensures { λ r. ⌜ unwritten (now (word .exit)) r ≡ encodeBytesUnder (coding (longParams n q b)) (now (starts .entry)) (now (message .entry)) (now (word .entry)) ⌝ }
+    ensures { λ r. ⌜ unwritten (now (word .exit)) r
+        ≡ encodeBytesUnder (coding (longParams n q b)) (now (starts .entry)) (now (message .entry)) (now (word .entry)) ⌝ }
 {
     words::encode(Figures::Long(LongParams { n, q, b }), starts, message, word)
 }
@@ -60,7 +61,8 @@ pub extern "C" fn burgzemi_long_decode(
     message: &mut [u8],
     starts: &mut [u8],
 ) -> u8
-    ensures { λ r. ⌜ lentAs r (now (message .exit)) (now (starts .exit)) ≡ exportedUnder (coding (longParams n q b)) (now (word .entry)) (now (message .entry)) (now (starts .entry)) ⌝ }
+    ensures { λ r. ⌜ lentAs r (now (message .exit)) (now (starts .exit))
+        ≡ exportedUnder (coding (longParams n q b)) (now (word .entry)) (now (message .entry)) (now (starts .entry)) ⌝ }
 {
     words::decode(Figures::Long(LongParams { n, q, b }), word, message, starts)
 }
@@ -68,7 +70,7 @@ pub extern "C" fn burgzemi_long_decode(
 // Covering: the start of the placement of least rank that covers the defect map. Refusals: 1 2 3 4 6.
 #[no_mangle]
 pub extern "C" fn burgzemi_long_cover(n: u32, q: u32, b: u32, map: &[u8], starts: &mut [u8]) -> u8
-    ensures { λ r. ⌜ covers r (now (starts .exit)) ≡ coverBytesUnder (coding (longParams n q b)) (now (map .entry)) (now (starts .entry)) ⌝ }
+    ensures { λ r. ⌜ coverLent r (now (starts .exit)) ≡ coverBytesUnder (coding (longParams n q b)) (now (map .entry)) (now (starts .entry)) ⌝ }
 {
     starts::cover_bytes(Figures::Long(LongParams { n, q, b }), map, starts)
 }
@@ -84,7 +86,8 @@ pub extern "C" fn burgzemi_long_job_write(
     payload: &[u8],
     word: &mut [u8],
 ) -> u8
-    ensures { λ r. ⌜ unwritten (now (word .exit)) r ≡ jobWriteBytesUnder (coding (longParams n q b)) (now (table .entry)) (now (starts .entry)) (now (payload .entry)) (now (word .entry)) ⌝ }
+    ensures { λ r. ⌜ unwritten (now (word .exit)) r
+        ≡ jobWriteBytesUnder (coding (longParams n q b)) (now (table .entry)) (now (starts .entry)) (now (payload .entry)) (now (word .entry)) ⌝ }
 {
     job::write(
         Figures::Long(LongParams { n, q, b }),
@@ -105,7 +108,8 @@ pub extern "C" fn burgzemi_long_job_read(
     word: &[u8],
     payload: &mut [u8],
 ) -> u8
-    ensures { λ r. ⌜ seen r (now (payload .exit)) ≡ jobReadBytesUnder (coding (longParams n q b)) (now (table .entry)) (now (word .entry)) (now (payload .entry)) ⌝ }
+    ensures { λ r. ⌜ seen r (now (payload .exit))
+        ≡ jobReadBytesUnder (coding (longParams n q b)) (now (table .entry)) (now (word .entry)) (now (payload .entry)) ⌝ }
 {
     job::read(Figures::Long(LongParams { n, q, b }), table, word, payload)
 }
@@ -161,7 +165,10 @@ pub extern "C" fn burgzemi_long_prescription_write(
     distance: f64,
     word: &mut [u8],
 ) -> u8
-    ensures { λ r. ⌜ unwritten (now (word .exit)) r ≡ prescriptionWriteBytesUnder (coding (longParams n q b)) (now (table .entry)) (now (starts .entry)) number (prescriptionFrom (eyeFrom «right_kind» «right_sphere» «right_cylinder» «right_axis») (eyeFrom «left_kind» «left_sphere» «left_cylinder» «left_axis») distance) (now (word .entry)) ⌝ }
+    ensures { λ r. ⌜ unwritten (now (word .exit)) r
+        ≡ prescriptionWriteBytesUnder (coding (longParams n q b)) (now (table .entry)) (now (starts .entry)) number
+        (prescriptionFrom (eyeFrom «right_kind» «right_sphere» «right_cylinder» «right_axis»)
+        (eyeFrom «left_kind» «left_sphere» «left_cylinder» «left_axis») distance) (now (word .entry)) ⌝ }
 {
     let prescription = prescriptions::prescription_from(
         right_kind,
@@ -196,7 +203,8 @@ pub extern "C" fn burgzemi_long_prescription_read(
     marks: &mut [u8],
     powers: &mut [f64],
 ) -> u8
-    ensures { λ r. ⌜ powersLent (now (marks .exit)) (now (powers .exit)) r ≡ prescriptionReadBytesUnder (coding (longParams n q b)) (now (table .entry)) (now (word .entry)) (now (marks .entry)) (now (powers .entry)) ⌝ }
+    ensures { λ r. ⌜ powersLent (now (marks .exit)) (now (powers .exit)) r
+        ≡ prescriptionReadBytesUnder (coding (longParams n q b)) (now (table .entry)) (now (word .entry)) (now (marks .entry)) (now (powers .entry)) ⌝ }
 {
     prescriptions::read(
         Figures::Long(LongParams { n, q, b }),

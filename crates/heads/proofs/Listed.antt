@@ -9,7 +9,7 @@ use native.Mathlib.Nat.{mul-le-mul, mul-le-mul-right}
 use native.Mathlib.Omega.{arith}
 use lib.Dec.{eqb}
 use lib.ListN.{length, getD, take, length-append}
-use Rattle.combinatorics.specs.Stretch.{count, has, members, stretch}
+use Rattle.combinatorics.specs.Stretch.{count, has, members, consecutive}
 use Rattle.combinatorics.proofs.Cases.{by-le, eqb-same, eqb-other, leb-holds, leb-fails}
 use Rattle.combinatorics.proofs.Stretch.{count-le, members-on, members-most, none-has, length-members}
 use Rattle.construction_a.specs.Figures.{maxBursts}
@@ -180,7 +180,7 @@ collect-none (suc n) k x g a b e =
 -- ---- The pattern found
 
 module _ (p m : ℕ) (looks : ℕ → Bool) where
-  pub found-whole : (i : ℕ) → later p (bareParts p m looks) ≡ some i → indexFound p m looks ≡ some (stretch m (i * m))
+  pub found-whole : (i : ℕ) → later p (bareParts p m looks) ≡ some i → indexFound p m looks ≡ some (consecutive m (i * m))
   unfolding indexFound
   found-whole i e = rw e
 

@@ -21,11 +21,11 @@ use Rattle.construction_a.proofs.Rule.{not-true}
 use Rattle.params.specs.declared.Layout.{Layout}
 use Rattle.params.proofs.Shape.{bound}
 use Rattle.params.specs.Given.{figuresOf, Shaped}
-use Rattle.heads.specs.Given.{Finding}
+use Rattle.heads.specs.Given.{CompleteWord}
 use Rattle.heads.specs.declared.pattern.IndexBlocks.{IndexBlocks}
 use Rattle.heads.specs.Looks.{startsFixed, looksIn}
 use Rattle.heads.specs.Patterns.{Parted, indexIn}
-use Rattle.heads.specs.Written.{Shown}
+use Rattle.heads.specs.Written.{OpenHeads}
 
 -- ---- A layout's parts and blocks
 
@@ -104,8 +104,8 @@ looks-set n S looks h k l = rw (h k l) (by-bool (S k) (λ t. rw t) (λ t. rw t))
 
 -- ---- The index blocks read are blocks of the word, and none looks fixed
 
-pub shown : (l : Layout) (w : List ℕ) (a : IndexBlocks) → Finding l w → a .found ≡ true
-    → indexIn (l .m) a ≡ indexFound (parts (figuresOf l)) (l .m) (looksFixed (figuresOf l) w) → Shown l w (a .blocks)
+pub shown : (l : Layout) (w : List ℕ) (a : IndexBlocks) → CompleteWord l w → a .found ≡ true
+    → indexIn (l .m) a ≡ indexFound (parts (figuresOf l)) (l .m) (looksFixed (figuresOf l) w) → OpenHeads l w (a .blocks)
 unfolding indexIn
 shown l w a h t e =
     record {

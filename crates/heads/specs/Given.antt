@@ -7,6 +7,6 @@ use Rattle.params.specs.Given.{Shaped}
 use Rattle.params.specs.declared.Layout.{Layout}
 
 -- a word that is complete
-pub record Finding (l : Layout) (w : List ℕ) : Type 0 where
+pub record CompleteWord (l : Layout) (w : List ℕ) : Type 0 where
   pub layout : Shaped l
   pub complete : length w ≡ l .n

@@ -9,7 +9,7 @@ use Rattle.construction_a.specs.Figures.{blocks}
 use Rattle.construction_a.specs.Reading.{looksFixed, headsWith, writtenWith}
 use Rattle.params.specs.declared.Layout.{Layout}
 use Rattle.params.specs.Given.{figuresOf}
-use Rattle.heads.specs.Given.{Finding}
+use Rattle.heads.specs.Given.{CompleteWord}
 
 -- the first 1 + r symbols of blocks, by the layout's own r, and what they spell
 abbrev pub headsIn : Layout → List ℕ → List ℕ → List ℕ
@@ -19,8 +19,8 @@ abbrev pub writtenIn : Layout → List ℕ → List ℕ → ℕ
 writtenIn l = writtenWith (l .«index_tail») (figuresOf l)
 
 -- blocks of a found word, none of which looks F
-pub record Shown (l : Layout) (w ks : List ℕ) : Type 0 where
-  pub finding : Finding l w
+pub record OpenHeads (l : Layout) (w ks : List ℕ) : Type 0 where
+  pub finding : CompleteWord l w
   pub within : (j : ℕ) → j < l .m → getD ks j 0 < blocks (figuresOf l)
   pub open-heads : (j : ℕ) → j < l .m → looksFixed (figuresOf l) w (getD ks j 0) ≡ false
 

@@ -6,7 +6,7 @@ ghost use Rattle.combinatorics.specs.Stretch.{bit};
 ghost use Rattle.construction_a.specs.Figures.{blocks};
 ghost use Rattle.construction_a.specs.Reading.{looksFixed};
 ghost use Rattle.params.specs.Given.{figuresOf, HeadsOf};
-ghost use Rattle.heads.specs.Given.{Finding};
+ghost use Rattle.heads.specs.Given.{CompleteWord};
 ghost use Rattle.heads.specs.Looks.{startsFixed};
 use params::Layout;
 
@@ -19,7 +19,7 @@ pub fn looks_of(
     heads: &[u16; Layout::MAX_HEADS],
     word: &[u8],
 ) -> [u8; Layout::MAX_BLOCKS]
-    requires { ⌜ Finding layout (now word) × HeadsOf (figuresOf layout) (now heads) ⌝ }
+    requires { ⌜ CompleteWord layout (now word) × HeadsOf (figuresOf layout) (now heads) ⌝ }
     ensures { λ r. ⌜ ((k : ℕ) → k < blocks (figuresOf layout) → getD r k 0 ≡ bit (looksFixed (figuresOf layout) (now (word .entry)) k)) ⌝ }
 {
     let blocks = layout.parts * layout.m;

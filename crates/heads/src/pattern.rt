@@ -4,11 +4,11 @@ ghost use mathlib.Core.Bool.{false};
 ghost use mathlib.Core.List.{List, [], _∷_, _++_};
 ghost use mathlib.Core.Option.{some};
 ghost use Prim.Native.Nat.{ℕ, _+_, _*_, _≤_, _<_};
-ghost use Rattle.combinatorics.specs.Stretch.{stretch};
+ghost use Rattle.combinatorics.specs.Stretch.{consecutive};
 ghost use Rattle.construction_a.specs.Figures.{maxBursts, parts as partsOf};
 ghost use Rattle.construction_a.specs.Reading.{looksFixed, later, bareParts, openBlocks, indexInPart, collect, indexFound};
 ghost use Rattle.params.specs.Given.{figuresOf, maxBlocks, HeadsOf};
-ghost use Rattle.heads.specs.Given.{Finding};
+ghost use Rattle.heads.specs.Given.{CompleteWord};
 ghost use Rattle.heads.specs.Looks.{looksIn};
 ghost use Rattle.heads.specs.Patterns.{Parted, candidatesOf, numbered, indexIn};
 use crate::looks::LOOKS_FIXED;
@@ -31,7 +31,7 @@ struct Candidates {
 
 // The index blocks that a found word shows: otherwise refusal 7.
 pub fn index_read(layout: Layout, heads: &[u16; Layout::MAX_HEADS], word: &[u8]) -> IndexBlocks
-    requires { ⌜ Finding layout (now word) × HeadsOf (figuresOf layout) (now heads) ⌝ }
+    requires { ⌜ CompleteWord layout (now word) × HeadsOf (figuresOf layout) (now heads) ⌝ }
     ensures { λ r. ⌜ indexIn (layout .m) r ≡ indexFound (partsOf (figuresOf layout)) (layout .m) (looksFixed (figuresOf layout) (now (word .entry))) ⌝ }
 {
     index_found(&looks_of(layout, heads, word), layout.parts, layout.m)
@@ -60,7 +60,7 @@ pub fn index_found(looks: &[u8; Layout::MAX_BLOCKS], parts: usize, m: usize) -> 
 // Every block of a part.
 fn whole_part(m: usize, part: usize) -> IndexBlocks
     requires { ⌜ (m ≤ maxBursts) × (part * m + m ≤ maxBlocks) ⌝ }
-    ensures { λ r. ⌜ indexIn m r ≡ some (stretch m (part * m)) ⌝ }
+    ensures { λ r. ⌜ indexIn m r ≡ some (consecutive m (part * m)) ⌝ }
 {
     let from = part * m;
     let mut blocks = [0u8; Placement::MAX];

@@ -6,7 +6,7 @@ ghost use lib.ListN.{take};
 ghost use Rattle.cells.specs.Digits.{span, value, places};
 ghost use Rattle.combinatorics.specs.Lists.{allBelow};
 ghost use Rattle.params.specs.Given.{figuresOf, HeadsOf};
-ghost use Rattle.heads.specs.Written.{headsIn, writtenIn, Shown, LeadsIn, plainPlaces};
+ghost use Rattle.heads.specs.Written.{headsIn, writtenIn, OpenHeads, LeadsIn, plainPlaces};
 use params::Layout;
 use placements::Placement;
 
@@ -17,7 +17,7 @@ pub fn written_value(
     word: &[u8],
     blocks: [u8; Placement::MAX],
 ) -> u64
-    requires { ⌜ Shown layout (now word) blocks × HeadsOf (figuresOf layout) (now heads) ⌝ }
+    requires { ⌜ OpenHeads layout (now word) blocks × HeadsOf (figuresOf layout) (now heads) ⌝ }
     ensures { λ r. ⌜ r ≡ min (writtenIn layout (now (word .entry)) (take (layout .m) blocks)) (layout .«placement_count») ⌝ }
 {
     let cap = layout.placement_count;
@@ -39,7 +39,7 @@ pub fn heads_below(
     word: &[u8],
     blocks: [u8; Placement::MAX],
 ) -> bool
-    requires { ⌜ Shown layout (now word) blocks × HeadsOf (figuresOf layout) (now heads) ⌝ }
+    requires { ⌜ OpenHeads layout (now word) blocks × HeadsOf (figuresOf layout) (now heads) ⌝ }
     ensures { λ r. ⌜ r ≡ allBelow (layout .q) (headsIn layout (now (word .entry)) (take (layout .m) blocks)) ⌝ }
 {
     let mut j: usize = 0;

@@ -30,7 +30,7 @@ use Rattle.payloads.specs.Payload.{carriesJob, jobNumber, messageOf}
 use Rattle.jobcodec.proofs.Limits.{small-in}
 use Rattle.jobcodec.specs.JobWrite.{jobStatus, whereOpen, jobWriteUnder}
 use Rattle.jobcodec.specs.JobRead.{JobRead, handOut, withhold, jobOfPayload, jobReading, jobReadUnder}
-use Rattle.jobcodec.specs.Given.{Laid, ReadyUnder}
+use Rattle.jobcodec.specs.Given.{ServesTable, ReadyUnder}
 use Rattle.jobcodec.specs.ListRead.{listUnread, listRead, listOut}
 use Rattle.jobcodec.proofs.Outcomes.{both-false, figures-refused}
 
@@ -53,10 +53,10 @@ module _ (d : Coding) (es : List Entry) where
 
 -- what a caller learns of an answer that is a layout
 pub laid : (f : Figures) (es : List Entry) (answer : LayoutAnswer) (l : Layout) → answer ≡ Fit l → figuredAs answer ≡ figuresUnder (codingOf f) → LaidAs f answer
-    → twice es ≡ false → (codingIn l ≡ codingOf f) × Laid l es
+    → twice es ≡ false → (codingIn l ≡ codingOf f) × ServesTable l es
 laid f es answer l e told layout once = let own = serves f answer l e told layout in (own .0, record { serves = own .1; once = once })
 
-module _ (l : Layout) (es : List Entry) (h : Laid l es) where
+module _ (l : Layout) (es : List Entry) (h : ServesTable l es) where
   abbrev d : Coding
   d = codingIn l
 

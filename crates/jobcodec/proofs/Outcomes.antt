@@ -25,7 +25,7 @@ use Rattle.payloads.specs.Payload.{IsPayload, jobNumber, messageOf, spellsPaylo
 use Rattle.jobcodec.proofs.Limits.{small-in}
 use Rattle.jobcodec.specs.JobWrite.{jobStatus, jobWriteUnder}
 use Rattle.jobcodec.specs.JobRead.{withhold, jobIn, jobReading, jobReadUnder}
-use Rattle.jobcodec.specs.Given.{ReadyUnder, Readable, Holding, spelledAs, spelledAnswer}
+use Rattle.jobcodec.specs.Given.{ReadyUnder, ReadableJob, SpellsJob, spelledAs, spelledAnswer}
 use Rattle.decoder.specs.declared.WordAnswer.{WordAnswer as Answer}
 use Rattle.decoder.specs.Answer.{answerAs}
 use Rattle.payloads.proofs.Payload.{carries-five, length-message, message-symbols}
@@ -143,8 +143,8 @@ spelled-accepted q k ms v (rankIs u) e = go (spellsPayload q k ms) (ap accepts e
     go false e = sym e
 
 -- so it can be handed out into the lent payload
-pub holding : (l : Layout) (es : List Entry) (w ms ms′ out : List ℕ) → Readable l es ms out → length ms′ ≡ length ms → ms′ ≡ decodeUnder (codingIn l) w ms .message
-    → (v : ℕ) → rankIs v ≡ spelledAnswer (l .q) (length ms) (decodeUnder (codingIn l) w ms) → Holding (l .q) ms′ out
+pub holding : (l : Layout) (es : List Entry) (w ms ms′ out : List ℕ) → ReadableJob l es ms out → length ms′ ≡ length ms → ms′ ≡ decodeUnder (codingIn l) w ms .message
+    → (v : ℕ) → rankIs v ≡ spelledAnswer (l .q) (length ms) (decodeUnder (codingIn l) w ms) → SpellsJob (l .q) ms′ out
 holding l es w ms ms′ out h same lent v e =
     let d = codingIn l in
     let is = numbers-in l (h .serves) in

@@ -20,7 +20,7 @@ abbrev pub seen : ℕ → List ℕ → JobRead
 seen a out = record { answer = a; payload = out }
 
 -- a layout of figures that fit, and a table that holds no number twice
-pub record Laid (l : Layout) (es : List Entry) : Type 0 where
+pub record ServesTable (l : Layout) (es : List Entry) : Type 0 where
   pub serves : Serves l
   pub once : twice es ≡ false
 
@@ -37,7 +37,7 @@ pub record ReadyUnder (d : Coding) (es : List Entry) : Type 0 where
   pub carries : carriesJob (d .codec .alphabet) (d .codec .messageLen) ≡ true
 
 -- figures that carry a job, room for the message, and a buffer for the payload
-pub record Readable (l : Layout) (es : List Entry) (message payload : List ℕ) : Type 0 where
+pub record ReadableJob (l : Layout) (es : List Entry) (message payload : List ℕ) : Type 0 where
   pub serves : Serves l
   pub ready : ReadyUnder (codingIn l) es
   pub room : length message ≡ codingIn l .codec .messageLen
@@ -52,7 +52,7 @@ abbrev pub spelledAnswer : ℕ → ℕ → Decoded → WordAnswer
 spelledAnswer q k d = spelledAs q k (d .message) (d .answer)
 
 -- a message that spells as many bytes as the payload has, a job number at least
-pub record Holding (q : ℕ) (message payload : List ℕ) : Type 0 where
+pub record SpellsJob (q : ℕ) (message payload : List ℕ) : Type 0 where
   pub alphabet : 2 ≤ q
   pub bytes : q ≤ maxAlphabet
   pub count : length payload ≡ payloadLen q (length message)

@@ -12,7 +12,7 @@ use Rattle.jobs.specs.declared.Entry.{Entry}
 use Rattle.jobs.specs.declared.Entry.the-variants.{Free, Open, OnHold, Cancelled}
 use Rattle.jobs.specs.declared.Before.{Before}
 use Rattle.jobs.specs.declared.Before.the-variants.{WasAbsent, WasOpen, WasOnHold}
-use Rattle.jobs.specs.Jobs.{slotCount, Kind, opening, cancelling, finishing, reinstating, holding, releasing, isJob, Status, unknown, opened, onHold, cancelled, isHeld}
+use Rattle.jobs.specs.Jobs.{slotCount, Kind, opening, cancelling, finishing, reinstating, holding, releasing, isJob, Status, unknown, opened, onHold, cancelled, isHeld, needsOpen}
 
 -- document 02, ticket 7: "what it was for that number before its cancellation: open, or absent if it was unknown"; ticket 10: "and reinstating gives back
 -- held"
@@ -149,6 +149,10 @@ holdAt (Cancelled x was) n es = refuse es jobCancelled
 holdAt (OnHold x) n es = refuse es jobHeld
 holdAt (Open x) n es = accept (replaceFirst (holds n) (OnHold n) es)
 holdAt Free n es = refuse es notOpen
+
+-- finishing and holding alike: the slot of an open number takes the entry
+abbrev pub turnOpenAt : Entry → Entry → ℕ → List Entry → TableOut
+turnOpenAt next e n es = must (eqb (needsOpen (standing e)) served) (refuse es (needsOpen (standing e))) (accept (replaceFirst (holds n) next es))
 
 -- document 02, ticket 10: "and release turns it back"; "with 24, after 12, releasing one that isn't held"
 abbrev pub releaseAt : Entry → ℕ → List Entry → TableOut

@@ -4,7 +4,7 @@ ghost use mathlib.Core.Bool.{false};
 ghost use Prim.Native.Nat.{_+_};
 ghost use lib.ListN.{length, drop};
 ghost use Rattle.jobs.specs.Jobs.{slotCount, isJob};
-ghost use Rattle.jobs.specs.Table.{isFree, emptyTable, openOut, cancelOut, finishOut, reinstateOut, holdOut, releaseOut};
+ghost use Rattle.jobs.specs.Table.{isFree, emptyTable, openOut, cancelOut, finishOut, reinstateOut, holdOut, releaseOut, decide, turnOpenAt};
 ghost use Rattle.jobs.specs.Slots.{entries, outcome, seeks, firstThat, markCount, markOf};
 ghost use Rattle.jobs.specs.Letters.{kindOf, listKind, callBy, isLetter, isListLetter};
 use refusals::Refusal;
@@ -115,16 +115,7 @@ impl JobTable {
     pub fn finish(self, number: u32) -> TableAnswer
         ensures { λ r. ⌜ outcome r ≡ finishOut (entries self) number ⌝ }
     {
-        if self.twice() {
-            return self.refuse(Refusal::INVALID);
-        }
-        let entry = self.lookup(number);
-        match entry {
-            Entry::Cancelled(_, _) => self.refuse(Refusal::CANCELLED),
-            Entry::OnHold(_) => self.refuse(Refusal::HELD),
-            Entry::Open(_) => self.put(Sought::Number(number), Entry::Free),
-            Entry::Free => self.refuse(Refusal::NOT_OPEN),
-        }
+        self.turn_open(number, Entry::Free)
     }
 
     // A cancelled number is what it was before its cancellation. Refusals: 1 20.
@@ -149,16 +140,7 @@ impl JobTable {
     pub fn hold(self, number: u32) -> TableAnswer
         ensures { λ r. ⌜ outcome r ≡ holdOut (entries self) number ⌝ }
     {
-        if self.twice() {
-            return self.refuse(Refusal::INVALID);
-        }
-        let entry = self.lookup(number);
-        match entry {
-            Entry::Cancelled(_, _) => self.refuse(Refusal::CANCELLED),
-            Entry::OnHold(_) => self.refuse(Refusal::HELD),
-            Entry::Open(_) => self.put(Sought::Number(number), Entry::OnHold(number)),
-            Entry::Free => self.refuse(Refusal::NOT_OPEN),
-        }
+        self.turn_open(number, Entry::OnHold(number))
     }
 
     // The number on hold is open again. Refusals: 1 12 24.
@@ -174,6 +156,22 @@ impl JobTable {
             Entry::OnHold(_) => self.put(Sought::Number(number), Entry::Open(number)),
             Entry::Open(_) => self.refuse(Refusal::NOT_HELD),
             Entry::Free => self.refuse(Refusal::NOT_HELD),
+        }
+    }
+
+    // The slot of an open number takes the entry. Refusals: 1 12 23 14.
+    fn turn_open(self, number: u32, next: Entry) -> TableAnswer
+        ensures { λ r. ⌜ outcome r ≡ decide (turnOpenAt next) (entries self) number ⌝ }
+    {
+        if self.twice() {
+            return self.refuse(Refusal::INVALID);
+        }
+        let entry = self.lookup(number);
+        match entry {
+            Entry::Cancelled(_, _) => self.refuse(Refusal::CANCELLED),
+            Entry::OnHold(_) => self.refuse(Refusal::HELD),
+            Entry::Open(_) => self.put(Sought::Number(number), next),
+            Entry::Free => self.refuse(Refusal::NOT_OPEN),
         }
     }
 

@@ -10,31 +10,31 @@ use lib.Dec.{ltb}
 use lib.ListN.{length, getD, take, drop, length-append, length-drop, List·getD-append}
 use lib.Seq.{getD-take, getD-drop, length-take-le, getD-append-add, ext-getD}
 use Rattle.combinatorics.specs.Lists.{all, allBelow}
-use Rattle.combinatorics.specs.Stretch.{tabulate, stretch}
+use Rattle.combinatorics.specs.Stretch.{tabulate, consecutive}
 use Rattle.combinatorics.proofs.Lists.{below-at, some-below, at-below, all-append, all-take, all-drop}
 use Rattle.combinatorics.proofs.Stretch.{length-tabulate, tabulate-at}
-use Rattle.lanes.specs.Interleaving.{source, transposed, interleaved, deinterleaved, lane}
+use Rattle.lanes.specs.Interleaving.{source, transposedTable, interleaved, deinterleaved, lane}
 
 -- ---- A table and its columns
 
-pub length-transposed : (rows columns : ℕ) (xs : List ℕ) → length (transposed rows columns xs) ≡ rows * columns
-unfolding transposed
+pub length-transposed : (rows columns : ℕ) (xs : List ℕ) → length (transposedTable rows columns xs) ≡ rows * columns
+unfolding transposedTable
 length-transposed rows columns xs = length-tabulate (rows * columns) 0 (λ t. getD xs (source rows columns t) 0)
 
 -- what stood in row j, column i
-pub cell-at : (rows columns i j : ℕ) (xs : List ℕ) → i < columns → j < rows → getD (transposed rows columns xs) (i * rows + j) 0 ≡ getD xs (j * columns + i) 0
-unfolding transposed
+pub cell-at : (rows columns i j : ℕ) (xs : List ℕ) → i < columns → j < rows → getD (transposedTable rows columns xs) (i * rows + j) 0 ≡ getD xs (j * columns + i) 0
+unfolding transposedTable
 cell-at rows columns i j xs hi hj =
     let t = i * rows + j in
     let z : 0 + t ≡ t = omega arith in
     tabulate-at (rows * columns) 0 t (λ t. getD xs (source rows columns t) 0) (omega (arith, digits-lt hi hj, mul-comm rows columns))
     ∙ rw (z, digits-mod i hj, digits-div i hj)
 
-pub transposed-twice : (rows columns : ℕ) (xs : List ℕ) → length xs ≡ rows * columns → transposed columns rows (transposed rows columns xs) ≡ xs
+pub transposed-twice : (rows columns : ℕ) (xs : List ℕ) → length xs ≡ rows * columns → transposedTable columns rows (transposedTable rows columns xs) ≡ xs
 transposed-twice rows columns xs e =
-    ext-getD 0 (transposed columns rows (transposed rows columns xs)) xs
-    (length-transposed columns rows (transposed rows columns xs) ∙ mul-comm columns rows ∙ sym e)
-    (λ t l. here t (omega (arith, length-transposed columns rows (transposed rows columns xs), mul-comm columns rows)))
+    ext-getD 0 (transposedTable columns rows (transposedTable rows columns xs)) xs
+    (length-transposed columns rows (transposedTable rows columns xs) ∙ mul-comm columns rows ∙ sym e)
+    (λ t l. here t (omega (arith, length-transposed columns rows (transposedTable rows columns xs), mul-comm columns rows)))
   where
     some : (t : ℕ) → t < rows * columns → 0 < columns
     some t l = go columns l
@@ -43,20 +43,20 @@ transposed-twice rows columns xs e =
         go zero l = absurd (omega arith)
         go (suc c) l = omega arith
 
-    here : (t : ℕ) → t < rows * columns → getD (transposed columns rows (transposed rows columns xs)) t 0 ≡ getD xs t 0
+    here : (t : ℕ) → t < rows * columns → getD (transposedTable columns rows (transposedTable rows columns xs)) t 0 ≡ getD xs t 0
     here t l =
         let s = some t l in
         let i : t % columns < columns = mod-lt t s in
         let j : t / columns < rows = div-lt-iff-lt-mul s .1 l in
         let d = div-add-mod' t columns in
-        ap (λ (y : ℕ). getD (transposed columns rows (transposed rows columns xs)) y 0) (sym d)
-        ∙ cell-at columns rows (t / columns) (t % columns) (transposed rows columns xs) j i
+        ap (λ (y : ℕ). getD (transposedTable columns rows (transposedTable rows columns xs)) y 0) (sym d)
+        ∙ cell-at columns rows (t / columns) (t % columns) (transposedTable rows columns xs) j i
         ∙ cell-at rows columns (t % columns) (t / columns) xs i j
         ∙ ap (λ (y : ℕ). getD xs y 0) d
 
 -- symbols below q stay so
-pub transposed-below : (q rows columns : ℕ) (xs : List ℕ) → length xs ≡ rows * columns → allBelow q xs ≡ true → allBelow q (transposed rows columns xs) ≡ true
-unfolding transposed
+pub transposed-below : (q rows columns : ℕ) (xs : List ℕ) → length xs ≡ rows * columns → allBelow q xs ≡ true → allBelow q (transposedTable rows columns xs) ≡ true
+unfolding transposedTable
 transposed-below q rows columns xs e h =
     let at : ℕ → ℕ = λ t. getD xs (source rows columns t) 0 in
     at-below q (tabulate (rows * columns) 0 at)
@@ -82,35 +82,35 @@ lane-below q n j xs h = all-take (λ x. ltb x q) n (drop (j * n) xs) (all-drop (
 
 -- words of n symbols put one after another
 pub words-at : (n d k j i : ℕ) (g : ℕ → List ℕ) → ((x : ℕ) → k ≤ x → x < k + d → length (g x) ≡ n) → j < d → i < n
-    → getD (flatMap g (stretch d k)) (j * n + i) 0 ≡ getD (g (k + j)) i 0
+    → getD (flatMap g (consecutive d k)) (j * n + i) 0 ≡ getD (g (k + j)) i 0
 unfolding flatMap tabulate
 words-at n zero k j i g long hj hi = absurd (omega arith)
 words-at n (suc d) k zero i g long hj hi =
     let z : 0 * n + i ≡ i = omega arith in
     let y : k + 0 ≡ k = omega arith in
-    rw (z, y) (List·getD-append (g k) (flatMap g (stretch d (suc k))) 0 i (omega (arith, long k (omega arith) (omega arith))))
+    rw (z, y) (List·getD-append (g k) (flatMap g (consecutive d (suc k))) 0 i (omega (arith, long k (omega arith) (omega arith))))
 words-at n (suc d) k (suc j) i g long hj hi =
     let z : suc j * n + i ≡ length (g k) + (j * n + i) = omega (arith, long k (omega arith) (omega arith)) in
     let y : k + suc j ≡ suc k + j = omega arith in
-    rw (z, y) (getD-append-add (g k) (flatMap g (stretch d (suc k))) (j * n + i) 0
+    rw (z, y) (getD-append-add (g k) (flatMap g (consecutive d (suc k))) (j * n + i) 0
     ∙ words-at n d (suc k) j i g (λ x a b. long x (omega arith) (omega arith)) (omega arith) hi)
 
-pub length-words : (n d k : ℕ) (g : ℕ → List ℕ) → ((x : ℕ) → k ≤ x → x < k + d → length (g x) ≡ n) → length (flatMap g (stretch d k)) ≡ d * n
+pub length-words : (n d k : ℕ) (g : ℕ → List ℕ) → ((x : ℕ) → k ≤ x → x < k + d → length (g x) ≡ n) → length (flatMap g (consecutive d k)) ≡ d * n
 unfolding flatMap tabulate
 length-words n zero k g long = omega arith
 length-words n (suc d) k g long =
     omega (
       arith,
-      length-append (g k) (flatMap g (stretch d (suc k))),
+      length-append (g k) (flatMap g (consecutive d (suc k))),
       long k (omega arith) (omega arith),
       length-words n d (suc k) g (λ x a b. long x (omega arith) (omega arith)),
     )
 
-pub words-below : (q d k : ℕ) (g : ℕ → List ℕ) → ((x : ℕ) → k ≤ x → x < k + d → allBelow q (g x) ≡ true) → allBelow q (flatMap g (stretch d k)) ≡ true
+pub words-below : (q d k : ℕ) (g : ℕ → List ℕ) → ((x : ℕ) → k ≤ x → x < k + d → allBelow q (g x) ≡ true) → allBelow q (flatMap g (consecutive d k)) ≡ true
 unfolding flatMap tabulate all
 words-below q zero k g h = refl
 words-below q (suc d) k g h =
-    all-append (λ x. ltb x q) (g k) (flatMap g (stretch d (suc k))) (h k (omega arith) (omega arith))
+    all-append (λ x. ltb x q) (g k) (flatMap g (consecutive d (suc k))) (h k (omega arith) (omega arith))
     (words-below q d (suc k) g (λ x a b. h x (omega arith) (omega arith)))
 
 -- ---- "strip cell t holds symbol t/d (rounded down) of word t mod d"

@@ -10,7 +10,7 @@ use lib.Dec.{leb, ltb, eqb}
 use lib.ListN.{length, getD}
 use Rattle.combinatorics.specs.Bursts.{apart, inBurst, placements, startsOf, coverRank}
 use Rattle.combinatorics.specs.Lists.{all, any, allBelow}
-use Rattle.combinatorics.specs.Stretch.{bit, stretch}
+use Rattle.combinatorics.specs.Stretch.{bit, consecutive}
 use Rattle.combinatorics.proofs.Bursts.{of-placed}
 use Rattle.combinatorics.proofs.Cases.{by-bool, eqb-same, leb-holds}
 use Rattle.combinatorics.proofs.Cover.{Cover, cover-is}
@@ -18,7 +18,7 @@ use Rattle.combinatorics.proofs.Lists.{both, at-below}
 use Rattle.combinatorics.proofs.ShortSets.{Short, Shorts, short-covered}
 use Rattle.combinatorics.proofs.Stretch.{bit-le, length-tabulate, tabulate-at}
 use Rattle.cells.specs.Codec.{Codec, accepted, Word, WritesWords, Exact}
-use Rattle.cells.specs.Outcomes.{Coding, worn}
+use Rattle.cells.specs.Outcomes.{Coding, defectAt}
 use Rattle.construction_a.specs.DemandTwo.{constructionA}
 use Rattle.construction_a.specs.Figures.{Params, isPlacement}
 use Rattle.construction_a.specs.Outcomes.{coding}
@@ -33,7 +33,7 @@ use Rattle.construction_b.proofs.DemandTwo.{demand-two as demand-two-b}
 use Rattle.params.specs.declared.Figures.the-variants.{Ranked, Long}
 use Rattle.params.specs.Bridge.{given, givenLong}
 use Rattle.lanes.specs.Interleaving.{interleaved, deinterleaved, lane}
-use Rattle.lanes.specs.Lanes.{Wear, within, isWorn, isShort, Worn, stripMap, wordMap, HasBursts, coverOf, Messages, coverAt, writtenWords, FoundStrip, LanesHold, LawOfLanes, LanesReadUnder, LanesRead}
+use Rattle.lanes.specs.Lanes.{Wear, wearHas, isWorn, isShort, Worn, stripMap, wordMap, HasBursts, coverOf, Messages, coverAt, writtenWords, FoundStrip, LanesHold, LawOfLanes, LanesReadUnder, LanesRead}
 use Rattle.lanes.proofs.Interleaving.{length-transposed, transposed-below, lane-at, length-lane, lane-below, words-at, length-words, words-below, strip-cell, word-cell}
 use Rattle.lanes.proofs.Outcomes.{Passes, passes}
 
@@ -44,7 +44,7 @@ bit-is true = refl
 bit-is false = refl
 
 -- position i of word j is worn where cell i × d + j of the strip is
-pub map-at : (d n i j : ℕ) (ss : List Wear) → i < n → j < d → worn (wordMap d n ss j) i ≡ isWorn ss (i * d + j)
+pub map-at : (d n i j : ℕ) (ss : List Wear) → i < n → j < d → defectAt (wordMap d n ss j) i ≡ isWorn ss (i * d + j)
 unfolding wordMap stripMap
 map-at d n i j ss hi hj =
     let t = i * d + j in
@@ -56,7 +56,7 @@ map-at d n i j ss hi hj =
 
 module _ (b d j : ℕ) where
   cells : Wear → ℕ → Bool
-  cells s i = within s (i * d + j)
+  cells s i = wearHas s (i * d + j)
 
   short-one : (s : Wear) → s .cells ≤ d * b → Short cells b s
   unfolding cells
@@ -77,16 +77,16 @@ module _ (b d j : ℕ) where
 -- ---- Under any codec
 
 module _ (c : Codec) (m b d : ℕ) (ss : List Wear) (bursts : HasBursts c m b) (writes : WritesWords c) (exact : Exact c) (wear : Worn m b d ss) where
-  covered : (j : ℕ) → j < d → coverRank (c .wordLen) m b (worn (wordMap d (c .wordLen) ss j)) < placements (c .wordLen) m b
+  covered : (j : ℕ) → j < d → coverRank (c .wordLen) m b (defectAt (wordMap d (c .wordLen) ss j)) < placements (c .wordLen) m b
   unfolding cells isWorn
   covered j hj =
-      short-covered (cells b d j) b (worn (wordMap d (c .wordLen) ss j)) m (c .wordLen) ss (bursts .some) (bursts .room) (wear .few)
+      short-covered (cells b d j) b (defectAt (wordMap d (c .wordLen) ss j)) m (c .wordLen) ss (bursts .some) (bursts .room) (wear .few)
       (shorts b d j ss (wear .short))
       (λ x l w. sym (map-at d (c .wordLen) x j ss l hj) ∙ w)
 
-  cover : (j : ℕ) → j < d → Cover (c .wordLen) m b (worn (wordMap d (c .wordLen) ss j)) (bursts .some) (coverAt c m b d ss j)
+  cover : (j : ℕ) → j < d → Cover (c .wordLen) m b (defectAt (wordMap d (c .wordLen) ss j)) (bursts .some) (coverAt c m b d ss j)
   unfolding coverOf
-  cover j hj = cover-is (c .wordLen) m b (worn (wordMap d (c .wordLen) ss j)) (bursts .some) (bursts .room) (covered j hj)
+  cover j hj = cover-is (c .wordLen) m b (defectAt (wordMap d (c .wordLen) ss j)) (bursts .some) (bursts .room) (covered j hj)
 
   placed : (j : ℕ) → j < d → c .placed (coverAt c m b d ss j) ≡ true
   placed j hj =
@@ -126,7 +126,7 @@ module _ (c : Codec) (m b d : ℕ) (ss : List Wear) (bursts : HasBursts c m b) (
               let z : 0 + j ≡ j = omega arith in
               word-cell d (c .wordLen) x j strip lx hj
               ∙ found .outside t (omega (arith, digits-lt lx hj, mul-comm d (c .wordLen))) free
-              ∙ strip-cell d (c .wordLen) x j (flatMap (λ i. c .encode (coverAt c m b d ss i) (messages i)) (stretch d 0)) lx hj
+              ∙ strip-cell d (c .wordLen) x j (flatMap (λ i. c .encode (coverAt c m b d ss i) (messages i)) (consecutive d 0)) lx hj
               ∙ words-at (c .wordLen) d 0 j x (λ i. c .encode (coverAt c m b d ss i) (messages i)) (λ i _ l. long i (omega arith)) hj lx
               ∙ ap (λ (i : ℕ). getD (c .encode (coverAt c m b d ss i) (messages i)) x 0) z;
         })
@@ -180,7 +180,7 @@ module _ (k : Coding) (range : k .inRange ≡ true) (fit : k .fits ≡ true)
               eqb-same (length map) n (length-map d n ss j hj),
               map-bits d n ss j,
               counts,
-              leb-holds (suc (coverRank n m b (worn map))) (placements n m b) (law .coverable j hj),
+              leb-holds (suc (coverRank n m b (defectAt map))) (placements n m b) (law .coverable j hj),
             );
         laid = λ messages out ms depth room.
             let each = written-word c m b d ss bursts writes exact wear messages ms in

@@ -10,13 +10,13 @@ use lib.ListN.{length, getD, take, drop, set, List·getD-append, length-drop, le
 use lib.Seq.{take-all, getD-take, getD-drop, length-take-le, getD-append-add, ext-getD}
 use borrow.Rule.Slice.PartMut.{midOf, putMid, same-len-mid}
 use Rattle.combinatorics.specs.Lists.{every}
-use Rattle.combinatorics.specs.Stretch.{tabulate, stretch}
+use Rattle.combinatorics.specs.Stretch.{tabulate, consecutive}
 use Rattle.combinatorics.proofs.Cases.{by-le, eqb-true}
 use Rattle.combinatorics.proofs.Lists.{both, fill-turn}
 use Rattle.combinatorics.proofs.Stretch.{tabulate-at, length-tabulate}
 use Rattle.combinatorics.proofs.Table.{at-each}
 use Rattle.construction_a.proofs.Figures.{le-of}
-use Rattle.lanes.specs.Interleaving.{source, transposed}
+use Rattle.lanes.specs.Interleaving.{source, transposedTable}
 use Rattle.lanes.specs.Transposing.{CellsMoved, LinesWithin, LinesCopied}
 use Rattle.lanes.proofs.Interleaving.{length-transposed, cell-at}
 use Rattle.lanes.proofs.Transposing.{same-column, same-row}
@@ -113,7 +113,7 @@ cut t = source 2 128 t
 unfoldable shuffles : ℕ → ℕ → Bool
 shuffles t _ = ltb (cut t) 256 && eqb (cut (cut (cut (cut t)))) (source 16 16 t)
 
-all-shuffle : every shuffles 0 (stretch 256 0) ≡ true
+all-shuffle : every shuffles 0 (consecutive 256 0) ≡ true
 unfolding every tabulate shuffles
 all-shuffle = refl
 
@@ -121,27 +121,27 @@ shuffled : (t : ℕ) → t < 256 → (cut t < 256) × (cut (cut (cut (cut t))) �
 unfolding shuffles
 shuffled t l =
     let e = both (ltb (cut t) 256) (eqb (cut (cut (cut (cut t)))) (source 16 16 t))
-    (at-each shuffles (stretch 256 0) all-shuffle t (omega (arith, length-tabulate 256 0 (λ x. x)))) in
+    (at-each shuffles (consecutive 256 0) all-shuffle t (omega (arith, length-tabulate 256 0 (λ x. x)))) in
     (le-of (suc (cut t)) 256 (e .0), eqb-true (cut (cut (cut (cut t)))) (source 16 16 t) (e .1))
 
-shuffle-at : (xs : List ℕ) (t : ℕ) → t < 256 → getD (transposed 2 128 xs) t 0 ≡ getD xs (cut t) 0
-unfolding transposed
+shuffle-at : (xs : List ℕ) (t : ℕ) → t < 256 → getD (transposedTable 2 128 xs) t 0 ≡ getD xs (cut t) 0
+unfolding transposedTable
 shuffle-at xs t l =
     let z : 0 + t ≡ t = omega arith in
     tabulate-at 256 0 t (λ t. getD xs (source 2 128 t) 0) l ∙ ap (λ (y : ℕ). getD xs (cut y) 0) z
 
-turned-at : (xs : List ℕ) (t : ℕ) → t < 256 → getD (transposed 16 16 xs) t 0 ≡ getD xs (source 16 16 t) 0
-unfolding transposed
+turned-at : (xs : List ℕ) (t : ℕ) → t < 256 → getD (transposedTable 16 16 xs) t 0 ≡ getD xs (source 16 16 t) 0
+unfolding transposedTable
 turned-at xs t l =
     let z : 0 + t ≡ t = omega arith in
     tabulate-at 256 0 t (λ t. getD xs (source 16 16 t) 0) l ∙ ap (λ (y : ℕ). getD xs (source 16 16 y) 0) z
 
-pub four-shuffles : (xs : List ℕ) → transposed 2 128 (transposed 2 128 (transposed 2 128 (transposed 2 128 xs))) ≡ transposed 16 16 xs
+pub four-shuffles : (xs : List ℕ) → transposedTable 2 128 (transposedTable 2 128 (transposedTable 2 128 (transposedTable 2 128 xs))) ≡ transposedTable 16 16 xs
 four-shuffles xs =
-    let one = transposed 2 128 xs in
-    let two = transposed 2 128 one in
-    let three = transposed 2 128 two in
-    ext-getD 0 (transposed 2 128 three) (transposed 16 16 xs) (length-transposed 2 128 three ∙ sym (length-transposed 16 16 xs))
+    let one = transposedTable 2 128 xs in
+    let two = transposedTable 2 128 one in
+    let three = transposedTable 2 128 two in
+    ext-getD 0 (transposedTable 2 128 three) (transposedTable 16 16 xs) (length-transposed 2 128 three ∙ sym (length-transposed 16 16 xs))
     (λ t l.
     let h : t < 256 = omega (arith, length-transposed 2 128 three) in
     let h1 = shuffled t h .0 in
@@ -155,10 +155,10 @@ four-shuffles xs =
     ∙ sym (turned-at xs t h))
 
 -- one symbol of each half more
-pub shuffle-turn : (from to : List ℕ) (i : ℕ) → i < 128 → length to ≡ 256 → take (2 * i) to ≡ take (2 * i) (transposed 2 128 from)
-    → take (2 * (i + 1)) (set (set to (2 * i) (getD from i 0)) (2 * i + 1) (getD from (128 + i) 0)) ≡ take (2 * (i + 1)) (transposed 2 128 from)
+pub shuffle-turn : (from to : List ℕ) (i : ℕ) → i < 128 → length to ≡ 256 → take (2 * i) to ≡ take (2 * i) (transposedTable 2 128 from)
+    → take (2 * (i + 1)) (set (set to (2 * i) (getD from i 0)) (2 * i + 1) (getD from (128 + i) 0)) ≡ take (2 * (i + 1)) (transposedTable 2 128 from)
 shuffle-turn from to i l long so =
-    let t = transposed 2 128 from in
+    let t = transposedTable 2 128 from in
     let h : length t ≡ 256 = length-transposed 2 128 from in
     let even : getD t (2 * i) 0 ≡ getD from i 0 =
     ap (λ (y : ℕ). getD t y 0) (let e : 2 * i ≡ i * 2 + 0 = omega arith in e)
@@ -173,9 +173,9 @@ shuffle-turn from to i l long so =
     rw (end, ← even, ← odd) both
 
 pub shuffle-done : (from to : List ℕ) (i : ℕ) → 128 ≤ i → i ≤ 128 → length to ≡ 256
-    → take (2 * i) to ≡ take (2 * i) (transposed 2 128 from) → to ≡ transposed 2 128 from
+    → take (2 * i) to ≡ take (2 * i) (transposedTable 2 128 from) → to ≡ transposedTable 2 128 from
 shuffle-done from to i h l long so =
-    sym (take-all (2 * i) to (omega arith)) ∙ so ∙ take-all (2 * i) (transposed 2 128 from) (omega (arith, length-transposed 2 128 from))
+    sym (take-all (2 * i) to (omega arith)) ∙ so ∙ take-all (2 * i) (transposedTable 2 128 from) (omega (arith, length-transposed 2 128 from))
 
 -- ---- The tile
 
@@ -187,7 +187,7 @@ tile-within rows columns left top xs long hl ht =
 
 pub tile-moved : (rows columns left top : ℕ) (from before after cells taken : List ℕ) → left + 16 ≤ columns → top + 16 ≤ rows
     → LinesCopied (top * columns + left) columns from 0 16 16 cells taken
-    → LinesCopied 0 16 (transposed 16 16 taken) (left * rows + top) rows 16 before after
+    → LinesCopied 0 16 (transposedTable 16 16 taken) (left * rows + top) rows 16 before after
     → CellsMoved rows columns from before after left (left + 16) top (top + 16)
 tile-moved rows columns left top from before after cells taken hl ht gathered put =
     record {
@@ -203,7 +203,7 @@ tile-moved rows columns left top from before after cells taken hl ht gathered pu
           let of : top * columns + left + x * columns + k ≡ j * columns + i = omega (arith, add-mul top x columns, ap (λ (y : ℕ). y * columns) ex) in
           ap (λ (y : ℕ). getD after y 0) to
           ∙ put .inside k x (omega arith) (omega arith)
-          ∙ ap (λ (y : ℕ). getD (transposed 16 16 taken) y 0) at
+          ∙ ap (λ (y : ℕ). getD (transposedTable 16 16 taken) y 0) at
           ∙ cell-at 16 16 k x taken (omega arith) (omega arith)
           ∙ ap (λ (y : ℕ). getD taken y 0) (sym at2)
           ∙ gathered .inside x k (omega arith) (omega arith)

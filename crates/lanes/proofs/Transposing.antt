@@ -8,7 +8,7 @@ use lib.Arith.{digits-lt, digits-div, digits-mod}
 use lib.ListN.{length, getD, set, length-set}
 use lib.Seq.{getD-set-same, getD-set-other, ext-getD}
 use Rattle.combinatorics.proofs.Cases.{by-le}
-use Rattle.lanes.specs.Interleaving.{transposed}
+use Rattle.lanes.specs.Interleaving.{transposedTable}
 use Rattle.lanes.specs.Transposing.{CellsMoved}
 use Rattle.lanes.proofs.Interleaving.{length-transposed, cell-at}
 
@@ -87,9 +87,9 @@ module _ (rows columns : ℕ) (from : List ℕ) where
   -- ---- The whole table
 
   pub moved-all : (before after : List ℕ) → length before ≡ rows * columns → CellsMoved rows columns from before after 0 columns 0 rows
-      → after ≡ transposed rows columns from
+      → after ≡ transposedTable rows columns from
   moved-all before after long moved =
-      ext-getD 0 after (transposed rows columns from) (moved .size ∙ long ∙ sym (length-transposed rows columns from))
+      ext-getD 0 after (transposedTable rows columns from) (moved .size ∙ long ∙ sym (length-transposed rows columns from))
       (λ t l. here t (omega (arith, moved .size)))
     where
       some : (t : ℕ) → t < rows * columns → 0 < rows
@@ -99,7 +99,7 @@ module _ (rows columns : ℕ) (from : List ℕ) where
           go zero l = absurd (omega arith)
           go (suc r) l = omega arith
 
-      here : (t : ℕ) → t < rows * columns → getD after t 0 ≡ getD (transposed rows columns from) t 0
+      here : (t : ℕ) → t < rows * columns → getD after t 0 ≡ getD (transposedTable rows columns from) t 0
       here t l =
           let s = some t l in
           let j : t % rows < rows = mod-lt t s in
@@ -108,4 +108,4 @@ module _ (rows columns : ℕ) (from : List ℕ) where
           ap (λ (y : ℕ). getD after y 0) (sym d)
           ∙ moved .inside (t / rows) (t % rows) (omega arith) i (omega arith) j
           ∙ sym (cell-at rows columns (t / rows) (t % rows) from i j)
-          ∙ ap (λ (y : ℕ). getD (transposed rows columns from) y 0) d
+          ∙ ap (λ (y : ℕ). getD (transposedTable rows columns from) y 0) d

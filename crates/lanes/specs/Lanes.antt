@@ -9,9 +9,9 @@ use lib.ListN.{length, getD}
 use Rattle.refusals.specs.Refusals.{served}
 use Rattle.combinatorics.specs.Bursts.{apart, inBurst, placements, startsOf, coverRank}
 use Rattle.combinatorics.specs.Lists.{all, any, allBelow}
-use Rattle.combinatorics.specs.Stretch.{bit, tabulate, stretch}
+use Rattle.combinatorics.specs.Stretch.{bit, tabulate, consecutive}
 use Rattle.cells.specs.Codec.{Codec, accepted, Word, WritesWords, Exact}
-use Rattle.cells.specs.Outcomes.{Coding, held, worn, coverUnder, decodedFrom, decodeUnder}
+use Rattle.cells.specs.Outcomes.{Coding, held, defectAt, coverUnder, decodedFrom, decodeUnder}
 use Rattle.params.specs.declared.Figures.{Figures}
 use Rattle.params.specs.Bridge.{codingOf}
 use Rattle.lanes.specs.Interleaving.{inDepth, interleaved, deinterleaved, lane}
@@ -24,11 +24,11 @@ pub record Wear : Type 0 where
   pub from : ℕ
   pub cells : ℕ
 
-abbrev pub within : Wear → ℕ → Bool
-within s t = leb (s .from) t && ltb t (s .from + s .cells)
+abbrev pub wearHas : Wear → ℕ → Bool
+wearHas s t = leb (s .from) t && ltb t (s .from + s .cells)
 
 unfoldable pub isWorn : List Wear → ℕ → Bool
-isWorn ss t = any (λ s. within s t) ss
+isWorn ss t = any (λ s. wearHas s t) ss
 
 abbrev pub isShort : ℕ → ℕ → Wear → Bool
 isShort b d s = leb (s .cells) (d * b)
@@ -55,7 +55,7 @@ pub record HasBursts (c : Codec) (m b : ℕ) : Type 0 where
 
 -- a word's cover: the planner's placement for its map, of n positions
 unfoldable pub coverOf : ℕ → ℕ → ℕ → List ℕ → List ℕ
-coverOf n m b map = startsOf n m b (coverRank n m b (worn map))
+coverOf n m b map = startsOf n m b (coverRank n m b (defectAt map))
 
 -- a message for each word
 abbrev pub Messages : Codec → ℕ → (ℕ → List ℕ) → Type 0
@@ -67,7 +67,7 @@ module _ (c : Codec) (m b d : ℕ) (ss : List Wear) where
 
   -- "every word written on its cover": one after another, and side by side
   abbrev pub writtenWords : (ℕ → List ℕ) → List ℕ
-  writtenWords messages = flatMap (λ j. c .encode (coverAt j) (messages j)) (stretch d 0)
+  writtenWords messages = flatMap (λ j. c .encode (coverAt j) (messages j)) (consecutive d 0)
 
   abbrev pub writtenStrip : (ℕ → List ℕ) → List ℕ
   writtenStrip messages = interleaved d (c .wordLen) (writtenWords messages)
@@ -80,7 +80,7 @@ module _ (c : Codec) (m b d : ℕ) (ss : List Wear) where
 
   pub record LanesHold : Type 0 where
     -- "then each word's map can be covered"
-    pub coverable : (j : ℕ) → j < d → coverRank (c .wordLen) m b (worn (wordMap d (c .wordLen) ss j)) < placements (c .wordLen) m b
+    pub coverable : (j : ℕ) → j < d → coverRank (c .wordLen) m b (defectAt (wordMap d (c .wordLen) ss j)) < placements (c .wordLen) m b
     -- "and .. every word written on its cover reads back"
     pub reads : (messages : ℕ → List ℕ) (strip : List ℕ) → Messages c d messages → FoundStrip messages strip
         → (j : ℕ) → j < d → c .decode (lane (c .wordLen) j (deinterleaved d (c .wordLen) strip)) ≡ accepted (coverAt j) (messages j)

@@ -2,7 +2,7 @@
 ghost use mathlib.Core.Path.{_≡_};
 ghost use Prim.Native.Nat.{_+_, _≤_};
 ghost use lib.ListN.{length};
-ghost use Rattle.lanes.specs.Interleaving.{transposed};
+ghost use Rattle.lanes.specs.Interleaving.{transposedTable};
 ghost use Rattle.lanes.specs.Transposing.{HoldTable, CellsMoved, LinesWithin, LinesCopied};
 
 // The rows of a tile, and its columns.
@@ -34,7 +34,8 @@ fn move_by(
     cells: &mut [u8],
     spare: &mut [u8],
 )
-    requires { ⌜ HoldTable rows columns (now from) (now to) × (left + 16 ≤ columns) × (top + 16 ≤ rows) × (length (now cells) ≡ 256) × (length (now spare) ≡ 256) ⌝ }
+    requires { ⌜ HoldTable rows columns (now from) (now to) × (left + 16 ≤ columns) × (top + 16 ≤ rows) × (length (now cells) ≡ 256)
+        × (length (now spare) ≡ 256) ⌝ }
     ensures { λ _. ⌜ CellsMoved rows columns (now (from .entry)) (now (to .entry)) (now (to .exit)) left (left + 16) top (top + 16) ⌝ }
 {
     copy_lines(from, top * columns + left, columns, cells, 0, TILE);
@@ -59,7 +60,7 @@ fn copy_lines(from: &[u8], at: usize, step: usize, to: &mut [u8], onto: usize, s
 // A tile's rows to its columns: four shuffles.
 fn turn(cells: &mut [u8], spare: &mut [u8])
     requires { ⌜ (length (now cells) ≡ 256) × (length (now spare) ≡ 256) ⌝ }
-    ensures { λ _. ⌜ now (cells .exit) ≡ transposed 16 16 (now (cells .entry)) ⌝ }
+    ensures { λ _. ⌜ now (cells .exit) ≡ transposedTable 16 16 (now (cells .entry)) ⌝ }
 {
     shuffle_twice(cells, spare);
     shuffle_twice(cells, spare);
@@ -67,7 +68,7 @@ fn turn(cells: &mut [u8], spare: &mut [u8])
 
 fn shuffle_twice(cells: &mut [u8], spare: &mut [u8])
     requires { ⌜ (length (now cells) ≡ 256) × (length (now spare) ≡ 256) ⌝ }
-    ensures { λ _. ⌜ now (cells .exit) ≡ transposed 2 128 (transposed 2 128 (now (cells .entry))) ⌝ }
+    ensures { λ _. ⌜ now (cells .exit) ≡ transposedTable 2 128 (transposedTable 2 128 (now (cells .entry))) ⌝ }
 {
     shuffle(cells, spare);
     shuffle(spare, cells);
@@ -76,7 +77,7 @@ fn shuffle_twice(cells: &mut [u8], spare: &mut [u8])
 // A perfect shuffle: one of the first half, one of the second, and so on.
 fn shuffle(from: &[u8], to: &mut [u8])
     requires { ⌜ (length (now from) ≡ 256) × (length (now to) ≡ 256) ⌝ }
-    ensures { λ _. ⌜ now (to .exit) ≡ transposed 2 128 (now (from .entry)) ⌝ }
+    ensures { λ _. ⌜ now (to .exit) ≡ transposedTable 2 128 (now (from .entry)) ⌝ }
 {
     let mut i: usize = 0;
     while i < HALF {

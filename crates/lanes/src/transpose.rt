@@ -1,7 +1,7 @@
 // A table held row by row, held column by column: whole tiles first, then the cells below and beside them. Inner functions. Assumes nothing.
 ghost use mathlib.Core.Path.{_≡_};
 ghost use Prim.Native.Nat.{_+_, _*_, _≤_, _<_};
-ghost use Rattle.lanes.specs.Interleaving.{transposed};
+ghost use Rattle.lanes.specs.Interleaving.{transposedTable};
 ghost use Rattle.lanes.specs.Transposing.{HoldTable, CellsMoved};
 use crate::tile;
 use crate::tile::TILE;
@@ -9,7 +9,7 @@ use crate::tile::TILE;
 // `from` has so many rows of so many columns; `to` gets its columns one after another.
 pub fn transpose(rows: usize, columns: usize, from: &[u8], to: &mut [u8])
     requires { ⌜ HoldTable rows columns (now from) (now to) ⌝ }
-    ensures { λ _. ⌜ now (to .exit) ≡ transposed rows columns (now (from .entry)) ⌝ }
+    ensures { λ _. ⌜ now (to .exit) ≡ transposedTable rows columns (now (from .entry)) ⌝ }
 {
     let across = columns / TILE;
     let down = rows / TILE;

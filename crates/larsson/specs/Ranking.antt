@@ -14,12 +14,12 @@ use Rattle.larsson.specs.Writing.{untouched, bears, bearers, kindAt}
 use Rattle.larsson.specs.Outcomes.{coding}
 
 -- "R is the least number of symbols that spell at least T values": of all numbers
-pub record LeastSpelling (q values r : ℕ) : Type 0 where
+pub record SpellsLeast (q values r : ℕ) : Type 0 where
   pub serves : values ≤ q ^ r
   pub least : (r′ : ℕ) → values ≤ q ^ r′ → r ≤ r′
 
 -- "There are 2 × m + 1 sub-blocks of R symbols, the first at 0, the last ending the word, the gaps between as equal as possible and shorter first"
-pub record Spacing (f : Params) : Type 0 where
+pub record EvenlySpaced (f : Params) : Type 0 where
   pub at-start : subStart f 0 ≡ 0
   pub at-end : subStart f (2 * f .m) + subLen f ≡ f .n
   pub between : (i : ℕ) → i < gaps f → subStart f (suc i) ≡ subStart f i + subLen f + gapLen f i
@@ -34,8 +34,8 @@ pub record RankBearers (f : Params) (ss : List ℕ) : Type 0 where
 -- what is said of figures in range that fit, and of their placements
 pub record Faithful (f : Params) : Type 0 where
   pub ranks : RankBijection (coding f)
-  pub rank-symbols : LeastSpelling (f .q) (placementCount f) (subLen f)
-  pub spacing : Spacing f
+  pub rank-symbols : SpellsLeast (f .q) (placementCount f) (subLen f)
+  pub spacing : EvenlySpaced f
   pub rank-bearers : (ss : List ℕ) → isPlacement f ss ≡ true → RankBearers f ss
   -- "the message fills what remains": k is the number of message cells
   pub message-cells : (ss : List ℕ) → isPlacement f ss ≡ true → count (f .n) 0 (λ x. is message (kindAt f ss x)) ≡ messageLen f

@@ -22,11 +22,11 @@ use Rattle.placements.proofs.Calls.{starts-held}
 use Rattle.decoder.specs.declared.WordAnswer.{WordAnswer}
 use Rattle.decoder.specs.declared.WordAnswer.the-variants.{Accepted, Refused}
 use Rattle.larsson_params.specs.declared.LarssonLayout.{LarssonLayout}
-use Rattle.larsson_params.specs.Given.{figuresOf, Fitting}
+use Rattle.larsson_params.specs.Given.{larssonFiguresOf, LarssonLayoutFits}
 use Rattle.larsson_params.proofs.Shape.{served}
-use Rattle.sub_blocks.specs.Given.{Bearing, BearersOf}
+use Rattle.sub_blocks.specs.Given.{BurstsOfLayout, BearersOf}
 use Rattle.larsson_decoder.specs.declared.locate.Located.{Located}
-use Rattle.larsson_decoder.specs.Located.{readMessage, LocatedAt, LocatedAs, LocatedIn}
+use Rattle.larsson_decoder.specs.Located.{readLarssonMessage, LocatedAt, LocatedAs, LocatedIn}
 
 -- ---- The readings
 
@@ -48,7 +48,7 @@ module _ (f : Params) (w : List ℕ) where
       unfolding read readValue
       disagreeing e = rw (taken, leb-holds (suc v) (placementCount f) below, e)
 
-      pub agreeing : agrees f w v (placementOf f v) ≡ true → read f w ≡ readMessage f w (placementOf f v)
+      pub agreeing : agrees f w v (placementOf f v) ≡ true → read f w ≡ readLarssonMessage f w (placementOf f v)
       unfolding read readValue
       agreeing e = rw (taken, leb-holds (suc v) (placementCount f) below, e)
 
@@ -58,22 +58,22 @@ refused-in f w r a e is = subst (LocatedAs f w (r .placement) (r .kinds)) (sym e
 
 -- ---- The placement of a rank
 
-module _ (l : LarssonLayout) (g : Fitting l) where
-  module _ (v : ℕ) (below : v < placementCount (figuresOf l)) (p : Placement) (is : heldAs p ≡ held (placementOf (figuresOf l) v)) where
-    pub starts-are : startsIn p ≡ placementOf (figuresOf l) v
-    starts-are = starts-held {p = p} (placementOf (figuresOf l) v) is
+module _ (l : LarssonLayout) (g : LarssonLayoutFits l) where
+  module _ (v : ℕ) (below : v < placementCount (larssonFiguresOf l)) (p : Placement) (is : heldAs p ≡ held (placementOf (larssonFiguresOf l) v)) where
+    pub starts-are : startsIn p ≡ placementOf (larssonFiguresOf l) v
+    starts-are = starts-held {p = p} (placementOf (larssonFiguresOf l) v) is
 
-    ranked-as : RankedAs (l .n) (l .m) (l .b) (served l g .range .b-least) v (placementOf (figuresOf l) v)
+    ranked-as : RankedAs (l .n) (l .m) (l .b) (served l g .range .b-least) v (placementOf (larssonFiguresOf l) v)
     ranked-as = rank-of-starts (l .n) (l .m) (l .b) (served l g .range .b-least) (served l g .total) v below
 
-    pub bearing : 0 < l .«sub_len» → Bearing l p
+    pub bearing : 0 < l .«sub_len» → BurstsOfLayout l p
     bearing h = record { layout = g; count = ap (λ (h : Held). h .count) is ∙ ranked-as .count; some = h }
 
     -- all that is known of it where its bearers agree
-    pub located : (w kinds : List ℕ) → BearersOf (figuresOf l) (startsIn p) kinds → read (figuresOf l) w ≡ readMessage (figuresOf l) w (placementOf (figuresOf l) v)
-        → LocatedAt (figuresOf l) w v p kinds
+    pub located : (w kinds : List ℕ) → BearersOf (larssonFiguresOf l) (startsIn p) kinds → read (larssonFiguresOf l) w ≡ readLarssonMessage (larssonFiguresOf l) w (placementOf (larssonFiguresOf l) v)
+        → LocatedAt (larssonFiguresOf l) w v p kinds
     located w kinds b e =
-        let f = figuresOf l in
+        let f = larssonFiguresOf l in
         let ss = placementOf f v in
         let r = ranked-as in
         record {
@@ -81,5 +81,5 @@ module _ (l : LarssonLayout) (g : Fitting l) where
           is-held = is ∙ ap held (sym starts-are);
           ranked = sym (r .rank) ∙ ap (rankOf (l .b)) (sym starts-are);
           bearers = b;
-          read-as = e ∙ ap (readMessage f w) (sym starts-are);
+          read-as = e ∙ ap (readLarssonMessage f w) (sym starts-are);
         }

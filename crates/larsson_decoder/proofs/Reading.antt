@@ -30,11 +30,11 @@ use Rattle.decoder.proofs.Covered.{message-covered}
 use Rattle.placements.specs.declared.Placement.{Placement}
 use Rattle.placements.specs.Bridge.{heldAs, startsIn}
 use Rattle.larsson_params.specs.declared.LarssonLayout.{LarssonLayout}
-use Rattle.larsson_params.specs.Given.{figuresOf, Fitting}
+use Rattle.larsson_params.specs.Given.{larssonFiguresOf, LarssonLayoutFits}
 use Rattle.larsson_params.proofs.Shape.{served, bound}
-use Rattle.sub_blocks.specs.Found.{Finding}
+use Rattle.sub_blocks.specs.Found.{FoundWord}
 use Rattle.sub_blocks.proofs.Voting.{small}
-use Rattle.larsson_decoder.specs.Located.{readMessage, LocatedAt}
+use Rattle.larsson_decoder.specs.Located.{readLarssonMessage, LocatedAt}
 
 -- bytes have no value above q where q is larger than all of them
 pub found-by : (q : ℕ) (w : List ℕ) → ((x : ℕ) → getD w x 0 < byteValues) → allBelow (q + 1) w ≡ allBelow (foundBound q) w
@@ -45,26 +45,26 @@ found-by q w bytes =
 
 -- ---- The message of a placement that was read
 
-module _ (l : LarssonLayout) (w : List ℕ) (g : Finding l w) (v : ℕ) (at : Placement) (kinds : List ℕ) (h : LocatedAt (figuresOf l) w v at kinds) where
-  pub whole-is : covers (l .n) (l .b) (erasedAt (l .q) w) (startsIn at) ≡ allBelow (l .q) (pick message (plan (figuresOf l) (startsIn at)) w)
+module _ (l : LarssonLayout) (w : List ℕ) (g : FoundWord l w) (v : ℕ) (at : Placement) (kinds : List ℕ) (h : LocatedAt (larssonFiguresOf l) w v at kinds) where
+  pub whole-is : covers (l .n) (l .b) (erasedAt (l .q) w) (startsIn at) ≡ allBelow (l .q) (pick message (plan (larssonFiguresOf l) (startsIn at)) w)
   unfolding plan
   whole-is =
-      let f = figuresOf l in
+      let f = larssonFiguresOf l in
       let ss = startsIn at in
       message-covered (larsson f) (Listed f) (larsson-exact f (g .layout .range) (g .layout .fit)) (omega (arith, bound l (g .layout) .q-least)) (l .b) (kindAt f ss) w ss
       (record { complete = g .complete; symbols = g .symbols }) (kind-burst f ss) (λ x. refl) (λ e. h .read-as ∙ rw (below-whole (l .q) (pick message (plan f ss) w) e))
 
   -- no value above q is left in it
-  known : allBelow (foundBound (l .q)) (pick message (plan (figuresOf l) (startsIn at)) w) ≡ true
+  known : allBelow (foundBound (l .q)) (pick message (plan (larssonFiguresOf l) (startsIn at)) w) ≡ true
   unfolding plan
-  known = pick-below message (l .n) (kindAt (figuresOf l) (startsIn at)) w (foundBound (l .q)) (small l w g)
+  known = pick-below message (l .n) (kindAt (larssonFiguresOf l) (startsIn at)) w (foundBound (l .q)) (small l w g)
 
-  pub reads-erased : allBelow (l .q) (pick message (plan (figuresOf l) (startsIn at)) w) ≡ false → read (figuresOf l) w ≡ refused erased
-  reads-erased e = h .read-as ∙ (rw (erasure-is (l .q) (pick message (plan (figuresOf l) (startsIn at)) w) known, e))
+  pub reads-erased : allBelow (l .q) (pick message (plan (larssonFiguresOf l) (startsIn at)) w) ≡ false → read (larssonFiguresOf l) w ≡ refused erased
+  reads-erased e = h .read-as ∙ (rw (erasure-is (l .q) (pick message (plan (larssonFiguresOf l) (startsIn at)) w) known, e))
 
-  pub reads-whole : allBelow (l .q) (pick message (plan (figuresOf l) (startsIn at)) w) ≡ true
-      → read (figuresOf l) w ≡ accepted (startsIn at) (pick message (plan (figuresOf l) (startsIn at)) w)
-  reads-whole e = h .read-as ∙ (rw (erasure-is (l .q) (pick message (plan (figuresOf l) (startsIn at)) w) known, e))
+  pub reads-whole : allBelow (l .q) (pick message (plan (larssonFiguresOf l) (startsIn at)) w) ≡ true
+      → read (larssonFiguresOf l) w ≡ accepted (startsIn at) (pick message (plan (larssonFiguresOf l) (startsIn at)) w)
+  reads-whole e = h .read-as ∙ (rw (erasure-is (l .q) (pick message (plan (larssonFiguresOf l) (startsIn at)) w) known, e))
 
 -- an accepted word
 pub read-whole : (b v : ℕ) (h : Held) (ss ms ms′ out : List ℕ) → v ≡ rankOf b ss → h ≡ held ss → ms ≡ ms′
@@ -77,14 +77,14 @@ nothing : (xs : List ℕ) → length xs ≡ 0 → xs ≡ []
 nothing [] e = refl
 nothing (x ∷ xs) e = absurd (omega arith)
 
-module _ (l : LarssonLayout) (g : Fitting l) (e : l .«sub_len» ≡ 0) where
-  none-spells : subLen (figuresOf l) ≡ 0
+module _ (l : LarssonLayout) (g : LarssonLayoutFits l) (e : l .«sub_len» ≡ 0) where
+  none-spells : subLen (larssonFiguresOf l) ≡ 0
   none-spells = sym (g .laid .sub-is) ∙ e
 
   -- there is no message
   pub no-message : (out : List ℕ) → length out ≡ l .«message_len» → out ≡ []
   unfolding messageLen
-  no-message out n = nothing out (omega (arith, n, g .laid .len-is, none-spelled (figuresOf l) (served l g) none-spells))
+  no-message out n = nothing out (omega (arith, n, g .laid .len-is, none-spelled (larssonFiguresOf l) (served l g) none-spells))
 
-  pub all-read : (w : List ℕ) → read (figuresOf l) w ≡ accepted (placementOf (figuresOf l) 0) []
-  all-read w = every-word (figuresOf l) (served l g) none-spells w
+  pub all-read : (w : List ℕ) → read (larssonFiguresOf l) w ≡ accepted (placementOf (larssonFiguresOf l) 0) []
+  all-read w = every-word (larssonFiguresOf l) (served l g) none-spells w

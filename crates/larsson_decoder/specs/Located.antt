@@ -19,25 +19,25 @@ use Rattle.placements.specs.Bridge.{heldAs, startsIn}
 use Rattle.decoder.specs.declared.WordAnswer.{WordAnswer}
 use Rattle.decoder.specs.declared.WordAnswer.the-variants.{Accepted, Refused}
 use Rattle.larsson_params.specs.declared.LarssonLayout.{LarssonLayout}
-use Rattle.larsson_params.specs.Given.{figuresOf}
+use Rattle.larsson_params.specs.Given.{larssonFiguresOf}
 use Rattle.sub_blocks.specs.Given.{BearersOf}
-use Rattle.sub_blocks.specs.Found.{Finding, Holding, spelledAt}
+use Rattle.sub_blocks.specs.Found.{FoundWord, SubBlockValued, spelledAt}
 use Rattle.larsson_decoder.specs.declared.locate.Located.{Located}
 
 -- "a silent cell in the message is 19": what is left to refuse once the placement is known; otherwise its message is taken
-abbrev pub readMessage : Params → List ℕ → List ℕ → Reading
-readMessage f w ss =
+abbrev pub readLarssonMessage : Params → List ℕ → List ℕ → Reading
+readLarssonMessage f w ss =
     let ms = pick message (plan f ss) w in
     must (not (hasErasure (f .q) ms)) (refused erased) (accepted ss ms)
 
 -- a sub-block that has the majority's value, which is a rank
-pub record Valued (l : LarssonLayout) (w : List ℕ) (i v : ℕ) : Type 0 where
-  pub finding : Finding l w
+pub record MajorityValued (l : LarssonLayout) (w : List ℕ) (i v : ℕ) : Type 0 where
+  pub finding : FoundWord l w
   pub some-symbol : 0 < l .«sub_len»
-  pub holding : Holding (figuresOf l) w i
-  pub taken : found (figuresOf l) w ≡ some v
-  pub spelled : v ≡ spelledAt (figuresOf l) w i
-  pub below : v < placementCount (figuresOf l)
+  pub holding : SubBlockValued (larssonFiguresOf l) w i
+  pub taken : found (larssonFiguresOf l) w ≡ some v
+  pub spelled : v ≡ spelledAt (larssonFiguresOf l) w i
+  pub below : v < placementCount (larssonFiguresOf l)
 
 -- a placement and its rank, with the kinds of its sub-blocks; the message alone is left to read
 pub record LocatedAt (f : Params) (w : List ℕ) (v : ℕ) (at : Placement) (kinds : List ℕ) : Type 0 where
@@ -45,7 +45,7 @@ pub record LocatedAt (f : Params) (w : List ℕ) (v : ℕ) (at : Placement) (kin
   pub is-held : heldAs at ≡ held (startsIn at)
   pub ranked : v ≡ rankOf (f .b) (startsIn at)
   pub bearers : BearersOf f (startsIn at) kinds
-  pub read-as : read f w ≡ readMessage f w (startsIn at)
+  pub read-as : read f w ≡ readLarssonMessage f w (startsIn at)
 
 -- or the refusal of the word
 abbrev pub LocatedAs : Params → List ℕ → Placement → List ℕ → WordAnswer → Type 0
@@ -56,7 +56,7 @@ abbrev pub LocatedIn : Params → List ℕ → Located → Type 0
 LocatedIn f w r = LocatedAs f w (r .placement) (r .kinds) (r .answer)
 
 -- a complete word without values above q, of sub-blocks that have a symbol, and a buffer of k symbols
-pub record Lent (l : LarssonLayout) (w out : List ℕ) : Type 0 where
-  pub finding : Finding l w
+pub record LarssonWordLent (l : LarssonLayout) (w out : List ℕ) : Type 0 where
+  pub finding : FoundWord l w
   pub some-symbol : 0 < l .«sub_len»
   pub room : length out ≡ l .«message_len»

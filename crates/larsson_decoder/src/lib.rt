@@ -11,8 +11,8 @@ ghost use Rattle.larsson.specs.Reading.{read};
 ghost use Rattle.params.specs.Bridge.{given};
 ghost use Rattle.decoder.specs.Answer.{wordNumber, decodedAs};
 ghost use Rattle.decoder.specs.DemandTwo.{DecodesExactlyUnder};
-ghost use Rattle.larsson_params.specs.Given.{figuresOf, Fitting, StartsOf};
-ghost use Rattle.larsson_decoder.specs.Located.{Lent, LocatedAt};
+ghost use Rattle.larsson_params.specs.Given.{larssonFiguresOf, LarssonLayoutFits, StartsOf};
+ghost use Rattle.larsson_decoder.specs.Located.{LarssonWordLent, LocatedAt};
 use crate::locate::locate;
 use decoder::Decoded;
 use decoder::WordAnswer;
@@ -32,7 +32,8 @@ pub mod locate;
 // refused. Refusals: 1 2 3 4 21 8 9 19.
 pub fn decode(figures: Params, word: &[u8], message: &mut [u8]) -> Decoded
     ensures outcome { λ r. ⌜ decodedAs r (now (message .exit)) ≡ decodeUnder (coding (given figures)) (now (word .entry)) (now (message .entry)) ⌝ }
-    ensures exactly { λ r. ⌜ DecodesExactlyUnder (coding (given figures)) (Listed (given figures)) (now (word .entry)) (now (message .entry)) (decodedAs r (now (message .exit))) ⌝ }
+    ensures exactly { λ r. ⌜ DecodesExactlyUnder (coding (given figures)) (Listed (given figures)) (now (word .entry)) (now (message .entry))
+        (decodedAs r (now (message .exit))) ⌝ }
     ensures number { λ r. ⌜ wordNumber (r .answer) ≡ answerNumber (decodeUnder (coding (given figures)) (now (word .entry)) (now (message .entry)) .answer) ⌝ }
 {
     let answer = larsson_params::figures(figures.n, figures.q, figures.m, figures.b);
@@ -44,8 +45,8 @@ pub fn decode(figures: Params, word: &[u8], message: &mut [u8]) -> Decoded
 
 // The same for figures that fit. Refusals: 3 4 21 8 9 19.
 pub fn decode_fitting(layout: LarssonLayout, word: &[u8], message: &mut [u8]) -> Decoded
-    requires { ⌜ Fitting layout ⌝ }
-    ensures { λ r. ⌜ decodedAs r (now (message .exit)) ≡ decodeUnder (coding (figuresOf layout)) (now (word .entry)) (now (message .entry)) ⌝ }
+    requires { ⌜ LarssonLayoutFits layout ⌝ }
+    ensures { λ r. ⌜ decodedAs r (now (message .exit)) ≡ decodeUnder (coding (larssonFiguresOf layout)) (now (word .entry)) (now (message .entry)) ⌝ }
 {
     if word.len() != layout.n {
         return unread(Refusal::LENGTH);
@@ -64,8 +65,8 @@ pub fn decode_fitting(layout: LarssonLayout, word: &[u8], message: &mut [u8]) ->
 
 // Where there is one placement, nothing spells its rank, its bursts have the whole word, and every word is accepted.
 fn only_placement(layout: LarssonLayout) -> Decoded
-    requires { ⌜ Fitting layout × (layout .«sub_len» ≡ 0) ⌝ }
-    ensures { λ r. ⌜ decodedAs r [] ≡ decodedFrom (layout .b) [] (accepted (placementOf (figuresOf layout) 0) []) ⌝ }
+    requires { ⌜ LarssonLayoutFits layout × (layout .«sub_len» ≡ 0) ⌝ }
+    ensures { λ r. ⌜ decodedAs r [] ≡ decodedFrom (layout .b) [] (accepted (placementOf (larssonFiguresOf layout) 0) []) ⌝ }
 {
     Decoded {
         answer: WordAnswer::Accepted(0),
@@ -80,8 +81,8 @@ fn decode_found(
     word: &[u8],
     message: &mut [u8],
 ) -> Decoded
-    requires { ⌜ Lent layout (now word) (now message) × StartsOf (figuresOf layout) (now starts) ⌝ }
-    ensures { λ r. ⌜ decodedAs r (now (message .exit)) ≡ decodedFrom (layout .b) (now (message .entry)) (read (figuresOf layout) (now (word .entry))) ⌝ }
+    requires { ⌜ LarssonWordLent layout (now word) (now message) × StartsOf (larssonFiguresOf layout) (now starts) ⌝ }
+    ensures { λ r. ⌜ decodedAs r (now (message .exit)) ≡ decodedFrom (layout .b) (now (message .entry)) (read (larssonFiguresOf layout) (now (word .entry))) ⌝ }
 {
     let located = locate(layout, starts, word);
     let placement = located.placement;
@@ -105,8 +106,9 @@ fn decode_placed(
     word: &[u8],
     message: &mut [u8],
 ) -> Decoded
-    requires { ⌜ Lent layout (now word) (now message) × StartsOf (figuresOf layout) (now starts) × LocatedAt (figuresOf layout) (now word) rank placement (now kinds) ⌝ }
-    ensures { λ r. ⌜ decodedAs r (now (message .exit)) ≡ decodedFrom (layout .b) (now (message .entry)) (read (figuresOf layout) (now (word .entry))) ⌝ }
+    requires { ⌜ LarssonWordLent layout (now word) (now message) × StartsOf (larssonFiguresOf layout) (now starts)
+        × LocatedAt (larssonFiguresOf layout) (now word) rank placement (now kinds) ⌝ }
+    ensures { λ r. ⌜ decodedAs r (now (message .exit)) ≡ decodedFrom (layout .b) (now (message .entry)) (read (larssonFiguresOf layout) (now (word .entry))) ⌝ }
 {
     if !cover_erasures(placement, layout.b as u32, layout.q, word) {
         return unread(Refusal::ERASED);

@@ -19,27 +19,27 @@ use Rattle.larsson.proofs.Walking.{blank-word, digits-behind, rank-behind, digi
 use Rattle.placements.specs.declared.Placement.{Placement}
 use Rattle.placements.specs.Bridge.{startsIn, Rankable}
 use Rattle.placements.proofs.Calls.{rankable}
-use Rattle.encoder.specs.Digits.{Spellable}
+use Rattle.encoder.specs.Digits.{SpellableRank}
 use Rattle.larsson_params.specs.declared.LarssonLayout.{LarssonLayout}
-use Rattle.larsson_params.specs.Given.{figuresOf, Fitting}
+use Rattle.larsson_params.specs.Given.{larssonFiguresOf, LarssonLayoutFits}
 use Rattle.larsson_params.proofs.Shape.{served, bound}
-use Rattle.larsson_encoder.specs.Writable.{Writable}
+use Rattle.larsson_encoder.specs.Writable.{LarssonWritable}
 
-module _ (l : LarssonLayout) (at : Placement) (ms out : List ℕ) (g : Writable l at ms out) where
+module _ (l : LarssonLayout) (at : Placement) (ms out : List ℕ) (g : LarssonWritable l at ms out) where
   pub can-rank : Rankable at (l .b)
   can-rank =
-      let f = figuresOf l in
+      let f = larssonFiguresOf l in
       let ok = served l (g .layout) in
       let p = placed-starts f (startsIn at) (g .placed) in
       rankable {p = at} (l .n) (l .b) (omega (arith, g .count, ok .range .m-most)) (ok .range .n-most) (ok .range .b-least) (of-placed (l .b) (l .n) 0 (startsIn at) (p .0))
       (omega (arith, rank-below f ok (startsIn at) (p .0) (p .1), ok .counted))
 
   pub few : l .«sub_len» ≤ 63
-  few = omega (arith, g .layout .laid .sub-is, digits-few (figuresOf l) (served l (g .layout)))
+  few = omega (arith, g .layout .laid .sub-is, digits-few (larssonFiguresOf l) (served l (g .layout)))
 
-  pub can-spell : (v : ℕ) → v ≡ rank (figuresOf l) (startsIn at) → Spellable (l .q) 1 (l .«sub_len») v
+  pub can-spell : (v : ℕ) → v ≡ rank (larssonFiguresOf l) (startsIn at) → SpellableRank (l .q) 1 (l .«sub_len») v
   can-spell v e =
-      let f = figuresOf l in
+      let f = larssonFiguresOf l in
       let ok = served l (g .layout) in
       let p = placed-starts f (startsIn at) (g .placed) in
       record {
@@ -51,27 +51,27 @@ module _ (l : LarssonLayout) (at : Placement) (ms out : List ℕ) (g : Writable 
       }
 
   -- the digits that were spelled
-  pub behind-lead : (v : ℕ) (ds : List ℕ) → v ≡ rank (figuresOf l) (startsIn at) → take (1 * suc (l .«sub_len»)) ds ≡ spell (l .q) (places 1 (l .«sub_len»)) v
-      → take (l .«sub_len» + 1) ds ≡ 1 ∷ rankDigits (figuresOf l) (startsIn at)
+  pub behind-lead : (v : ℕ) (ds : List ℕ) → v ≡ rank (larssonFiguresOf l) (startsIn at) → take (1 * suc (l .«sub_len»)) ds ≡ spell (l .q) (places 1 (l .«sub_len»)) v
+      → take (l .«sub_len» + 1) ds ≡ 1 ∷ rankDigits (larssonFiguresOf l) (startsIn at)
   behind-lead v ds e is =
-      let f = figuresOf l in
+      let f = larssonFiguresOf l in
       let p = placed-starts f (startsIn at) (g .placed) in
       let n : l .«sub_len» + 1 ≡ 1 * suc (l .«sub_len») = omega arith in
       ap (λ (k : ℕ). take k ds) n ∙ is ∙ ap₂ (λ (r x : ℕ). spell (l .q) (places 1 r) x) (g .layout .laid .sub-is) e
       ∙ digits-behind f (served l (g .layout)) (startsIn at) (p .0) (p .1)
 
   -- a word that is cleared
-  pub cleared : l .«sub_len» ≡ 0 → (left : List ℕ) → left ≡ replicate (length out) 0 → left ≡ word (figuresOf l) (startsIn at) ms
+  pub cleared : l .«sub_len» ≡ 0 → (left : List ℕ) → left ≡ replicate (length out) 0 → left ≡ word (larssonFiguresOf l) (startsIn at) ms
   cleared e left is =
-      let f = figuresOf l in
+      let f = larssonFiguresOf l in
       let p = placed-starts f (startsIn at) (g .placed) in
       is ∙ ap (λ (n : ℕ). replicate n 0) (g .room) ∙ sym (blank-word f (served l (g .layout)) (sym (g .layout .laid .sub-is) ∙ e) (startsIn at) ms (p .0) (p .1))
 
 -- ---- A call to write
 
-module _ (l : LarssonLayout) (at : Placement) (g : Fitting l) where
+module _ (l : LarssonLayout) (at : Placement) (g : LarssonLayoutFits l) where
   -- a placement that passed the tests
-  pub placed-by : length (at .starts) ≡ maxBursts → at .count ≡ l .m → apart (l .b) (l .n) 0 (startsIn at) ≡ true → isPlacement (figuresOf l) (startsIn at) ≡ true
+  pub placed-by : length (at .starts) ≡ maxBursts → at .count ≡ l .m → apart (l .b) (l .n) 0 (startsIn at) ≡ true → isPlacement (larssonFiguresOf l) (startsIn at) ≡ true
   placed-by sized count valid =
-      starts-placed (figuresOf l) (startsIn at) (placed-of (l .b) (l .n) 0 (startsIn at) valid)
+      starts-placed (larssonFiguresOf l) (startsIn at) (placed-of (l .b) (l .n) 0 (startsIn at) valid)
       (length-take-le (at .count) (at .starts) (omega (arith, sized, count, bound l g .m-most)) ∙ count)

@@ -8,12 +8,12 @@ use Rattle.construction_a.specs.Figures.{isPlacement}
 use Rattle.placements.specs.declared.Placement.{Placement}
 use Rattle.placements.specs.Bridge.{startsIn}
 use Rattle.larsson_params.specs.declared.LarssonLayout.{LarssonLayout}
-use Rattle.larsson_params.specs.Given.{figuresOf, Fitting}
+use Rattle.larsson_params.specs.Given.{larssonFiguresOf, LarssonLayoutFits}
 
 -- figures that fit, a placement of their bursts, a message of k symbols and a word of n
-pub record Writable (l : LarssonLayout) (at : Placement) (ms out : List ℕ) : Type 0 where
-  pub layout : Fitting l
+pub record LarssonWritable (l : LarssonLayout) (at : Placement) (ms out : List ℕ) : Type 0 where
+  pub layout : LarssonLayoutFits l
   pub count : at .count ≡ l .m
-  pub placed : isPlacement (figuresOf l) (startsIn at) ≡ true
+  pub placed : isPlacement (larssonFiguresOf l) (startsIn at) ≡ true
   pub sent : length ms ≡ l .«message_len»
   pub room : length out ≡ l .n

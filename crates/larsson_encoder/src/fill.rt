@@ -5,9 +5,9 @@ ghost use Prim.Native.Nat.{_<_};
 ghost use Rattle.larsson.specs.Writing;
 ghost use Rattle.larsson.specs.Writing.{rankDigits};
 ghost use Rattle.placements.specs.Bridge.{startsIn};
-ghost use Rattle.larsson_params.specs.Given.{figuresOf, StartsOf};
+ghost use Rattle.larsson_params.specs.Given.{larssonFiguresOf, StartsOf};
 ghost use Rattle.sub_blocks.specs.Given.{BearersOf};
-ghost use Rattle.larsson_encoder.specs.Writable.{Writable};
+ghost use Rattle.larsson_encoder.specs.Writable.{LarssonWritable};
 use encoder::digits::spelled;
 use larsson_params::LarssonLayout;
 use larsson_params::starts::starts_of;
@@ -17,8 +17,8 @@ use sub_blocks::bearers::bearers_of;
 
 // The word of a placement and a message. Where there is one placement, nothing spells its rank, and its bursts have the whole word.
 pub fn fill(layout: LarssonLayout, at: Placement, message: &[u8], word: &mut [u8])
-    requires { ⌜ Writable layout at (now message) (now word) ⌝ }
-    ensures { λ _. ⌜ now (word .exit) ≡ Rattle.larsson.specs.Writing.word (figuresOf layout) (startsIn at) (now (message .entry)) ⌝ }
+    requires { ⌜ LarssonWritable layout at (now message) (now word) ⌝ }
+    ensures { λ _. ⌜ now (word .exit) ≡ Rattle.larsson.specs.Writing.word (larssonFiguresOf layout) (startsIn at) (now (message .entry)) ⌝ }
 {
     if layout.sub_len == 0 {
         symbols::clear(word);
@@ -29,8 +29,8 @@ pub fn fill(layout: LarssonLayout, at: Placement, message: &[u8], word: &mut [u8
 
 // The same where sub-blocks have a symbol. The digits of the rank stand behind a lead digit, which is not written.
 fn fill_borne(layout: LarssonLayout, at: Placement, message: &[u8], word: &mut [u8])
-    requires { ⌜ Writable layout at (now message) (now word) × (0 < layout .«sub_len») ⌝ }
-    ensures { λ _. ⌜ now (word .exit) ≡ Rattle.larsson.specs.Writing.word (figuresOf layout) (startsIn at) (now (message .entry)) ⌝ }
+    requires { ⌜ LarssonWritable layout at (now message) (now word) × (0 < layout .«sub_len») ⌝ }
+    ensures { λ _. ⌜ now (word .exit) ≡ Rattle.larsson.specs.Writing.word (larssonFiguresOf layout) (startsIn at) (now (message .entry)) ⌝ }
 {
     let rank = at.rank(layout.b as u32);
     let digits = spelled(layout.q, 1, layout.sub_len, rank);
@@ -57,8 +57,9 @@ fn fill_digits(
     message: &[u8],
     word: &mut [u8],
 )
-    requires { ⌜ Writable layout at (now message) (now word) × (0 < layout .«sub_len») × StartsOf (figuresOf layout) (now starts) × BearersOf (figuresOf layout) (startsIn at) (now kinds) × (now digits ≡ 1 ∷ rankDigits (figuresOf layout) (startsIn at)) ⌝ }
-    ensures { λ _. ⌜ now (word .exit) ≡ Rattle.larsson.specs.Writing.word (figuresOf layout) (startsIn at) (now (message .entry)) ⌝ }
+    requires { ⌜ LarssonWritable layout at (now message) (now word) × (0 < layout .«sub_len») × StartsOf (larssonFiguresOf layout) (now starts)
+        × BearersOf (larssonFiguresOf layout) (startsIn at) (now kinds) × (now digits ≡ 1 ∷ rankDigits (larssonFiguresOf layout) (startsIn at)) ⌝ }
+    ensures { λ _. ⌜ now (word .exit) ≡ Rattle.larsson.specs.Writing.word (larssonFiguresOf layout) (startsIn at) (now (message .entry)) ⌝ }
 {
     let walk = larsson_words::walk_of(layout.n, layout.m, layout.b, layout.sub_len);
     larsson_words::fill(

@@ -4,7 +4,7 @@ ghost use Rattle.cells.specs.Outcomes.{encodeUnder, coverUnder};
 ghost use Rattle.larsson.specs.Outcomes.{coding};
 ghost use Rattle.params.specs.Bridge.{given};
 ghost use Rattle.placements.specs.Bridge.{heldAs, coveredAs};
-ghost use Rattle.larsson_params.specs.Given.{figuresOf, Fitting};
+ghost use Rattle.larsson_params.specs.Given.{larssonFiguresOf, LarssonLayoutFits};
 use encoder::may_write::may_write;
 use larsson_params::LarssonAnswer;
 use larsson_params::LarssonLayout;
@@ -29,9 +29,9 @@ pub fn encode(figures: Params, at: Placement, message: &[u8], word: &mut [u8]) -
 
 // The same for figures that fit. Refusals: 3 5 4.
 pub fn encode_fitting(layout: LarssonLayout, at: Placement, message: &[u8], word: &mut [u8]) -> u8
-    requires { ⌜ Fitting layout ⌝ }
-    ensures answer { λ r. ⌜ r ≡ encodeUnder (coding (figuresOf layout)) (heldAs at) (now (message .entry)) (now (word .entry)) .answer ⌝ }
-    ensures word { λ _. ⌜ now (word .exit) ≡ encodeUnder (coding (figuresOf layout)) (heldAs at) (now (message .entry)) (now (word .entry)) .word ⌝ }
+    requires { ⌜ LarssonLayoutFits layout ⌝ }
+    ensures answer { λ r. ⌜ r ≡ encodeUnder (coding (larssonFiguresOf layout)) (heldAs at) (now (message .entry)) (now (word .entry)) .answer ⌝ }
+    ensures word { λ _. ⌜ now (word .exit) ≡ encodeUnder (coding (larssonFiguresOf layout)) (heldAs at) (now (message .entry)) (now (word .entry)) .word ⌝ }
 {
     let refusal = may_write(
         layout.n,
@@ -64,8 +64,8 @@ pub fn cover(figures: Params, map: &[u8]) -> CoverAnswer
 
 // The same for figures that fit. Refusals: 3 4 6.
 pub fn cover_fitting(layout: LarssonLayout, map: &[u8]) -> CoverAnswer
-    requires { ⌜ Fitting layout ⌝ }
-    ensures { λ r. ⌜ coveredAs r ≡ coverUnder (coding (figuresOf layout)) (now (map .entry)) ⌝ }
+    requires { ⌜ LarssonLayoutFits layout ⌝ }
+    ensures { λ r. ⌜ coveredAs r ≡ coverUnder (coding (larssonFiguresOf layout)) (now (map .entry)) ⌝ }
 {
     placements::cover_within(layout.n, layout.m, layout.b, map)
 }

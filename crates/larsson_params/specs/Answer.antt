@@ -8,12 +8,12 @@ use Rattle.larsson_params.specs.declared.LarssonAnswer.{LarssonAnswer}
 use Rattle.larsson_params.specs.declared.LarssonAnswer.the-variants.{Fit, Refused}
 
 -- T, R and k of figures that fit, or the refusal's number
-abbrev pub figuredAs : LarssonAnswer → FiguresOut
-figuredAs (Fit l) = figured (l .«placement_count») (l .«sub_len») (l .«message_len»)
-figuredAs (Refused a) = unserved a
+abbrev pub larssonFiguredAs : LarssonAnswer → FiguresOut
+larssonFiguredAs (Fit l) = figured (l .«placement_count») (l .«sub_len») (l .«message_len»)
+larssonFiguredAs (Refused a) = unserved a
 
 -- the layout has the figures, and each number that follows from them
-pub record LaidOut (f : Params) (l : LarssonLayout) : Type 0 where
+pub record LarssonLaidOut (f : Params) (l : LarssonLayout) : Type 0 where
   pub n-is : l .n ≡ f .n
   pub q-is : l .q ≡ f .q
   pub m-is : l .m ≡ f .m
@@ -24,6 +24,6 @@ pub record LaidOut (f : Params) (l : LarssonLayout) : Type 0 where
   pub len-is : l .«message_len» ≡ messageLen f
 
 -- a layout that is answered is that of the figures
-abbrev pub LaidIn : Params → LarssonAnswer → Type 0
-LaidIn f (Fit l) = LaidOut f l
-LaidIn f (Refused a) = Unit {0}
+abbrev pub LarssonLaidIn : Params → LarssonAnswer → Type 0
+LarssonLaidIn f (Fit l) = LarssonLaidOut f l
+LarssonLaidIn f (Refused a) = Unit {0}

@@ -7,17 +7,17 @@ use lib.ListN.{getD}
 use Rattle.construction_a.specs.Figures.{Params, params, inRange}
 use Rattle.larsson.specs.Figures.{subBlocks, subStart, fits}
 use Rattle.larsson_params.specs.declared.LarssonLayout.{LarssonLayout}
-use Rattle.larsson_params.specs.Answer.{LaidOut}
+use Rattle.larsson_params.specs.Answer.{LarssonLaidOut}
 
 -- the figures of a layout
-abbrev pub figuresOf : LarssonLayout → Params
-figuresOf l = params (l .n) (l .q) (l .m) (l .b)
+abbrev pub larssonFiguresOf : LarssonLayout → Params
+larssonFiguresOf l = params (l .n) (l .q) (l .m) (l .b)
 
 -- they fit, and the layout is theirs
-pub record Fitting (l : LarssonLayout) : Type 0 where
-  pub range : inRange (figuresOf l) ≡ true
-  pub fit : fits (figuresOf l) ≡ true
-  pub laid : LaidOut (figuresOf l) l
+pub record LarssonLayoutFits (l : LarssonLayout) : Type 0 where
+  pub range : inRange (larssonFiguresOf l) ≡ true
+  pub fit : fits (larssonFiguresOf l) ≡ true
+  pub laid : LarssonLaidOut (larssonFiguresOf l) l
 
 -- the first position of each sub-block, and behind them the word's length
 abbrev pub StartsOf : Params → List ℕ → Type 0

@@ -6,7 +6,7 @@ ghost use Rattle.cells.specs.Outcomes.{figuresUnder};
 ghost use Rattle.construction_a.specs.Figures.{params, inRange, maxCount, placementCount};
 ghost use Rattle.larsson.specs.Outcomes.{coding};
 ghost use Rattle.params.specs.Bridge.{given as figuresOf};
-ghost use Rattle.larsson_params.specs.Answer.{figuredAs, LaidIn};
+ghost use Rattle.larsson_params.specs.Answer.{larssonFiguredAs, LarssonLaidIn};
 use binomials::CountAnswer;
 use params::Params;
 use params::cut;
@@ -36,8 +36,8 @@ pub enum LarssonAnswer {
 
 // The layout that the figures give, whatever numbers come. Refusals in order: 1 for a figure out of range, 2 for figures that don't fit.
 pub fn figures(n: u32, q: u32, m: u32, b: u32) -> LarssonAnswer
-    ensures answer { λ r. ⌜ figuredAs r ≡ figuresUnder (coding (params n q m b)) ⌝ }
-    ensures layout { λ r. ⌜ LaidIn (params n q m b) r ⌝ }
+    ensures answer { λ r. ⌜ larssonFiguredAs r ≡ figuresUnder (coding (params n q m b)) ⌝ }
+    ensures layout { λ r. ⌜ LarssonLaidIn (params n q m b) r ⌝ }
 {
     let given = Params { n, q, m, b };
     if !given.in_range() {
@@ -52,8 +52,8 @@ pub fn figures(n: u32, q: u32, m: u32, b: u32) -> LarssonAnswer
 // The layout of figures in range whose bursts a word can hold. Refusal: 2.
 fn laid_out(given: Params) -> LarssonAnswer
     requires { ⌜ (inRange (figuresOf given) ≡ true) × (given .m * given .b ≤ given .n) ⌝ }
-    ensures answer { λ r. ⌜ figuredAs r ≡ figuresUnder (coding (figuresOf given)) ⌝ }
-    ensures layout { λ r. ⌜ LaidIn (figuresOf given) r ⌝ }
+    ensures answer { λ r. ⌜ larssonFiguredAs r ≡ figuresUnder (coding (figuresOf given)) ⌝ }
+    ensures layout { λ r. ⌜ LarssonLaidIn (figuresOf given) r ⌝ }
 {
     let things = (given.n - given.m * given.b + given.m) as u64;
     let count = binomials::count(things, given.m as u64);
@@ -66,8 +66,8 @@ fn laid_out(given: Params) -> LarssonAnswer
 // The same for figures whose placements are counted: the sub-blocks have to fit in the word, and a burst may touch one of them. Refusal: 2.
 fn counted(given: Params, count: u64) -> LarssonAnswer
     requires { ⌜ (inRange (figuresOf given) ≡ true) × (given .m * given .b ≤ given .n) × (count ≡ placementCount (figuresOf given)) × (count ≤ maxCount) ⌝ }
-    ensures answer { λ r. ⌜ figuredAs r ≡ figuresUnder (coding (figuresOf given)) ⌝ }
-    ensures layout { λ r. ⌜ LaidIn (figuresOf given) r ⌝ }
+    ensures answer { λ r. ⌜ larssonFiguredAs r ≡ figuresUnder (coding (figuresOf given)) ⌝ }
+    ensures layout { λ r. ⌜ LarssonLaidIn (figuresOf given) r ⌝ }
 {
     let n = given.n as usize;
     let q = given.q as u64;

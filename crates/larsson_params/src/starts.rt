@@ -1,13 +1,13 @@
 // Where the sub-blocks of a word start, worked out once for a reading or a writing, which asks for it many times. Assumes nothing.
-ghost use Rattle.larsson_params.specs.Given.{figuresOf, Fitting, StartsOf};
+ghost use Rattle.larsson_params.specs.Given.{larssonFiguresOf, LarssonLayoutFits, StartsOf};
 use crate::LarssonLayout;
 use params::Layout;
 use params::cut;
 
 // The first position of each sub-block, and behind them the word's length.
 pub fn starts_of(layout: LarssonLayout) -> [u16; Layout::MAX_HEADS]
-    requires { ⌜ Fitting layout ⌝ }
-    ensures { λ r. ⌜ StartsOf (figuresOf layout) r ⌝ }
+    requires { ⌜ LarssonLayoutFits layout ⌝ }
+    ensures { λ r. ⌜ StartsOf (larssonFiguresOf layout) r ⌝ }
 {
     let gaps = 2 * layout.m;
     let mut starts = [0u16; Layout::MAX_HEADS];

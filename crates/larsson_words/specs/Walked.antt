@@ -18,8 +18,8 @@ abbrev pub subBlocksOf : ℕ → ℕ → ℕ → ℕ → Walk
 subBlocksOf n m b R = record { n = n; m = m; b = b; blocks = suc (2 * m); «head_len» = R; «digit_step» = 0 }
 
 -- the figures of a walk
-abbrev pub figuresOf : Walk → ℕ → Params
-figuresOf w q = params (w .n) q (w .m) (w .b)
+abbrev pub figuresWalked : Walk → ℕ → Params
+figuresWalked w q = params (w .n) q (w .m) (w .b)
 
 -- figures that fit with R above 0, a placement of their bursts, and the tables of its word
 pub record Walked (f : Params) (w : Walk) (at : Placement) (starts kinds : List ℕ) : Type 0 where
@@ -33,14 +33,14 @@ pub record Walked (f : Params) (w : Walk) (at : Placement) (starts kinds : List 
   pub kinds-are : BearersOf f (startsIn at) kinds
 
 -- with the digits of its rank, a message and room for the word
-pub record Fillable (f : Params) (w : Walk) (at : Placement) (starts kinds ds ms out : List ℕ) : Type 0 where
+pub record WalkedMessage (f : Params) (w : Walk) (at : Placement) (starts kinds ds ms out : List ℕ) : Type 0 where
   pub walked : Walked f w at starts kinds
   pub digits-are : ds ≡ rankDigits f (startsIn at)
   pub sent : length ms ≡ messageLen f
   pub room : length out ≡ f .n
 
 -- with a complete word and a buffer for its message
-pub record Takeable (f : Params) (w : Walk) (at : Placement) (starts kinds ws out : List ℕ) : Type 0 where
+pub record WalkedWord (f : Params) (w : Walk) (at : Placement) (starts kinds ws out : List ℕ) : Type 0 where
   pub walked : Walked f w at starts kinds
   pub complete : length ws ≡ f .n
   pub room : length out ≡ messageLen f

@@ -8,7 +8,7 @@ ghost use Rattle.construction_a.specs.Figures.{maxBursts};
 ghost use Rattle.larsson.specs.Writing;
 ghost use Rattle.larsson.specs.Writing.{plan};
 ghost use Rattle.placements.specs.Bridge.{startsIn};
-ghost use Rattle.larsson_words.specs.Walked.{figuresOf, subBlocksOf, Fillable, Takeable};
+ghost use Rattle.larsson_words.specs.Walked.{figuresWalked, subBlocksOf, WalkedMessage, WalkedWord};
 use params::Layout;
 use placements::Placement;
 use stretches::Walk;
@@ -39,8 +39,8 @@ pub fn fill(
     message: &[u8],
     word: &mut [u8],
 )
-    requires { ⌜ Fillable (figuresOf walk q) walk at (now starts) (now kinds) (now digits) (now message) (now word) ⌝ }
-    ensures { λ _. ⌜ now (word .exit) ≡ Rattle.larsson.specs.Writing.word (figuresOf walk q) (startsIn at) (now (message .entry)) ⌝ }
+    requires { ⌜ WalkedMessage (figuresWalked walk q) walk at (now starts) (now kinds) (now digits) (now message) (now word) ⌝ }
+    ensures { λ _. ⌜ now (word .exit) ≡ Rattle.larsson.specs.Writing.word (figuresWalked walk q) (startsIn at) (now (message .entry)) ⌝ }
 {
     stretches::fill::fill_cells(walk, at, starts, kinds, digits, message, word);
 }
@@ -55,8 +55,8 @@ pub fn take_message(
     word: &[u8],
     message: &mut [u8],
 )
-    requires { ⌜ Takeable (figuresOf walk q) walk at (now starts) (now kinds) (now word) (now message) ⌝ }
-    ensures { λ _. ⌜ now (message .exit) ≡ pick Rattle.cells.specs.Cells.message (plan (figuresOf walk q) (startsIn at)) (now (word .entry)) ⌝ }
+    requires { ⌜ WalkedWord (figuresWalked walk q) walk at (now starts) (now kinds) (now word) (now message) ⌝ }
+    ensures { λ _. ⌜ now (message .exit) ≡ pick Rattle.cells.specs.Cells.message (plan (figuresWalked walk q) (startsIn at)) (now (word .entry)) ⌝ }
 {
     stretches::taking::take_message(walk, at, starts, kinds, word, message);
 }

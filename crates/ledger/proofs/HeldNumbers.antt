@@ -12,7 +12,7 @@ use Rattle.combinatorics.specs.Stretch.{bit, keepIf}
 use Rattle.combinatorics.proofs.Lists.{both}
 use Rattle.combinatorics.proofs.Cases.{by-eq, by-bool, eqb-same, eqb-other}
 use Rattle.jobs.specs.Jobs.{Call, isHeld}
-use Rattle.ledger.specs.Ledger.{historyOf, statusOf, status, held, distinct, Counted, HeldCounts}
+use Rattle.ledger.specs.Ledger.{historyOf, statusOf, status, heldCount, distinct, CountsHeld, HeldCounts}
 
 unfoldable without : ℕ → List ℕ → List ℕ
 without n [] = []
@@ -83,8 +83,8 @@ has-held b n k xs =
     has-keep b n k (without n xs) ∙ rw (has-without n k xs)
     (by-bool (eqb k n) (λ t. rw t (or-false b)) (λ t. rw t))
 
-counted : (h : List Call) → Counted h (heldNumbers h)
-unfolding heldNumbers held
+counted : (h : List Call) → CountsHeld h (heldNumbers h)
+unfolding heldNumbers heldCount
 counted [] = record { once = unfold distinct in refl; exactly = none-held; count = refl }
 counted (c ∷ h) =
     let n = c .number in

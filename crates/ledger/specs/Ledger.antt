@@ -100,13 +100,13 @@ answerAfter (some reinstating) = notOpen
 answerAfter (some releasing) = notOpen
 
 -- how many numbers are open, on hold or cancelled: with each call, its number's share before it goes and its share after it comes
-unfoldable pub held : List Call → ℕ
-held [] = 0
-held (c ∷ h) = held h - bit (isHeld (status h (c .number))) + bit (isHeld (status (c ∷ h) (c .number)))
+unfoldable pub heldCount : List Call → ℕ
+heldCount [] = 0
+heldCount (c ∷ h) = heldCount h - bit (isHeld (status h (c .number))) + bit (isHeld (status (c ∷ h) (c .number)))
 
 -- "unknown while 64 are open or cancelled": there is room for one more otherwise
 abbrev pub room : List Call → Bool
-room h = ltb (held h) slotCount
+room h = ltb (heldCount h) slotCount
 
 -- "An opening that finds its number cancelled is refused with 12, open with 13, unknown while 64 are open or cancelled with 15; else it is accepted"
 -- document 02, ticket 10: "Opening a held number is 13."
@@ -189,10 +189,10 @@ distinct [] = true
 distinct (n ∷ ns) = not (any (eqb n) ns) && distinct ns
 
 -- a list without repetition of exactly the numbers that count, as long as the count says
-pub record Counted (h : List Call) (numbers : List ℕ) : Type 0 where
+pub record CountsHeld (h : List Call) (numbers : List ℕ) : Type 0 where
   pub once : distinct numbers ≡ true
   pub exactly : (n : ℕ) → any (eqb n) numbers ≡ isHeld (status h n)
-  pub count : length numbers ≡ held h
+  pub count : length numbers ≡ heldCount h
 
 abbrev pub HeldCounts : Type 0
-HeldCounts = (h : List Call) → (numbers : List ℕ) × Counted h numbers
+HeldCounts = (h : List Call) → (numbers : List ℕ) × CountsHeld h numbers

@@ -18,8 +18,10 @@ use refusals::Refusal;
 // Refusals of the whole list: 3 for lists of other lengths, 11 for a letter other than O, C, F, I, H, U. The table is then as it was, and `answers`
 // keeps what it held.
 pub fn replay(table: JobTable, letters: &[u8], numbers: &[u32], answers: &mut [u8]) -> TableAnswer
-    ensures outcome { λ r. ⌜ replayed r (now (answers .exit)) ≡ replayOut (entries table) (now (letters .entry)) (now (numbers .entry)) (now (answers .entry)) ⌝ }
-    ensures ledger { λ r. ⌜ ((before : List Call) → Agrees (entries table) before → r .answer ≡ served → Follows before (callsOf (now (letters .entry)) (now (numbers .entry))) (now (answers .exit)) (entries (r .table))) ⌝ }
+    ensures outcome { λ r. ⌜ replayed r (now (answers .exit))
+        ≡ replayOut (entries table) (now (letters .entry)) (now (numbers .entry)) (now (answers .entry)) ⌝ }
+    ensures ledger { λ r. ⌜ ((before : List Call) → Agrees (entries table) before → r .answer ≡ served
+        → Follows before (callsOf (now (letters .entry)) (now (numbers .entry))) (now (answers .exit)) (entries (r .table))) ⌝ }
 {
     if numbers.len() != letters.len() {
         return table.refuse(Refusal::LENGTH);

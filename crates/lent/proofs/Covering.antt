@@ -13,7 +13,7 @@ use Rattle.combinatorics.specs.Bursts.{placements, startsOf, coverRank}
 use Rattle.combinatorics.specs.Lists.{allBelow}
 use Rattle.combinatorics.proofs.Cases.{by-eq, by-bool, eqb-same, eqb-other, leb-holds, leb-fails}
 use Rattle.combinatorics.proofs.Bursts.{rank-of-starts}
-use Rattle.cells.specs.Outcomes.{Coding, held, inUse, worn, unserved, figuresUnder, Covered, unplaced, coverUnder}
+use Rattle.cells.specs.Outcomes.{Coding, held, inUse, defectAt, unserved, figuresUnder, Covered, unplaced, coverUnder}
 use Rattle.cells.proofs.Outcomes.{refused-alike}
 use Rattle.construction_a.specs.Figures.{maxBursts}
 use Rattle.placements.specs.declared.CoverAnswer.{CoverAnswer}
@@ -21,7 +21,7 @@ use Rattle.placements.specs.Bridge.{coverable, coverWithin, coveredAs as foundA
 use Rattle.placements.proofs.Calls.{cover-length, cover-symbol, cover-none, cover-some}
 use Rattle.decoder.specs.Exported.{startBytes}
 use Rattle.lent.specs.Starts.{startsFrom, placementFrom}
-use Rattle.lent.specs.Covering.{covers, coveredAs, coverBytesUnder, CoverFits}
+use Rattle.lent.specs.Covering.{coverLent, coverLentAs, coverBytesUnder, CoverFits}
 
 -- ---- The placement that is given
 
@@ -39,30 +39,30 @@ module _ (m : ℕ) (bytes : List ℕ) where
 
 module _ (d : Coding) (map bytes : List ℕ) where
   -- 1 and 2, with the number that the figures have alone
-  pub cover-bytes-unfit : (a : ℕ) → figuresUnder d ≡ unserved a → coverBytesUnder d map bytes ≡ covers a bytes
+  pub cover-bytes-unfit : (a : ℕ) → figuresUnder d ≡ unserved a → coverBytesUnder d map bytes ≡ coverLent a bytes
   cover-bytes-unfit a e =
-      refused-alike d a (λ x. covers x bytes)
-      (must (eqb (length bytes) (2 * d .bursts)) (covers wrongLength bytes)
-      (coveredAs bytes (coverUnder d map))) e
+      refused-alike d a (λ x. coverLent x bytes)
+      (must (eqb (length bytes) (2 * d .bursts)) (coverLent wrongLength bytes)
+      (coverLentAs bytes (coverUnder d map))) e
 
   module _ (range : d .inRange ≡ true) (fit : d .fits ≡ true) where
     -- 3, for the starts
-    pub cover-bytes-length : length bytes ≢ 2 * d .bursts → coverBytesUnder d map bytes ≡ covers wrongLength bytes
+    pub cover-bytes-length : length bytes ≢ 2 * d .bursts → coverBytesUnder d map bytes ≡ coverLent wrongLength bytes
     cover-bytes-length size = rw (range, fit, eqb-other (length bytes) (2 * d .bursts) size)
 
     -- and what covering answers, put into the lent buffer
     pub cover-bytes-put : length bytes ≡ 2 * d .bursts → (c : Covered) → c ≡ coverUnder d map
-        → (a : ℕ) (starts : List ℕ) → covers a starts ≡ coveredAs bytes c → covers a starts ≡ coverBytesUnder d map bytes
+        → (a : ℕ) (starts : List ℕ) → coverLent a starts ≡ coverLentAs bytes c → coverLent a starts ≡ coverBytesUnder d map bytes
     cover-bytes-put size c e a starts put =
-        let is : coverBytesUnder d map bytes ≡ coveredAs bytes (coverUnder d map) = rw (range, fit, eqb-same (length bytes) (2 * d .bursts) size) in
-        put ∙ ap (coveredAs bytes) e ∙ sym is
+        let is : coverBytesUnder d map bytes ≡ coverLentAs bytes (coverUnder d map) = rw (range, fit, eqb-same (length bytes) (2 * d .bursts) size) in
+        put ∙ ap (coverLentAs bytes) e ∙ sym is
 
 -- the answer of covering, taken apart
 module _ (bytes : List ℕ) (c : Covered) where
-  pub covered-refused : c .answer ≢ served → covers (c .answer) bytes ≡ coveredAs bytes c
+  pub covered-refused : c .answer ≢ served → coverLent (c .answer) bytes ≡ coverLentAs bytes c
   covered-refused a = rw (eqb-other (c .answer) served a)
 
-  pub covered-served : c .answer ≡ served → covers served (startBytes (inUse (c .placement))) ≡ coveredAs bytes c
+  pub covered-served : c .answer ≡ served → coverLent served (startBytes (inUse (c .placement))) ≡ coverLentAs bytes c
   covered-served a = rw (eqb-same (c .answer) served a)
 
 -- a map that is not refused has a placement of m starts
@@ -81,7 +81,7 @@ module _ (n m b : ℕ) (room : Room n m b) (map : List ℕ) where
       (λ other. refused-not c 2 (is ∙ cover-length n m b map other) r)
     where
       v : ℕ
-      v = coverRank n m b (worn map)
+      v = coverRank n m b (defectAt map)
 
       count : coverable n m b map ≡ true → length (startsOf n m b v) ≡ m
       count some = rank-of-starts n m b (room .some) (room .within) v (leb-true (suc v) (placements n m b) some) .count

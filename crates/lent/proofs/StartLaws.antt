@@ -1,23 +1,23 @@
 -- Laws of starts in bytes: written and read back they are the same, and how a loop reads them; and how many there are. Assumes nothing.
 use mathlib.Core.Path.{_≡_, refl, sym, ap, _∙_}
 use mathlib.Core.Bool.{true, _&&_}
-use mathlib.Core.List.{List, [], _∷_, _++_}
-use Prim.Native.Nat.{ℕ, zero, suc, _+_, _-_, _*_, _/_, _%_, _≤_, _<_}
-use native.Mathlib.Numerals.{add-one}
+use mathlib.Core.List.{List, [], _∷_}
+use Prim.Native.Nat.{ℕ, zero, suc, _+_, _*_, _/_, _%_, _≤_, _<_}
 use native.Mathlib.Omega.{arith}
 use borrow.Author.Tests.{leb-true}
 use lib.Dec.{ltb}
-use lib.ListN.{length, getD, take, set, replicate}
-use lib.Seq.{append-snoc, length-take-le, set-at, take-all, take-suc}
+use lib.ListN.{length, getD}
+use lib.Seq.{take-all}
 use Rattle.combinatorics.specs.Lists.{all, allBelow}
 use Rattle.combinatorics.proofs.Lists.{both}
+use Rattle.combinatorics.proofs.Stretch.{take-is}
 use Rattle.cells.specs.Bytes.{byteValues}
 use Rattle.construction_a.specs.Figures.{Params, maxBursts, inRange}
-use Rattle.construction_a.specs.Outcomes.{held}
 use Rattle.construction_a.proofs.Figures.{ranged}
 use Rattle.params.specs.declared.Figures.{Figures}
 use Rattle.params.specs.declared.Figures.the-variants.{Ranked, Long}
 use Rattle.params.specs.Bridge.{given, codingOf}
+use Rattle.placements.specs.Bridge.{startsAt}
 use Rattle.decoder.specs.Exported.{startBytes}
 use Rattle.lent.specs.Starts.{startsFrom}
 
@@ -67,19 +67,13 @@ start-at (x ∷ y ∷ bs) (suc j) h =
     let e : 2 * suc j ≡ suc (suc (2 * j)) = omega arith in
     rw (d, e) (start-at bs j (omega arith))
 
--- the first j starts, and 0 in the other places
-abbrev pub begun : List ℕ → ℕ → List ℕ
-begun ss j = take j ss ++ replicate (maxBursts - j) 0
-
-pub begun-next : (ss : List ℕ) (j : ℕ) → j < length ss → j < maxBursts → set (begun ss j) j (getD ss j 0) ≡ begun ss (j + 1)
-begun-next ss j h k =
-    let z : maxBursts - j ≡ suc (maxBursts - suc j) = omega arith in
-    rw (add-one j, z, take-suc ss j 0 h)
-    (set-at (take j ss) 0 (replicate (maxBursts - suc j) 0) (getD ss j 0) j (length-take-le j ss (omega arith))
-    ∙ sym (append-snoc (take j ss) (getD ss j 0) (replicate (maxBursts - suc j) 0)))
-
-pub begun-all : (ss : List ℕ) (m : ℕ) → length ss ≡ m → record { starts = begun ss m; count = m } ≡ held ss
-begun-all ss m e = rw (e, take-all m ss (omega arith))
+-- so that read one by one they are these
+pub starts-read : (bs : List ℕ) (m : ℕ) → length bs ≡ 2 * m → startsAt bs 0 m ≡ startsFrom bs
+starts-read bs m e =
+    let size = length-starts bs m e in
+    sym (take-is m 0 (startsFrom bs) (λ i. getD bs (0 + 2 * i) 0 * byteValues + getD bs (0 + 2 * i + 1) 0) (omega (arith, size))
+    (λ j h. let z : 0 + 2 * (0 + j) ≡ 2 * j = omega arith in rw z (start-at bs j (omega arith))))
+    ∙ take-all m (startsFrom bs) (omega (arith, size))
 
 -- ---- How many: figures in range have a burst, and no more than a placement holds
 

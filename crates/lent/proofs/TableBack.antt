@@ -19,7 +19,7 @@ use Rattle.jobs.specs.declared.Entry.the-variants.{Free, Open, OnHold, Cancelle
 use Rattle.jobs.specs.declared.Before.the-variants.{WasAbsent, WasOpen, WasOnHold}
 use Rattle.jobs.specs.Table.{emptyTable}
 use Rattle.payloads.specs.Payload.{jobNumber}
-use Rattle.lent.specs.Table.{slotLen, tableLen, stateCount, entryOf, stateAt, entryAt, statesKnown, tableIn, entryBytes, tableBytes, hasRoom, IsTable, ReadsBack}
+use Rattle.lent.specs.Table.{slotLen, tableLen, stateCount, entryOf, stateAt, entryAt, statesKnown, tableIn, entryBytes, tableBytes, numberFits, IsTable, ReadsBack}
 use Rattle.lent.proofs.TableLaws.{entry-long}
 
 -- ---- One slot, with anything behind it
@@ -32,7 +32,7 @@ number-back number rest h =
     value-front byteValues ps (spell byteValues ps number) rest (length-spell byteValues ps number)
     ∙ value-spell byteValues ps number (rw (span-plain byteValues 4) h)
 
-slot-back : (e : Entry) (rest : List ℕ) → hasRoom e ≡ true → entryOf (getD (entryBytes e ++ rest) 0 0) (jobNumber (drop 1 (entryBytes e ++ rest))) ≡ e
+slot-back : (e : Entry) (rest : List ℕ) → numberFits e ≡ true → entryOf (getD (entryBytes e ++ rest) 0 0) (jobNumber (drop 1 (entryBytes e ++ rest))) ≡ e
 slot-back Free rest h = refl
 slot-back (Open x) rest h = ap Open (number-back x rest (leb-true (suc x) (byteValues ^ 4) h))
 slot-back (OnHold x) rest h = ap OnHold (number-back x rest (leb-true (suc x) (byteValues ^ 4) h))
@@ -67,15 +67,15 @@ module _ (bytes : List ℕ) where
         let z : j * slotLen + 0 ≡ j * slotLen = omega arith in
         sym (getD-drop (j * slotLen) bytes 0 0 ∙ ap (λ (n : ℕ). getD bytes n 0) z) ∙ ap (λ (l : List ℕ). getD l 0 0) front
 
-    entry-here : hasRoom e ≡ true → entryAt bytes j ≡ e
+    entry-here : numberFits e ≡ true → entryAt bytes j ≡ e
     entry-here h =
         ap₂ entryOf state-here (ap jobNumber (sym (drop-drop 1 (j * slotLen) bytes) ∙ ap (drop 1) front)) ∙ slot-back e (tableBytes es) h
 
-  entries-back : (es : List Entry) (j : ℕ) → all hasRoom es ≡ true → drop (j * slotLen) bytes ≡ tableBytes es → tabulate (length es) j (entryAt bytes) ≡ es
+  entries-back : (es : List Entry) (j : ℕ) → all numberFits es ≡ true → drop (j * slotLen) bytes ≡ tableBytes es → tabulate (length es) j (entryAt bytes) ≡ es
   unfolding all tabulate
   entries-back [] j h at = refl
   entries-back (e ∷ es) j h at =
-      let b = both (hasRoom e) (all hasRoom es) h in
+      let b = both (numberFits e) (all numberFits es) h in
       ap₂ {C = List Entry} _∷_ (entry-here e es j at (b .0)) (entries-back es (suc j) (b .1) (next e es j at))
 
   states-back : (es : List Entry) (j : ℕ) → drop (j * slotLen) bytes ≡ tableBytes es → allBelow stateCount (tabulate (length es) j (stateAt bytes)) ≡ true

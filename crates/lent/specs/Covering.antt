@@ -17,19 +17,19 @@ pub record CoverLent : Type 0 where
   pub answer : ℕ
   pub starts : List ℕ
 
-abbrev pub covers : ℕ → List ℕ → CoverLent
-covers a bytes = record { answer = a; starts = bytes }
+abbrev pub coverLent : ℕ → List ℕ → CoverLent
+coverLent a bytes = record { answer = a; starts = bytes }
 
 -- the placement as bytes; "Every refusal returns its number only; output buffers .. keep their contents."
-abbrev pub coveredAs : List ℕ → Covered → CoverLent
-coveredAs bytes c = must (eqb (c .answer) served) (covers (c .answer) bytes) (covers served (startBytes (inUse (c .placement))))
+abbrev pub coverLentAs : List ℕ → Covered → CoverLent
+coverLentAs bytes c = must (eqb (c .answer) served) (coverLent (c .answer) bytes) (coverLent served (startBytes (inUse (c .placement))))
 
 abbrev pub coverBytesUnder : Coding → List ℕ → List ℕ → CoverLent
 coverBytesUnder d map bytes =
-    must (d .inRange) (covers invalid bytes)
-    (must (d .fits) (covers unfit bytes)
-    (must (eqb (length bytes) (2 * d .bursts)) (covers wrongLength bytes)
-    (coveredAs bytes (coverUnder d map))))
+    must (d .inRange) (coverLent invalid bytes)
+    (must (d .fits) (coverLent unfit bytes)
+    (must (eqb (length bytes) (2 * d .bursts)) (coverLent wrongLength bytes)
+    (coverLentAs bytes (coverUnder d map))))
 
 -- two bytes for each start of a placement that covers the map
 abbrev pub CoverFits : CoverAnswer → List ℕ → Type 0

@@ -16,12 +16,12 @@ use Rattle.jobcodec.specs.JobRead.{JobRead, withhold, jobReadUnder}
 use Rattle.lent.specs.Starts.{startsFrom}
 use Rattle.lent.specs.Table.{tableLen, statesKnown, tableIn}
 
-abbrev pub isWhole : List ℕ → Bool
-isWhole bytes = eqb (length bytes) tableLen
+abbrev pub hasTableLen : List ℕ → Bool
+hasTableLen bytes = eqb (length bytes) tableLen
 
 -- 1 otherwise: "a book with one number twice", or an unknown state. In a table of another length no slot is looked at.
 abbrev pub slotsFit : List ℕ → Bool
-slotsFit bytes = must (isWhole bytes) true (statesKnown bytes && not (twice (tableIn bytes)))
+slotsFit bytes = must (hasTableLen bytes) true (statesKnown bytes && not (twice (tableIn bytes)))
 
 -- "1 2 10 3", where 3 stands for the bytes of the table, and for those whose lengths the call looks at besides
 abbrev pub withTable : {O : Type 0} → Coding → List ℕ → Bool → (ℕ → O) → O → O
@@ -29,7 +29,7 @@ withTable d table lengths refuse rest =
     must (d .inRange && slotsFit table) (refuse invalid)
     (must (d .fits) (refuse unfit)
     (must (carriesJob (d .codec .alphabet) (d .codec .messageLen)) (refuse badPayload)
-    (must (isWhole table && lengths) (refuse wrongLength)
+    (must (hasTableLen table && lengths) (refuse wrongLength)
     rest)))
 
 -- what a job with a table of another length is refused with

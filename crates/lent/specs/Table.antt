@@ -86,15 +86,15 @@ pub record TableOf (bytes : List ℕ) (es : List Entry) : Type 0 where
   pub same : tableIn bytes ≡ es
 
 -- a number of 32 bits, as every job number is
-abbrev pub hasRoom : Entry → Bool
-hasRoom Free = true
-hasRoom (Open x) = ltb x (byteValues ^ 4)
-hasRoom (OnHold x) = ltb x (byteValues ^ 4)
-hasRoom (Cancelled x was) = ltb x (byteValues ^ 4)
+abbrev pub numberFits : Entry → Bool
+numberFits Free = true
+numberFits (Open x) = ltb x (byteValues ^ 4)
+numberFits (OnHold x) = ltb x (byteValues ^ 4)
+numberFits (Cancelled x was) = ltb x (byteValues ^ 4)
 
 pub record IsTable (es : List Entry) : Type 0 where
   pub many : length es ≡ slotCount
-  pub numbers : all hasRoom es ≡ true
+  pub numbers : all numberFits es ≡ true
 
 abbrev pub ReadsBack : Type 0
 ReadsBack = (es : List Entry) → IsTable es → TableOf (tableBytes es) es

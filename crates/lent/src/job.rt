@@ -11,7 +11,8 @@ use refusals::Refusal;
 
 // Refusals: 1 2 10 3 5 17 12 23 14.
 pub fn write(figures: Figures, table: &[u8], starts: &[u8], payload: &[u8], word: &mut [u8]) -> u8
-    ensures { λ r. ⌜ unwritten (now (word .exit)) r ≡ jobWriteBytesUnder (codingOf figures) (now (table .entry)) (now (starts .entry)) (now (payload .entry)) (now (word .entry)) ⌝ }
+    ensures { λ r. ⌜ unwritten (now (word .exit)) r
+        ≡ jobWriteBytesUnder (codingOf figures) (now (table .entry)) (now (starts .entry)) (now (payload .entry)) (now (word .entry)) ⌝ }
 {
     if table.len() != table::TABLE_LEN {
         return table::without_table(figures);

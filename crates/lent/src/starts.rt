@@ -4,13 +4,12 @@ ghost use Rattle.params.specs.Bridge.{codingOf};
 ghost use Rattle.params.specs.Given.{codingIn, Serves};
 ghost use Rattle.placements.specs.Bridge.{heldAs, coveredAs as foundAs};
 ghost use Rattle.lent.specs.Starts.{placementFrom};
-ghost use Rattle.lent.specs.Covering.{covers, coveredAs, coverBytesUnder, CoverFits};
+ghost use Rattle.lent.specs.Covering.{coverLent, coverLentAs, coverBytesUnder, CoverFits};
 use decoder::starts;
 use params::Figures;
 use params::Layout;
 use params::LayoutAnswer;
 use params::Params;
-use params::bytes::BYTE_VALUES;
 use placements::CoverAnswer;
 use placements::Placement;
 use refusals::Refusal;
@@ -19,22 +18,13 @@ use refusals::Refusal;
 pub fn placement_from(bytes: &[u8], m: u32) -> Placement
     ensures { λ r. ⌜ heldAs r ≡ placementFrom m (now (bytes .entry)) ⌝ }
 {
-    let mut found = Placement::none();
     if Params::MAX_BURSTS < m {
-        return found;
+        return Placement::none();
     }
     if bytes.len() != 2 * m as usize {
-        return found;
+        return Placement::none();
     }
-    found.count = m;
-    let mut j: usize = 0;
-    while j < m as usize {
-        let high = bytes[2 * j] as u64;
-        let low = bytes[2 * j + 1] as u64;
-        found.starts[j] = (high * BYTE_VALUES + low) as u16;
-        j += 1;
-    }
-    found
+    placements::starts::placement_at(bytes, 0, m as usize)
 }
 
 // The placement of as many starts as the figures have bursts: Construction B has one.
@@ -49,7 +39,7 @@ pub fn placement_under(figures: Figures, bytes: &[u8]) -> Placement
 
 // Covering, with the placement as bytes. Refusals: 1 2 3 4 6.
 pub fn cover_bytes(figures: Figures, map: &[u8], bytes: &mut [u8]) -> u8
-    ensures { λ r. ⌜ covers r (now (bytes .exit)) ≡ coverBytesUnder (codingOf figures) (now (map .entry)) (now (bytes .entry)) ⌝ }
+    ensures { λ r. ⌜ coverLent r (now (bytes .exit)) ≡ coverBytesUnder (codingOf figures) (now (map .entry)) (now (bytes .entry)) ⌝ }
 {
     let answer = figures.layout();
     match answer {
@@ -61,7 +51,7 @@ pub fn cover_bytes(figures: Figures, map: &[u8], bytes: &mut [u8]) -> u8
 // The same for figures that fit. Refusals: 3 4 6.
 fn cover_laid(layout: Layout, map: &[u8], bytes: &mut [u8]) -> u8
     requires { ⌜ Serves layout ⌝ }
-    ensures { λ r. ⌜ covers r (now (bytes .exit)) ≡ coverBytesUnder (codingIn layout) (now (map .entry)) (now (bytes .entry)) ⌝ }
+    ensures { λ r. ⌜ coverLent r (now (bytes .exit)) ≡ coverBytesUnder (codingIn layout) (now (map .entry)) (now (bytes .entry)) ⌝ }
 {
     if bytes.len() != 2 * layout.m {
         return Refusal::LENGTH;
@@ -73,7 +63,7 @@ fn cover_laid(layout: Layout, map: &[u8], bytes: &mut [u8]) -> u8
 // What covering answered, under any figures: its number, and the placement that covers the map as bytes.
 pub fn put_covered(found: CoverAnswer, bytes: &mut [u8]) -> u8
     requires { ⌜ CoverFits found (now bytes) ⌝ }
-    ensures { λ r. ⌜ covers r (now (bytes .exit)) ≡ coveredAs (now (bytes .entry)) (foundAs found) ⌝ }
+    ensures { λ r. ⌜ coverLent r (now (bytes .exit)) ≡ coverLentAs (now (bytes .entry)) (foundAs found) ⌝ }
 {
     if found.answer != Refusal::NONE {
         return found.answer;

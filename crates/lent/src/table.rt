@@ -12,8 +12,8 @@ use jobs::Slot;
 use params::Figures;
 use params::LayoutAnswer;
 use params::bytes;
-use params::bytes::BYTE_VALUES;
 use refusals::Refusal;
+use symbols::numbers::BYTE_VALUES;
 
 // A state and a number of four bytes.
 const SLOT_LEN: usize = 5;

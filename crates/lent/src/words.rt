@@ -46,7 +46,8 @@ pub fn encode(figures: Figures, starts: &[u8], message: &[u8], word: &mut [u8]) 
 
 // Word read with the starts as bytes. Refusals: 1 2 3 4 7 19 8 9 19.
 pub fn decode(figures: Figures, word: &[u8], message: &mut [u8], starts: &mut [u8]) -> u8
-    ensures { λ r. ⌜ lentAs r (now (message .exit)) (now (starts .exit)) ≡ exportedUnder (codingOf figures) (now (word .entry)) (now (message .entry)) (now (starts .entry)) ⌝ }
+    ensures { λ r. ⌜ lentAs r (now (message .exit)) (now (starts .exit))
+        ≡ exportedUnder (codingOf figures) (now (word .entry)) (now (message .entry)) (now (starts .entry)) ⌝ }
 {
     let answer = figures.layout();
     match answer {

@@ -4,9 +4,9 @@ use native.Mathlib.Omega.{arith}
 use Rattle.construction_a.specs.Figures.{maxWord}
 use Rattle.larsson.specs.Figures.{messageLen}
 use Rattle.larsson_params.specs.declared.LarssonLayout.{LarssonLayout}
-use Rattle.larsson_params.specs.Given.{Fitting}
+use Rattle.larsson_params.specs.Given.{LarssonLayoutFits}
 use Rattle.larsson_params.proofs.Shape.{bound}
 
-pub message-short : (l : LarssonLayout) → Fitting l → l .«message_len» ≤ maxWord
+pub message-short : (l : LarssonLayout) → LarssonLayoutFits l → l .«message_len» ≤ maxWord
 unfolding messageLen
 message-short l g = omega (arith, g .laid .len-is, bound l g .n-most)

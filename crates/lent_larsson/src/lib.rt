@@ -4,9 +4,9 @@ ghost use mathlib.Core.Path.{_≡_};
 ghost use Rattle.cells.specs.Outcomes.{unwritten};
 ghost use Rattle.larsson.specs.Outcomes.{coding};
 ghost use Rattle.params.specs.Bridge.{given};
-ghost use Rattle.larsson_params.specs.Given.{figuresOf, Fitting};
+ghost use Rattle.larsson_params.specs.Given.{larssonFiguresOf, LarssonLayoutFits};
 ghost use Rattle.decoder.specs.Exported.{lentAs, exportedUnder};
-ghost use Rattle.lent.specs.Covering.{covers, coverBytesUnder};
+ghost use Rattle.lent.specs.Covering.{coverLent, coverBytesUnder};
 ghost use Rattle.lent.specs.Words.{encodeBytesUnder, messageLenUnder, payloadLenUnder};
 use decoder::starts::put_decoded;
 use larsson_params::LarssonAnswer;
@@ -42,7 +42,8 @@ pub fn payload_len(figures: Params) -> u32
 
 // Word write with the starts as bytes. Refusals: 1 2 3 5 4.
 pub fn encode(figures: Params, starts: &[u8], message: &[u8], word: &mut [u8]) -> u8
-    ensures { λ r. ⌜ unwritten (now (word .exit)) r ≡ encodeBytesUnder (coding (given figures)) (now (starts .entry)) (now (message .entry)) (now (word .entry)) ⌝ }
+    ensures { λ r. ⌜ unwritten (now (word .exit)) r
+        ≡ encodeBytesUnder (coding (given figures)) (now (starts .entry)) (now (message .entry)) (now (word .entry)) ⌝ }
 {
     let at = placement_from(starts, figures.m);
     larsson_encoder::encode(figures, at, message, word)
@@ -50,7 +51,8 @@ pub fn encode(figures: Params, starts: &[u8], message: &[u8], word: &mut [u8]) -
 
 // Word read with the starts as bytes. Refusals: 1 2 3 4 21 8 9 19.
 pub fn decode(figures: Params, word: &[u8], message: &mut [u8], starts: &mut [u8]) -> u8
-    ensures { λ r. ⌜ lentAs r (now (message .exit)) (now (starts .exit)) ≡ exportedUnder (coding (given figures)) (now (word .entry)) (now (message .entry)) (now (starts .entry)) ⌝ }
+    ensures { λ r. ⌜ lentAs r (now (message .exit)) (now (starts .exit))
+        ≡ exportedUnder (coding (given figures)) (now (word .entry)) (now (message .entry)) (now (starts .entry)) ⌝ }
 {
     let answer = larsson_params::figures(figures.n, figures.q, figures.m, figures.b);
     match answer {
@@ -61,8 +63,9 @@ pub fn decode(figures: Params, word: &[u8], message: &mut [u8], starts: &mut [u8
 
 // The same for figures that fit. Refusals: 3 4 21 8 9 19.
 fn decode_laid(layout: LarssonLayout, word: &[u8], message: &mut [u8], starts: &mut [u8]) -> u8
-    requires { ⌜ Fitting layout ⌝ }
-    ensures { λ r. ⌜ lentAs r (now (message .exit)) (now (starts .exit)) ≡ exportedUnder (coding (figuresOf layout)) (now (word .entry)) (now (message .entry)) (now (starts .entry)) ⌝ }
+    requires { ⌜ LarssonLayoutFits layout ⌝ }
+    ensures { λ r. ⌜ lentAs r (now (message .exit)) (now (starts .exit))
+        ≡ exportedUnder (coding (larssonFiguresOf layout)) (now (word .entry)) (now (message .entry)) (now (starts .entry)) ⌝ }
 {
     if starts.len() != 2 * layout.m {
         return Refusal::LENGTH;
@@ -73,7 +76,7 @@ fn decode_laid(layout: LarssonLayout, word: &[u8], message: &mut [u8], starts: &
 
 // Covering, with the placement as bytes. Refusals: 1 2 3 4 6.
 pub fn cover_bytes(figures: Params, map: &[u8], bytes: &mut [u8]) -> u8
-    ensures { λ r. ⌜ covers r (now (bytes .exit)) ≡ coverBytesUnder (coding (given figures)) (now (map .entry)) (now (bytes .entry)) ⌝ }
+    ensures { λ r. ⌜ coverLent r (now (bytes .exit)) ≡ coverBytesUnder (coding (given figures)) (now (map .entry)) (now (bytes .entry)) ⌝ }
 {
     let answer = larsson_params::figures(figures.n, figures.q, figures.m, figures.b);
     match answer {
@@ -84,8 +87,8 @@ pub fn cover_bytes(figures: Params, map: &[u8], bytes: &mut [u8]) -> u8
 
 // The same for figures that fit. Refusals: 3 4 6.
 fn cover_laid(layout: LarssonLayout, map: &[u8], bytes: &mut [u8]) -> u8
-    requires { ⌜ Fitting layout ⌝ }
-    ensures { λ r. ⌜ covers r (now (bytes .exit)) ≡ coverBytesUnder (coding (figuresOf layout)) (now (map .entry)) (now (bytes .entry)) ⌝ }
+    requires { ⌜ LarssonLayoutFits layout ⌝ }
+    ensures { λ r. ⌜ coverLent r (now (bytes .exit)) ≡ coverBytesUnder (coding (larssonFiguresOf layout)) (now (map .entry)) (now (bytes .entry)) ⌝ }
 {
     if bytes.len() != 2 * layout.m {
         return Refusal::LENGTH;

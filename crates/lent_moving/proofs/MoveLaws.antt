@@ -16,12 +16,12 @@ use Rattle.construction_a.specs.Figures.{fits as fitsA, messageLen as messageLe
 use Rattle.larsson.specs.Figures.{fits as fitsLarsson, messageLen as messageLenLarsson}
 use Rattle.params.specs.declared.Layout.{Layout}
 use Rattle.larsson_params.specs.declared.LarssonLayout.{LarssonLayout}
-use Rattle.larsson_params.specs.Given.{figuresOf}
+use Rattle.larsson_params.specs.Given.{larssonFiguresOf}
 use Rattle.jobs.specs.Table.{twice}
 use Rattle.payloads.specs.Payload.{carriesJob}
 use Rattle.jobcodec.proofs.Outcomes.{both-true, both-false}
 use Rattle.moving.specs.Move.{move, moveOut}
-use Rattle.moving.specs.Given.{Ready}
+use Rattle.moving.specs.Given.{BothReady}
 use Rattle.moving.specs.Both.{fromFigures}
 use Rattle.moving.proofs.FitBoth.{fits-newer}
 use Rattle.lent.specs.Table.{tableLen, statesKnown, tableIn}
@@ -50,7 +50,7 @@ without-refused f strip moved a h =
     go true true true false = refl
     go true true true true = refl
 
-pub without-fit : (f : Params) (newer : Layout) (older : LarssonLayout) (strip moved : ℕ) → figuresOf older ≡ f → Ready newer older strip moved
+pub without-fit : (f : Params) (newer : Layout) (older : LarssonLayout) (strip moved : ℕ) → larssonFiguresOf older ≡ f → BothReady newer older strip moved
     → wrongLength ≡ moveWithoutTable f
 unfolding moveWithoutTable
 without-fit f newer older strip moved same r =

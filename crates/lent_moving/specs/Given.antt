@@ -8,7 +8,7 @@ use Rattle.construction_a.specs.Figures.{fits as fitsA, messageLen as messageLe
 use Rattle.larsson.specs.Figures.{fits as fitsLarsson, messageLen as messageLenLarsson}
 use Rattle.payloads.specs.Payload.{carriesJob}
 use Rattle.lent.specs.Table.{statesKnown}
-use Rattle.lent.specs.Jobs.{isWhole}
+use Rattle.lent.specs.Jobs.{hasTableLen}
 
 -- what the figures alone are refused with, 1 2 10, or else 3 for a table of another length
 unfoldable pub moveWithoutTable : Params → ℕ
@@ -21,6 +21,6 @@ moveWithoutTable f =
 -- those, or 1 for an unknown state; 0 where each slot can be read. That no number stands twice is left to the move.
 unfoldable pub tableNumber : Params → List ℕ → ℕ
 tableNumber f table =
-    must (isWhole table) (moveWithoutTable f)
+    must (hasTableLen table) (moveWithoutTable f)
     (must (statesKnown table) invalid
     served)

@@ -14,7 +14,7 @@ use Rattle.larsson.specs.Codec.{larsson}
 use Rattle.payloads.specs.Payload.{carriesJob}
 use Rattle.moving.specs.Move.{moveOut}
 use Rattle.lent.specs.Table.{tableIn}
-use Rattle.lent.specs.Jobs.{isWhole, slotsFit}
+use Rattle.lent.specs.Jobs.{hasTableLen, slotsFit}
 
 -- "1 2 10 3", where 3 stands for the bytes of the table too
 unfoldable pub moveBytesOut : Params → Codec → Codec → List ℕ → List ℕ → List ℕ → Encoded
@@ -22,7 +22,7 @@ moveBytesOut f from to table w out =
     must (inRange f && slotsFit table) (unwritten out invalid)
     (must (fitsA f && fitsLarsson f) (unwritten out unfit)
     (must (carriesJob (from .alphabet) (from .messageLen) && carriesJob (to .alphabet) (to .messageLen)) (unwritten out badPayload)
-    (must (isWhole table) (unwritten out wrongLength)
+    (must (hasTableLen table) (unwritten out wrongLength)
     (moveOut f from to (tableIn table) w out))))
 
 -- "A job read from an older strip should be written as a Construction A strip"

@@ -27,7 +27,7 @@ use Rattle.prescription.specs.Eyes.{prescriptionFits}
 use Rattle.prescriptioncodec.specs.Laws.{ReadBackUnder}
 use Rattle.prescriptioncodec.specs.PrescriptionWrite.{prescriptionWriteUnder}
 use Rattle.prescriptioncodec.proofs.RoundTrip.{prescriptions-read-back}
-use Rattle.lent.specs.Jobs.{isWhole, slotsFit}
+use Rattle.lent.specs.Jobs.{hasTableLen, slotsFit}
 use Rattle.lent_prescriptions.specs.Eyes.{powersLent}
 use Rattle.lent_prescriptions.specs.Prescriptions.{prescriptionWriteBytesUnder, handedMarks, handedPowers, haveRoom, prescriptionReadBytesUnder, LentReadsBack}
 use Rattle.lent.specs.Starts.{startsFrom}
@@ -62,14 +62,14 @@ unfolding prescriptionWriteBytesUnder isRefusal any
 passed-all d few-bursts table starts n p out e =
     let carries = carriesJob (d .codec .alphabet) (d .codec .messageLen) in
     let rest = prescriptionWriteUnder d (tableIn table) (held (startsFrom starts)) n p out in
-    let three = must (isWhole table && eqb (length starts) (2 * d .bursts)) (unwritten out wrongLength) rest in
+    let three = must (hasTableLen table && eqb (length starts) (2 * d .bursts)) (unwritten out wrongLength) rest in
     let ten = must carries (unwritten out badPayload) three in
     let p₁ = passed (d .inRange && slotsFit table) out invalid (must (d .fits) (unwritten out unfit) ten) refl e in
     let p₂ = passed (d .fits) out unfit ten refl (p₁ .1) in
     let p₃ = passed carries out badPayload three refl (p₂ .1) in
-    let p₄ = passed (isWhole table && eqb (length starts) (2 * d .bursts)) out wrongLength rest refl (p₃ .1) in
+    let p₄ = passed (hasTableLen table && eqb (length starts) (2 * d .bursts)) out wrongLength rest refl (p₃ .1) in
     let ranges = both (d .inRange) (slotsFit table) (p₁ .0) in
-    let lengths = both (isWhole table) (eqb (length starts) (2 * d .bursts)) (p₄ .0) in
+    let lengths = both (hasTableLen table) (eqb (length starts) (2 * d .bursts)) (p₄ .0) in
     let slots : (statesKnown table && not (twice (tableIn table))) ≡ true =
     subst (λ (b : Bool). must b true (statesKnown table && not (twice (tableIn table))) ≡ true) (lengths .0) (ranges .1) in
     record {

@@ -12,14 +12,13 @@ use jobs::JobTable;
 use lent::starts;
 use lent::table;
 use params::Figures;
-use params::bytes::BYTE_VALUES;
 use prescription::texts::Prescription;
 use prescriptioncodec::ReadAnswer;
 use refusals::Refusal;
+use symbols::numbers::BYTE_VALUES;
+use symbols::numbers::NUMBER_BYTES;
 
 // The job number's bytes, then kind and axis of both eyes.
-const NUMBER_LEN: usize = 4;
-
 const MARKS_LEN: usize = 8;
 
 // Sphere and cylinder of both eyes, and the pupil distance.
@@ -37,7 +36,8 @@ pub fn prescription_from(
     left_axis: u8,
     distance: f64,
 ) -> Prescription
-    ensures { λ r. ⌜ r ≡ prescriptionFrom (eyeFrom «right_kind» «right_sphere» «right_cylinder» «right_axis») (eyeFrom «left_kind» «left_sphere» «left_cylinder» «left_axis») distance ⌝ }
+    ensures { λ r. ⌜ r ≡ prescriptionFrom (eyeFrom «right_kind» «right_sphere» «right_cylinder» «right_axis»)
+        (eyeFrom «left_kind» «left_sphere» «left_cylinder» «left_axis») distance ⌝ }
 {
     let right = eyes::eye_from(right_kind, right_sphere, right_cylinder, right_axis);
     let left = eyes::eye_from(left_kind, left_sphere, left_cylinder, left_axis);
@@ -57,7 +57,8 @@ pub fn write(
     prescription: Prescription,
     word: &mut [u8],
 ) -> u8
-    ensures { λ r. ⌜ unwritten (now (word .exit)) r ≡ prescriptionWriteBytesUnder (codingOf figures) (now (table .entry)) (now (starts .entry)) number prescription (now (word .entry)) ⌝ }
+    ensures { λ r. ⌜ unwritten (now (word .exit)) r
+        ≡ prescriptionWriteBytesUnder (codingOf figures) (now (table .entry)) (now (starts .entry)) number prescription (now (word .entry)) ⌝ }
 {
     if table.len() != table::TABLE_LEN {
         return table::without_table(figures);
@@ -73,7 +74,8 @@ pub fn write(
 // Reads a found word with the table as bytes, and puts its job number and its prescription into `marks` and `powers`. Refusals: 1 2, 10 for too few
 // bytes, 3 4 7 19 8 9 19, 10, 16, 12 23 14.
 pub fn read(figures: Figures, table: &[u8], word: &[u8], marks: &mut [u8], powers: &mut [f64]) -> u8
-    ensures { λ r. ⌜ powersLent (now (marks .exit)) (now (powers .exit)) r ≡ prescriptionReadBytesUnder (codingOf figures) (now (table .entry)) (now (word .entry)) (now (marks .entry)) (now (powers .entry)) ⌝ }
+    ensures { λ r. ⌜ powersLent (now (marks .exit)) (now (powers .exit)) r
+        ≡ prescriptionReadBytesUnder (codingOf figures) (now (table .entry)) (now (word .entry)) (now (marks .entry)) (now (powers .entry)) ⌝ }
 {
     if table.len() != table::TABLE_LEN {
         return table::without_table(figures);
@@ -93,7 +95,8 @@ fn read_held(
     marks: &mut [u8],
     powers: &mut [f64],
 ) -> u8
-    ensures { λ r. ⌜ powersLent (now (marks .exit)) (now (powers .exit)) r ≡ prescriptionReadLent (codingOf figures) (entries table) (now (word .entry)) (now (marks .entry)) (now (powers .entry)) ⌝ }
+    ensures { λ r. ⌜ powersLent (now (marks .exit)) (now (powers .exit)) r
+        ≡ prescriptionReadLent (codingOf figures) (entries table) (now (word .entry)) (now (marks .entry)) (now (powers .entry)) ⌝ }
 {
     if marks.len() != MARKS_LEN {
         return without_room(figures, table);
@@ -127,7 +130,7 @@ fn put_marks(number: u32, prescription: Prescription, marks: &mut [u8])
     requires { ⌜ length (now marks) ≡ 8 ⌝ }
     ensures { λ _. ⌜ now (marks .exit) ≡ handedMarks number prescription ⌝ }
 {
-    payloads::spell_value(BYTE_VALUES, number as u64, &mut marks[..NUMBER_LEN]);
+    payloads::spell_value(BYTE_VALUES, number as u64, &mut marks[..NUMBER_BYTES]);
     let right = prescription.right;
     let left = prescription.left;
     marks[4] = eyes::kind_of(right);

@@ -33,7 +33,8 @@ pub fn put_figures(
     message_len: u64,
 ) -> usize
     requires { ⌜ maxLine ≤ length (now line) ⌝ }
-    ensures line { λ _. ⌜ now (line .exit) ≡ overwrite 0 (servedLine letter (decimal placements ∷ decimal tail ∷ decimal «message_len» ∷ [])) (now (line .entry)) ⌝ }
+    ensures line { λ _. ⌜ now (line .exit)
+        ≡ overwrite 0 (servedLine letter (decimal placements ∷ decimal tail ∷ decimal «message_len» ∷ [])) (now (line .entry)) ⌝ }
     ensures len { λ r. ⌜ r ≡ length (servedLine letter (decimal placements ∷ decimal tail ∷ decimal «message_len» ∷ [])) ⌝ }
 {
     let at = put_head(line, letter, Refusal::NONE);
@@ -57,7 +58,8 @@ pub fn put_word(line: &mut [u8], word: &[u8]) -> usize
 // After R the number and text in hex.
 pub fn put_payload(line: &mut [u8], payload: &[u8]) -> usize
     requires { ⌜ (maxLine ≤ length (now line)) × (length (now payload) ≤ maxWord) × (4 ≤ length (now payload)) ⌝ }
-    ensures line { λ _. ⌜ now (line .exit) ≡ overwrite 0 (servedLine letterR (hex (take 4 (now (payload .entry))) ∷ hex (drop 4 (now (payload .entry))) ∷ [])) (now (line .entry)) ⌝ }
+    ensures line { λ _. ⌜ now (line .exit)
+        ≡ overwrite 0 (servedLine letterR (hex (take 4 (now (payload .entry))) ∷ hex (drop 4 (now (payload .entry))) ∷ [])) (now (line .entry)) ⌝ }
     ensures len { λ r. ⌜ r ≡ length (servedLine letterR (hex (take 4 (now (payload .entry))) ∷ hex (drop 4 (now (payload .entry))) ∷ [])) ⌝ }
 {
     let at = put_head(line, b'R', Refusal::NONE);

@@ -16,23 +16,28 @@ use Rattle.cells.specs.Outcomes.{Coding, Encoded, unwritten, unserved, figuresU
 use Rattle.cells.proofs.Outcomes.{refused-alike}
 use Rattle.construction_a.specs.Figures.{Params, maxWord, maxAlphabet, inRange}
 use Rattle.construction_a.specs.Figures.{fits as fitsA, messageLen as messageLenA}
+use Rattle.construction_a.specs.DemandTwo.{constructionA}
 use Rattle.construction_a.specs.Outcomes.{coding as codingA}
 use Rattle.construction_a.proofs.Figures.{Ranged, ranged}
 use Rattle.larsson.specs.Figures.{fits as fitsLarsson, messageLen as messageLenLarsson}
+use Rattle.larsson.specs.Codec.{larsson}
 use Rattle.larsson.specs.Outcomes.{coding as codingLarsson}
 use Rattle.params.specs.declared.Layout.{Layout}
 use Rattle.params.specs.Answer.{HasNumbers}
 use Rattle.params.specs.Given.{codingIn, Serves}
 use Rattle.params.proofs.Either.{in-order, numbers-in}
 use Rattle.larsson_params.specs.declared.LarssonLayout.{LarssonLayout}
-use Rattle.larsson_params.specs.Given.{figuresOf, Fitting}
+use Rattle.larsson_params.specs.Given.{larssonFiguresOf, LarssonLayoutFits}
 use Rattle.jobs.specs.declared.Entry.{Entry}
 use Rattle.jobs.specs.Table.{twice}
 use Rattle.payloads.specs.Payload.{carriesJob}
 use Rattle.jobcodec.proofs.Outcomes.{both-false, both-true}
 use Rattle.moving.specs.Move.{moveRead, move, moveOut}
-use Rattle.moving.specs.Given.{Ready}
+use Rattle.moving.specs.Way.{codingFrom, codingTo, codecFrom, codecTo}
+use Rattle.moving.specs.Given.{BothReady, LaidBoth}
 use Rattle.moving.specs.Both.{afterFitting, fromFigures}
+use Rattle.moving.specs.declared.way.Way.{Way}
+use Rattle.moving.specs.declared.way.Way.the-variants.{ToA, ToLarsson}
 use Rattle.moving.proofs.Steps.{Of}
 use Rattle.moving.proofs.Figures.{movable-a, movable-larsson}
 use Rattle.moving.proofs.Figures.{Fitting as Past}
@@ -61,20 +66,20 @@ module _ (f : Params) (strip moved a : ℕ) (refuse : ℕ → Encoded) (rest : E
 
 -- ---- Figures that fit both
 
-module _ (newer : Layout) (older : LarssonLayout) (serves : Serves newer) (fitting : Fitting older) (alike : codingIn newer ≡ codingA (figuresOf older)) where
+module _ (newer : Layout) (older : LarssonLayout) (serves : Serves newer) (fitting : LarssonLayoutFits older) (alike : codingIn newer ≡ codingA (larssonFiguresOf older)) where
   is : HasNumbers (codingIn newer) newer
   is = numbers-in newer serves
 
-  bounds : Ranged (figuresOf older)
-  bounds = ranged (figuresOf older) (fitting .range)
+  bounds : Ranged (larssonFiguresOf older)
+  bounds = ranged (larssonFiguresOf older) (fitting .range)
 
   q-same : newer .q ≡ older .q
   q-same = is .alphabet-is ∙ ap (λ (d : Coding). d .codec .alphabet) alike
 
-  pub newer-len : newer .«message_len» ≡ messageLenA (figuresOf older)
+  pub newer-len : newer .«message_len» ≡ messageLenA (larssonFiguresOf older)
   newer-len = is .len-is ∙ ap (λ (d : Coding). d .codec .messageLen) alike
 
-  pub fits-newer : fitsA (figuresOf older) ≡ true
+  pub fits-newer : fitsA (larssonFiguresOf older) ≡ true
   fits-newer = sym (ap (λ (d : Coding). d .fits) alike) ∙ in-order newer serves .1
 
   pub newer-few : newer .q ≤ maxAlphabet
@@ -84,10 +89,10 @@ module _ (newer : Layout) (older : LarssonLayout) (serves : Serves newer) (fitti
   older-few = bounds .q-most
 
   module _ (count : ℕ) where
-    newer-is : count ≡ payloadLen (newer .q) (newer .«message_len») → count ≡ payloadLen (older .q) (messageLenA (figuresOf older))
+    newer-is : count ≡ payloadLen (newer .q) (newer .«message_len») → count ≡ payloadLen (older .q) (messageLenA (larssonFiguresOf older))
     newer-is e = e ∙ ap₂ payloadLen q-same newer-len
 
-    older-is : count ≡ payloadLen (older .q) (older .«message_len») → count ≡ payloadLen (older .q) (messageLenLarsson (figuresOf older))
+    older-is : count ≡ payloadLen (older .q) (older .«message_len») → count ≡ payloadLen (older .q) (messageLenLarsson (larssonFiguresOf older))
     older-is e = e ∙ ap (payloadLen (older .q)) (fitting .laid .len-is)
 
     few : (k : ℕ) → count ≡ payloadLen (older .q) k → count < 5 → carriesJob (older .q) k ≡ false
@@ -100,43 +105,43 @@ module _ (newer : Layout) (older : LarssonLayout) (serves : Serves newer) (fitti
 
   -- "10 3"
   module _ (strip moved x : ℕ) (x-is : x ≡ payloadLen (newer .q) (newer .«message_len»)) where
-    pub newer-carries-not : x < 5 → (refuse : ℕ → Encoded) (rest : Encoded) → fromFigures (figuresOf older) strip moved refuse rest ≡ refuse badPayload
-    newer-carries-not l refuse rest = rw (fitting .range, fits-newer, fitting .fit, few x (messageLenA (figuresOf older)) (newer-is x x-is) l)
+    pub newer-carries-not : x < 5 → (refuse : ℕ → Encoded) (rest : Encoded) → fromFigures (larssonFiguresOf older) strip moved refuse rest ≡ refuse badPayload
+    newer-carries-not l refuse rest = rw (fitting .range, fits-newer, fitting .fit, few x (messageLenA (larssonFiguresOf older)) (newer-is x x-is) l)
 
     module _ (x-five : 5 ≤ x) (y : ℕ) (y-is : y ≡ payloadLen (older .q) (older .«message_len»)) where
-      carries-newer : carriesJob (older .q) (messageLenA (figuresOf older)) ≡ true
-      carries-newer = enough x (messageLenA (figuresOf older)) (newer-is x x-is) x-five
+      carries-newer : carriesJob (older .q) (messageLenA (larssonFiguresOf older)) ≡ true
+      carries-newer = enough x (messageLenA (larssonFiguresOf older)) (newer-is x x-is) x-five
 
-      pub older-carries-not : y < 5 → (refuse : ℕ → Encoded) (rest : Encoded) → fromFigures (figuresOf older) strip moved refuse rest ≡ refuse badPayload
+      pub older-carries-not : y < 5 → (refuse : ℕ → Encoded) (rest : Encoded) → fromFigures (larssonFiguresOf older) strip moved refuse rest ≡ refuse badPayload
       older-carries-not l refuse rest =
-          rw (fitting .range, fits-newer, fitting .fit, carries-newer, few y (messageLenLarsson (figuresOf older)) (older-is y y-is) l)
+          rw (fitting .range, fits-newer, fitting .fit, carries-newer, few y (messageLenLarsson (larssonFiguresOf older)) (older-is y y-is) l)
 
       module _ (y-five : 5 ≤ y) where
-        carries-older : carriesJob (older .q) (messageLenLarsson (figuresOf older)) ≡ true
-        carries-older = enough y (messageLenLarsson (figuresOf older)) (older-is y y-is) y-five
+        carries-older : carriesJob (older .q) (messageLenLarsson (larssonFiguresOf older)) ≡ true
+        carries-older = enough y (messageLenLarsson (larssonFiguresOf older)) (older-is y y-is) y-five
 
         pub strip-other : strip ≢ older .n → (refuse : ℕ → Encoded) (rest : Encoded)
-            → fromFigures (figuresOf older) strip moved refuse rest ≡ refuse wrongLength
+            → fromFigures (larssonFiguresOf older) strip moved refuse rest ≡ refuse wrongLength
         strip-other n refuse rest = rw (fitting .range, fits-newer, fitting .fit, carries-newer, carries-older, eqb-other strip (older .n) n)
 
         pub moved-other : strip ≡ older .n → moved ≢ older .n → (refuse : ℕ → Encoded) (rest : Encoded)
-            → fromFigures (figuresOf older) strip moved refuse rest ≡ refuse wrongLength
+            → fromFigures (larssonFiguresOf older) strip moved refuse rest ≡ refuse wrongLength
         moved-other e n refuse rest =
             rw (fitting .range, fits-newer, fitting .fit, carries-newer, carries-older, eqb-same strip (older .n) e, eqb-other moved (older .n) n)
 
-        pub both-ready : strip ≡ older .n → moved ≡ older .n → Ready newer older strip moved
+        pub both-ready : strip ≡ older .n → moved ≡ older .n → BothReady newer older strip moved
         both-ready s e =
             record { serves = serves; fitting = fitting; alike = alike; carries-a = carries-newer; carries-larsson = carries-older; complete = s; lent = e }
 
 -- ---- What both codes then are
 
 -- no message is longer than the longest word
-pub older-short : (older : LarssonLayout) → Fitting older → older .«message_len» ≤ maxWord
+older-short : (older : LarssonLayout) → LarssonLayoutFits older → older .«message_len» ≤ maxWord
 unfolding messageLenLarsson
-older-short older g = omega (arith, g .laid .len-is, ranged (figuresOf older) (g .range) .n-most)
+older-short older g = omega (arith, g .laid .len-is, ranged (larssonFiguresOf older) (g .range) .n-most)
 
 -- the orders of both ways are past "1 2"
-pub past-both : (f : Params) (es : List Entry) (newer : Layout) (older : LarssonLayout) (strip moved : ℕ) → figuresOf older ≡ f → Ready newer older strip moved
+pub past-both : (f : Params) (es : List Entry) (newer : Layout) (older : LarssonLayout) (strip moved : ℕ) → larssonFiguresOf older ≡ f → BothReady newer older strip moved
     → twice es ≡ false → Past f es
 past-both f es newer older strip moved same r once =
     subst (λ (p : Params). Past p es) same
@@ -147,14 +152,14 @@ past-both f es newer older strip moved same r once =
       fit-larsson = r .fitting .fit;
     })
 
-module _ (newer : Layout) (older : LarssonLayout) (strip moved : ℕ) (r : Ready newer older strip moved) where
-  pub of-older : Of (figuresOf older) (codingLarsson (figuresOf older))
+module _ (newer : Layout) (older : LarssonLayout) (strip moved : ℕ) (r : BothReady newer older strip moved) where
+  of-older : Of (larssonFiguresOf older) (codingLarsson (larssonFiguresOf older))
   of-older =
       let g = r .fitting in
       record {
         range = g .range;
         fit = g .fit;
-        movable = movable-larsson (figuresOf older) (g .range) (g .fit);
+        movable = movable-larsson (larssonFiguresOf older) (g .range) (g .fit);
         placed = λ _. refl;
         bursts = refl;
         burst = refl;
@@ -164,26 +169,43 @@ module _ (newer : Layout) (older : LarssonLayout) (strip moved : ℕ) (r : Ready
         carries = r .carries-larsson;
       }
 
-  newer-like : Of (figuresOf older) (codingA (figuresOf older))
+  of-newer : Of (larssonFiguresOf older) (codingA (larssonFiguresOf older))
   unfolding messageLenA
-  newer-like =
+  of-newer =
       let i = r .fitting .range in
       let h = fits-newer newer older (r .serves) (r .fitting) (r .alike) in
       record {
         range = i;
         fit = h;
-        movable = movable-a (figuresOf older) i h;
+        movable = movable-a (larssonFiguresOf older) i h;
         placed = λ _. refl;
         bursts = refl;
         burst = refl;
         len = refl;
         alphabet = refl;
-        short = omega (arith, ranged (figuresOf older) i .n-most);
+        short = omega (arith, ranged (larssonFiguresOf older) i .n-most);
         carries = r .carries-a;
       }
 
-  pub of-newer : Of (figuresOf older) (codingIn newer)
-  of-newer = subst (Of (figuresOf older)) (sym (r .alike)) newer-like
+  pub of-source : (way : Way) → Of (larssonFiguresOf older) (codingFrom way (larssonFiguresOf older))
+  of-source ToA = of-older
+  of-source ToLarsson = of-newer
+
+  pub of-target : (way : Way) → Of (larssonFiguresOf older) (codingTo way (larssonFiguresOf older))
+  of-target ToA = of-newer
+  of-target ToLarsson = of-older
+
+  pub laid-both : LaidBoth newer older
+  laid-both =
+      record {
+        serves = r .serves;
+        fitting = r .fitting;
+        alike = r .alike;
+        carries-a = r .carries-a;
+        carries-larsson = r .carries-larsson;
+        complete = refl;
+        lent = refl;
+      }
 
 -- ---- The orders of moving
 
@@ -192,7 +214,7 @@ module _ (f : Params) (from to : Codec) (es : List Entry) (w out : List ℕ) whe
   unfolding moveOut
   out-twice e = rw (e, both-false (inRange f))
 
-  pub out-refused : (a : ℕ) → twice es ≡ false → from .wordLen ≡ f .n → to .wordLen ≡ f .n
+  out-refused : (a : ℕ) → twice es ≡ false → from .wordLen ≡ f .n → to .wordLen ≡ f .n
       → (carriesJob (from .alphabet) (from .messageLen) && carriesJob (to .alphabet) (to .messageLen))
       ≡ (carriesJob (f .q) (messageLenA f) && carriesJob (f .q) (messageLenLarsson f))
       → ((refuse : ℕ → Encoded) (rest : Encoded) → fromFigures f (length w) (length out) refuse rest ≡ refuse a) → moveOut f from to es w out ≡ unwritten out a
@@ -210,3 +232,12 @@ module _ (f : Params) (from to : Codec) (es : List Entry) (w out : List ℕ) whe
           rest)))
           ≡ unwritten out a
       go x y c e₁ e₂ e₃ rest = rw (e₁, e₂, e₃) (h (unwritten out) rest)
+
+-- either way
+module _ (f : Params) (es : List Entry) (w out : List ℕ) (a : ℕ) (once : twice es ≡ false)
+    (h : (refuse : ℕ → Encoded) (rest : Encoded) → fromFigures f (length w) (length out) refuse rest ≡ refuse a) where
+  pub way-refused : (way : Way) → moveOut f (codecFrom way f) (codecTo way f) es w out ≡ unwritten out a
+  way-refused ToA =
+      out-refused f (larsson f) (constructionA f) es w out a once refl refl
+      (swapped (carriesJob (f .q) (messageLenLarsson f)) (carriesJob (f .q) (messageLenA f))) h
+  way-refused ToLarsson = out-refused f (constructionA f) (larsson f) es w out a once refl refl refl h

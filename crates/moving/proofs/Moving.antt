@@ -21,7 +21,7 @@ use Rattle.payloads.proofs.Payload.{length-message, message-symbols, payload-ba
 use Rattle.jobcodec.specs.JobWrite.{jobStatus, whereOpen}
 use Rattle.jobcodec.specs.JobRead.{jobReading}
 use Rattle.moving.specs.Resize.{resized, hasRoom}
-use Rattle.moving.specs.Move.{bytesOf, written, jobWord, moveJob, moveMessage, moveRead, move}
+use Rattle.moving.specs.Move.{payloadBytes, servedWord, jobWord, moveJob, moveMessage, moveRead, move}
 use Rattle.moving.specs.ThereAndBack.{SpoiltFrom, Returned, SameJob}
 use Rattle.moving.proofs.Resize.{length-resized, resized-bytes, room-back, resized-back, number-resized}
 
@@ -37,7 +37,7 @@ pub record Movable (c : Codec) : Type 0 where
 abbrev pub WritesJobs : Codec → List Entry → (Held → List ℕ → List ℕ → Encoded) → Type 0
 WritesJobs c es write = (starts payload out : List ℕ) → c .placed starts ≡ true → carriesJob (c .alphabet) (c .messageLen) ≡ true
     → IsPayload (c .alphabet) (c .messageLen) payload → isJob (jobNumber payload) ≡ true → jobStatus es payload ≡ opened → length out ≡ c .wordLen
-    → write (held starts) payload out ≡ written (jobWord c starts payload)
+    → write (held starts) payload out ≡ servedWord (jobWord c starts payload)
 
 -- ---- An accepted move, test by test
 
@@ -50,7 +50,7 @@ pub record Passed (from to : Codec) (es : List Entry) (w out starts message : Li
   pub read : from .decode w ≡ accepted starts message
   pub spells : spellsPayload (from .alphabet) (from .messageLen) message ≡ true
   pub is-open : jobStatus es (payloadIn (from .alphabet) (from .messageLen) message) ≡ opened
-  pub room : hasRoom (bytesOf to) (payloadIn (from .alphabet) (from .messageLen) message) ≡ true
+  pub room : hasRoom (payloadBytes to) (payloadIn (from .alphabet) (from .messageLen) message) ≡ true
   pub number : isJob (jobNumber (payloadIn (from .alphabet) (from .messageLen) message)) ≡ true
 
 -- a test of an order that ends in acceptance was passed
@@ -90,13 +90,13 @@ module _ (from to : Codec) (es : List Entry) (w out : List ℕ) where
       go (refused a) d e c₁ c₂ l₁ l₂ s = absurd (numbered a d e)
       go (accepted starts ms) d e c₁ c₂ l₁ l₂ s =
           let y = payloadIn (from .alphabet) (from .messageLen) ms in
-          let last = written (jobWord to starts (resized (bytesOf to) y)) in
+          let last = servedWord (jobWord to starts (resized (payloadBytes to) y)) in
           let zero = must (isJob (jobNumber y)) (unwritten out numberZero) last in
-          let surplus = must (hasRoom (bytesOf to) y) (unwritten out surplusBytes) zero in
+          let surplus = must (hasRoom (payloadBytes to) y) (unwritten out surplusBytes) zero in
           let status = whereOpen (jobStatus es y) (unwritten out) surplus in
           let p₄ = passed (spellsPayload (from .alphabet) (from .messageLen) ms) out badPayload status (λ z. omega arith) e in
           let p₅ = found-open (jobStatus es y) out surplus (p₄ .1) in
-          let p₆ = passed (hasRoom (bytesOf to) y) out surplusBytes zero (λ z. omega arith) (p₅ .1) in
+          let p₆ = passed (hasRoom (payloadBytes to) y) out surplusBytes zero (λ z. omega arith) (p₅ .1) in
           let p₇ = passed (isJob (jobNumber y)) out numberZero last (λ z. omega arith) (p₆ .1) in (
             starts,
             ms,
@@ -116,7 +116,7 @@ module _ (from to : Codec) (es : List Entry) (w out : List ℕ) where
 
   -- and what it then gives
   pub passed-move : (starts ms : List ℕ) → Passed from to es w out starts ms
-      → move from to es w out ≡ written (jobWord to starts (resized (bytesOf to) (payloadIn (from .alphabet) (from .messageLen) ms)))
+      → move from to es w out ≡ servedWord (jobWord to starts (resized (payloadBytes to) (payloadIn (from .alphabet) (from .messageLen) ms)))
   unfolding move moveMessage moveJob
   passed-move starts ms p =
       rw (
@@ -155,7 +155,7 @@ module _ (from to : Codec) (ok-from : Movable from) (ok-to : Movable to) (alike 
   y = payloadIn (from .alphabet) (from .messageLen) ms
 
   z : List ℕ
-  z = resized (bytesOf to) y
+  z = resized (payloadBytes to) y
 
   found : Word from w
   found = record { complete = p .complete; symbols = p .symbols }
@@ -169,7 +169,7 @@ module _ (from to : Codec) (ok-from : Movable from) (ok-to : Movable to) (alike 
 
   z-is : IsPayload (to .alphabet) (to .messageLen) z
   unfolding z
-  z-is = record { count = length-resized (bytesOf to) y; bytes = resized-bytes (bytesOf to) y (y-is .bytes) }
+  z-is = record { count = length-resized (payloadBytes to) y; bytes = resized-bytes (payloadBytes to) y (y-is .bytes) }
 
   -- its message is the one that was read
   spelled : messageOf (from .alphabet) (from .messageLen) y ≡ ms
@@ -197,7 +197,7 @@ module _ (from to : Codec) (ok-from : Movable from) (ok-to : Movable to) (alike 
   same-number : jobNumber z ≡ jobNumber y
   unfolding z
   same-number =
-      number-resized (bytesOf to) y (omega (arith, y-is .count, carries-five (from .alphabet) (from .messageLen) (p .carries-from)))
+      number-resized (payloadBytes to) y (omega (arith, y-is .count, carries-five (from .alphabet) (from .messageLen) (p .carries-from)))
       (omega (arith, carries-five (to .alphabet) (to .messageLen) (p .carries-to)))
 
   -- the moved strip can be found, and it reads as the moved payload
@@ -223,19 +223,19 @@ module _ (from to : Codec) (ok-from : Movable from) (ok-to : Movable to) (alike 
         read = moved-reads w′ found′ outside;
         spells = payload-passes (to .alphabet) (to .messageLen) (ok-to .two) z z-is;
         is-open = ap (jobStatus es) back ∙ ap (λ (n : ℕ). standing (lookup es n)) same-number ∙ p .is-open;
-        room = ap (hasRoom (bytesOf from)) back ∙ room-back (bytesOf from) (bytesOf to) y (y-is .count);
+        room = ap (hasRoom (payloadBytes from)) back ∙ room-back (payloadBytes from) (payloadBytes to) y (y-is .count);
         number = ap (λ (a : List ℕ). isJob (jobNumber a)) back ∙ ap (λ (n : ℕ). isJob n) same-number ∙ p .number;
       }
 
   pub goes-back : (w′ out′ : List ℕ) → Word to w′ → SpoiltFrom to starts (move from to es w out .word) w′ → length out′ ≡ from .wordLen
-      → move to from es w′ out′ ≡ written (from .encode starts ms)
+      → move to from es w′ out′ ≡ servedWord (from .encode starts ms)
   unfolding jobWord moved z y
   goes-back w′ out′ found′ outside lent =
       passed-move to from es w′ out′ starts moved (passed-back w′ out′ found′ outside lent)
-      ∙ ap (λ (a : List ℕ). written (from .encode starts (messageOf (from .alphabet) (from .messageLen) a)))
-      (ap (resized (bytesOf from)) (payload-back (to .alphabet) (to .messageLen) (ok-to .two) z z-is)
-      ∙ resized-back (bytesOf from) (bytesOf to) y (y-is .count) (p .room))
-      ∙ ap (λ (a : List ℕ). written (from .encode starts a)) spelled
+      ∙ ap (λ (a : List ℕ). servedWord (from .encode starts (messageOf (from .alphabet) (from .messageLen) a)))
+      (ap (resized (payloadBytes from)) (payload-back (to .alphabet) (to .messageLen) (ok-to .two) z z-is)
+      ∙ resized-back (payloadBytes from) (payloadBytes to) y (y-is .count) (p .room))
+      ∙ ap (λ (a : List ℕ). servedWord (from .encode starts a)) spelled
 
   pub returned : (back : List ℕ → List ℕ → Encoded) → ((w′ out′ : List ℕ) → back w′ out′ ≡ move to from es w′ out′)
       → Returned from to w (move from to es w out .word) back
@@ -267,7 +267,7 @@ module _ (from to : Codec) (ok-from : Movable from) (ok-to : Movable to) (alike 
             rw (
               p .carries-from,
               eqb-same (length w) (from .wordLen) (p .complete),
-              eqb-same (length buffer) (bytesOf from) lent,
+              eqb-same (length buffer) (payloadBytes from) lent,
               p .symbols,
               p .read,
               p .spells,
@@ -278,7 +278,7 @@ module _ (from to : Codec) (ok-from : Movable from) (ok-to : Movable to) (alike 
             rw (
               p .carries-to,
               eqb-same (length m) (to .wordLen) (moved-found .complete),
-              eqb-same (length buffer) (bytesOf to) lent,
+              eqb-same (length buffer) (payloadBytes to) lent,
               moved-found .symbols,
               moved-reads m moved-found (λ _ _ _. refl),
               payload-passes (to .alphabet) (to .messageLen) (ok-to .two) z z-is,
@@ -289,5 +289,5 @@ module _ (from to : Codec) (ok-from : Movable from) (ok-to : Movable to) (alike 
         number = same-number;
         as-written = λ out′ lent.
             writes starts z out′ placed (p .carries-to) z-is (ap (λ (n : ℕ). isJob n) same-number ∙ p .number) still-open lent
-            ∙ sym (ap (λ (r : Encoded). written (r .word)) (passed-move from to es w out starts ms p));
+            ∙ sym (ap (λ (r : Encoded). servedWord (r .word)) (passed-move from to es w out starts ms p));
       }

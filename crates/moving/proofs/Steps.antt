@@ -25,8 +25,8 @@ use Rattle.payloads.specs.Payload.{carriesJob, jobNumber, messageOf, payloadIn,
 use Rattle.payloads.proofs.Payload.{length-message, message-symbols, payload-is, carries-five}
 use Rattle.jobcodec.specs.JobWrite.{jobStatus, whereOpen, unless}
 use Rattle.moving.specs.Resize.{resized, hasRoom}
-use Rattle.moving.specs.Move.{bytesOf, written, jobWord, moveJob, moveMessage, moveRead, move}
-use Rattle.moving.specs.Given.{movingNumber, messageNumber, messageMoved, wordMoved, OtherMessage, Writable}
+use Rattle.moving.specs.Move.{payloadBytes, servedWord, jobWord, moveJob, moveMessage, moveRead, move}
+use Rattle.moving.specs.Given.{movingNumber, messageNumber, messageMoved, wordMoved, OtherMessage, MovedWritable}
 use Rattle.moving.proofs.Resize.{length-resized, resized-bytes, resized-prefix}
 use Rattle.moving.proofs.Moving.{Movable}
 use Rattle.moving.proofs.Figures.{placed-apart}
@@ -80,8 +80,8 @@ module _ (k room total : ℕ) (front : List ℕ) (e : length front ≡ k) (short
 -- the tests of a message in their order, and their number alone
 in-order : (out last : List ℕ) (spells : Bool) (s : Status) (room job : Bool)
     → must spells (unwritten out badPayload)
-    (whereOpen s (unwritten out) (must room (unwritten out surplusBytes) (must job (unwritten out numberZero) (written last))))
-    ≡ unless (must spells badPayload (whereOpen s (λ a. a) (must room surplusBytes (must job numberZero served)))) (unwritten out) (written last)
+    (whereOpen s (unwritten out) (must room (unwritten out surplusBytes) (must job (unwritten out numberZero) (servedWord last))))
+    ≡ unless (must spells badPayload (whereOpen s (λ a. a) (must room surplusBytes (must job numberZero served)))) (unwritten out) (servedWord last)
 in-order out last false s room job = refl
 in-order out last true unknown room job = refl
 in-order out last true onHold room job = refl
@@ -97,7 +97,7 @@ message-moves from to es out starts ms same count =
     let y = payloadIn (to .alphabet) (length ms) ms in
     rw (same, ← count)
     (in-order out (to .encode starts (messageMoved (to .alphabet) (to .messageLen) ms)) (spellsPayload (to .alphabet) (length ms) ms) (jobStatus es y)
-    (hasRoom (bytesOf to) y) (isJob (jobNumber y)))
+    (hasRoom (payloadBytes to) y) (isJob (jobNumber y)))
 
 -- a refused message, and one that is not
 module _ (to : Codec) (es : List Entry) (out starts ms : List ℕ) where
@@ -105,7 +105,7 @@ module _ (to : Codec) (es : List Entry) (out starts ms : List ℕ) where
   message-refused a e n = rw (← e, eqb-other a served n)
 
   pub message-passes : messageNumber (to .alphabet) es (to .messageLen) ms ≡ served
-      → written (to .encode starts (messageMoved (to .alphabet) (to .messageLen) ms)) ≡ wordMoved to es out starts ms
+      → servedWord (to .encode starts (messageMoved (to .alphabet) (to .messageLen) ms)) ≡ wordMoved to es out starts ms
   message-passes e = rw e
 
 -- it spells a payload
@@ -136,7 +136,7 @@ module _ (q : ℕ) (es : List Entry) (k : ℕ) (ms : List ℕ) where
 
 -- what was read can be written as it stands
 pub moved-encodes : (d : Coding) (es : List Entry) (at : Placement) (ms out : List ℕ) → d .inRange ≡ true → d .fits ≡ true → 2 ≤ d .codec .alphabet
-    → Writable d at ms out → messageNumber (d .codec .alphabet) es (d .codec .messageLen) ms ≡ served
+    → MovedWritable d at ms out → messageNumber (d .codec .alphabet) es (d .codec .messageLen) ms ≡ served
     → encodeUnder d (heldAs at) (messageMoved (d .codec .alphabet) (d .codec .messageLen) ms) out ≡ wordMoved (d .codec) es out (startsIn at) ms
 moved-encodes d es at ms out range fit two w e =
     let q = d .codec .alphabet in
@@ -157,7 +157,7 @@ moved-encodes d es at ms out range fit two w e =
 
 -- the other message is lent, and stands in the front of an array
 module _ (d : Coding) (es : List Entry) (at : Placement) (ms out lent : List ℕ) (q k : ℕ) (q-is : q ≡ d .codec .alphabet) (k-is : k ≡ d .codec .messageLen)
-    (l : length lent ≡ k) (w : Writable d at ms out) (r : ℕ) (e : r ≡ messageNumber q es (length lent) ms) where
+    (l : length lent ≡ k) (w : MovedWritable d at ms out) (r : ℕ) (e : r ≡ messageNumber q es (length lent) ms) where
   number-is : r ≡ messageNumber (d .codec .alphabet) es (d .codec .messageLen) ms
   number-is = e ∙ ap₂ (λ (x y : ℕ). messageNumber x es y ms) q-is (l ∙ k-is)
 
@@ -282,7 +282,7 @@ module _ (f : Params) (d e : Coding) (from : Of f d) (to : Of f e) (es : List En
     count : length front ≡ d .codec .messageLen
     count = ap length message-read ∙ leads .count
 
-    pub write-ready : Writable e at front out
+    pub write-ready : MovedWritable e at front out
     write-ready =
         record {
           count = placed .1 ∙ sym (to .bursts);

@@ -28,7 +28,7 @@ use Rattle.jobcodec.specs.JobWrite.{jobStatus, whereOpen}
 use Rattle.roundtrip.specs.Damage.{damaged}
 use Rattle.roundtrip.proofs.ReadBack.{damaged-length, sound, damaged-below}
 use Rattle.moving.specs.Resize.{resized, hasRoom}
-use Rattle.moving.specs.Move.{bytesOf, written, jobWord, moveJob, moveMessage, moveRead, move, moveOut, toConstructionA, toLarsson}
+use Rattle.moving.specs.Move.{payloadBytes, servedWord, jobWord, moveJob, moveMessage, moveRead, move, moveOut, toConstructionA, toLarsson}
 use Rattle.moving.specs.ThereAndBack.{SpoiltFrom, MovedBack, thereAndBackAs, thereAndBackOut, CameBack}
 use Rattle.moving.proofs.Figures.{fitting, there-and-back}
 
@@ -47,12 +47,12 @@ module _ (from to : Codec) (es : List Entry) (out : List ℕ) where
   read-keeps (refused a) = λ _. refl
   read-keeps (accepted starts ms) =
       let y = payloadIn (from .alphabet) (from .messageLen) ms in
-      let last = written (jobWord to starts (resized (bytesOf to) y)) in
+      let last = servedWord (jobWord to starts (resized (payloadBytes to) y)) in
       let zero = must (isJob (jobNumber y)) (unwritten out numberZero) last in
-      let surplus = must (hasRoom (bytesOf to) y) (unwritten out surplusBytes) zero in
+      let surplus = must (hasRoom (payloadBytes to) y) (unwritten out surplusBytes) zero in
       test-keeps (spellsPayload (from .alphabet) (from .messageLen) ms) out badPayload (whereOpen (jobStatus es y) (unwritten out) surplus)
       (test-keeps (eqb (needsOpen (jobStatus es y)) served) out (needsOpen (jobStatus es y)) surplus
-      (test-keeps (hasRoom (bytesOf to) y) out surplusBytes zero
+      (test-keeps (hasRoom (payloadBytes to) y) out surplusBytes zero
       (test-keeps (isJob (jobNumber y)) out numberZero last (λ n. absurd (n refl)))))
 
   pub move-keeps : (f : Params) (w : List ℕ) → Kept out (moveOut f from to es w out)
@@ -113,7 +113,7 @@ module _ (f : Params) (es : List Entry) (starts w ds between lent : List ℕ) wh
       let own = there-and-back f es w between .from-larsson a in
       let at : own .starts ≡ placement = ap startsRead (sym (own .read) ∙ e) in
       let ms : own .message ≡ message = ap messageRead (sym (own .read) ∙ e) in
-      let whole : toLarsson f es found lent ≡ written (larsson f .encode (own .starts) (own .message)) =
+      let whole : toLarsson f es found lent ≡ servedWord (larsson f .encode (own .starts) (own .message)) =
       own .returns found lent (found-word a h) (rw at (found-spoilt a placement inside)) long in
       rw (moved-out a, whole, ← at, ← ms) (record { accepts = refl; strip = refl; reads = own .again })
 

@@ -8,9 +8,9 @@ use Rattle.cells.specs.Outcomes.{Encoded}
 use Rattle.construction_a.specs.Figures.{Params, inRange}
 use Rattle.construction_a.specs.Figures.{fits as fitsA, messageLen as messageLenA}
 use Rattle.larsson.specs.Figures.{fits as fitsLarsson, messageLen as messageLenLarsson}
-use Rattle.larsson_params.specs.Given.{figuresOf}
+use Rattle.larsson_params.specs.Given.{larssonFiguresOf}
 use Rattle.payloads.specs.Payload.{carriesJob}
-use Rattle.moving.specs.Given.{Ready}
+use Rattle.moving.specs.Given.{BothReady}
 use Rattle.moving.specs.declared.both.BothAnswer.{BothAnswer}
 use Rattle.moving.specs.declared.both.BothAnswer.the-variants.{Fit, Refused}
 
@@ -30,5 +30,5 @@ fromFigures f strip moved refuse rest =
 
 -- every order that begins so ends in the refusal, or is past all four
 abbrev pub BothIn : Params → ℕ → ℕ → BothAnswer → Type 0
-BothIn f strip moved (Fit newer older) = (figuresOf older ≡ f) × Ready newer older strip moved
+BothIn f strip moved (Fit newer older) = (larssonFiguresOf older ≡ f) × BothReady newer older strip moved
 BothIn f strip moved (Refused a) = (refuse : ℕ → Encoded) (rest : Encoded) → fromFigures f strip moved refuse rest ≡ refuse a

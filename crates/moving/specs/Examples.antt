@@ -14,7 +14,7 @@ use Rattle.larsson.specs.Codec.{larsson}
 use Rattle.jobs.specs.declared.Entry.{Entry}
 use Rattle.jobs.specs.declared.Entry.the-variants.{Free, Open, OnHold, Cancelled}
 use Rattle.jobs.specs.declared.Before.the-variants.{WasOpen}
-use Rattle.moving.specs.Move.{bytesOf, toConstructionA, toLarsson}
+use Rattle.moving.specs.Move.{payloadBytes, toConstructionA, toLarsson}
 
 abbrev figures : Params
 figures = params 11 256 2 1
@@ -22,8 +22,8 @@ figures = params 11 256 2 1
 abbrev hexFigures : Params
 hexFigures = params 30 16 1 3
 
-abbrev table : List Entry
-table = Open 7 ∷ Cancelled 9 WasOpen ∷ Open 0 ∷ OnHold 8 ∷ Free ∷ []
+abbrev sampleTable : List Entry
+sampleTable = Open 7 ∷ Cancelled 9 WasOpen ∷ Open 0 ∷ OnHold 8 ∷ Free ∷ []
 
 -- the answer, then the lent word, which held 1
 abbrev shown : Encoded → List ℕ
@@ -63,37 +63,37 @@ abbrev ending : List ℕ
 ending = 7 ∷ 0 ∷ []
 
 abbrev toHexA : List ℕ → List ℕ
-toHexA w = shown (toConstructionA hexFigures table w (unchanged 30))
+toHexA w = shown (toConstructionA hexFigures sampleTable w (unchanged 30))
 
 abbrev toHexLarsson : List ℕ → List ℕ
-toHexLarsson w = shown (toLarsson hexFigures table w (unchanged 30))
+toHexLarsson w = shown (toLarsson hexFigures sampleTable w (unchanged 30))
 
 unfoldable pub examples : List Example
 examples =
-    example (bytesOf (larsson figures) ∷ bytesOf (constructionA figures) ∷ []) (6 ∷ 5 ∷ [])
+    example (payloadBytes (larsson figures) ∷ payloadBytes (constructionA figures) ∷ []) (6 ∷ 5 ∷ [])
     -- there, and back: "the longer payload ends in zero bytes"
-    ∷ example (shown (toConstructionA figures table (older 7 0) (unchanged 11))) (0 ∷ newer 0 65)
-    ∷ example (shown (toLarsson figures table (newer 200 65) (unchanged 11))) (0 ∷ 23 ∷ 0 ∷ 0 ∷ 0 ∷ 23 ∷ 0 ∷ 7 ∷ 0 ∷ 65 ∷ 0 ∷ 23 ∷ [])
+    ∷ example (shown (toConstructionA figures sampleTable (older 7 0) (unchanged 11))) (0 ∷ newer 0 65)
+    ∷ example (shown (toLarsson figures sampleTable (newer 200 65) (unchanged 11))) (0 ∷ 23 ∷ 0 ∷ 0 ∷ 0 ∷ 23 ∷ 0 ∷ 7 ∷ 0 ∷ 65 ∷ 0 ∷ 23 ∷ [])
     -- "22, after the reader's refusals and before the writer's 17"
-    ∷ example (shown (toConstructionA figures table (older 7 66) (unchanged 11))) (22 ∷ unchanged 11)
-    ∷ example (shown (toConstructionA figures table (older 0 66) (unchanged 11))) (22 ∷ unchanged 11)
-    ∷ example (shown (toConstructionA figures table (older 0 0) (unchanged 11))) (17 ∷ unchanged 11)
-    ∷ example (shown (toConstructionA figures table (older 9 66) (unchanged 11))) (12 ∷ unchanged 11)
-    ∷ example (shown (toConstructionA figures table (older 8 66) (unchanged 11))) (23 ∷ unchanged 11)
-    ∷ example (shown (toConstructionA figures table (older 5 66) (unchanged 11))) (14 ∷ unchanged 11)
+    ∷ example (shown (toConstructionA figures sampleTable (older 7 66) (unchanged 11))) (22 ∷ unchanged 11)
+    ∷ example (shown (toConstructionA figures sampleTable (older 0 66) (unchanged 11))) (22 ∷ unchanged 11)
+    ∷ example (shown (toConstructionA figures sampleTable (older 0 0) (unchanged 11))) (17 ∷ unchanged 11)
+    ∷ example (shown (toConstructionA figures sampleTable (older 9 66) (unchanged 11))) (12 ∷ unchanged 11)
+    ∷ example (shown (toConstructionA figures sampleTable (older 8 66) (unchanged 11))) (23 ∷ unchanged 11)
+    ∷ example (shown (toConstructionA figures sampleTable (older 5 66) (unchanged 11))) (14 ∷ unchanged 11)
     -- there, and back, where Construction A's payload is the longer; 22 on the way back
-    ∷ example (bytesOf (larsson hexFigures) ∷ bytesOf (constructionA hexFigures) ∷ []) (11 ∷ 12 ∷ [])
+    ∷ example (payloadBytes (larsson hexFigures) ∷ payloadBytes (constructionA hexFigures) ∷ []) (11 ∷ 12 ∷ [])
     ∷ example (toHexA (hexOlder 16 rank4 rank4 ending)) (0 ∷ hexNewer 0 index4 (0 ∷ 0 ∷ []))
     ∷ example (toHexLarsson (hexNewer 16 index4 (0 ∷ 0 ∷ []))) (0 ∷ hexOlder 0 rank4 rank4 ending)
     ∷ example (toHexLarsson (hexNewer 0 index4 (4 ∷ 8 ∷ []))) (22 ∷ unchanged 30)
     -- a book with a number twice; figures that fit Construction A alone, and the Larsson code alone; 4 bytes in Construction A, 5 in the Larsson code
     ∷ example (shown (toConstructionA hexFigures (Open 7 ∷ Open 7 ∷ []) (hexOlder 0 rank4 rank4 ending) (unchanged 30))) (1 ∷ unchanged 30)
-    ∷ example (shown (toConstructionA (params 6 5 2 1) table (unchanged 6) (unchanged 6))) (2 ∷ unchanged 6)
-    ∷ example (shown (toLarsson (params 3 2 3 1) table (unchanged 3) (unchanged 3))) (2 ∷ unchanged 3)
-    ∷ example (shown (toConstructionA (params 10 256 2 1) table (unchanged 10) (unchanged 10))) (10 ∷ unchanged 10)
+    ∷ example (shown (toConstructionA (params 6 5 2 1) sampleTable (unchanged 6) (unchanged 6))) (2 ∷ unchanged 6)
+    ∷ example (shown (toLarsson (params 3 2 3 1) sampleTable (unchanged 3) (unchanged 3))) (2 ∷ unchanged 3)
+    ∷ example (shown (toConstructionA (params 10 256 2 1) sampleTable (unchanged 10) (unchanged 10))) (10 ∷ unchanged 10)
     -- either lent strip too short; a symbol above q
-    ∷ example (shown (toConstructionA hexFigures table (hexOlder 0 rank4 rank4 ending) (unchanged 29))) (3 ∷ unchanged 29)
-    ∷ example (shown (toLarsson hexFigures table (older 7 0) (unchanged 30))) (3 ∷ unchanged 30)
+    ∷ example (shown (toConstructionA hexFigures sampleTable (hexOlder 0 rank4 rank4 ending) (unchanged 29))) (3 ∷ unchanged 29)
+    ∷ example (shown (toLarsson hexFigures sampleTable (older 7 0) (unchanged 30))) (3 ∷ unchanged 30)
     ∷ example (toHexA (hexOlder 17 rank4 rank4 ending)) (4 ∷ unchanged 30)
     -- the older strip: no majority; a value of T or more; an untouched sub-block without it; a silent cell in the message; a leftover symbol not 0
     ∷ example (toHexA (hexOlder 0 rank4 index4 ending)) (21 ∷ unchanged 30)

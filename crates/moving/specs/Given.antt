@@ -16,7 +16,7 @@ use Rattle.params.specs.declared.Layout.{Layout}
 use Rattle.params.specs.Given.{codingIn, Serves}
 use Rattle.larsson.specs.Figures.{messageLen as messageLenLarsson}
 use Rattle.larsson_params.specs.declared.LarssonLayout.{LarssonLayout}
-use Rattle.larsson_params.specs.Given.{figuresOf, Fitting}
+use Rattle.larsson_params.specs.Given.{larssonFiguresOf, LarssonLayoutFits}
 use Rattle.placements.specs.declared.Placement.{Placement}
 use Rattle.placements.specs.Bridge.{startsIn}
 use Rattle.jobs.specs.declared.Entry.{Entry}
@@ -24,7 +24,7 @@ use Rattle.jobs.specs.Jobs.{isJob}
 use Rattle.payloads.specs.Payload.{carriesJob, jobNumber, messageOf, payloadIn, spellsPayload}
 use Rattle.jobcodec.specs.JobWrite.{jobStatus, unless, whereOpen}
 use Rattle.moving.specs.Resize.{resized, hasRoom}
-use Rattle.moving.specs.Move.{written}
+use Rattle.moving.specs.Move.{servedWord}
 
 -- ---- A payload that was read
 
@@ -52,14 +52,14 @@ messageMoved q k ms = messageOf q k (resized (payloadLen q k) (payloadIn q (leng
 abbrev pub wordMoved : Codec → List Entry → List ℕ → List ℕ → List ℕ → Encoded
 wordMoved to es out starts ms =
     unless (messageNumber (to .alphabet) es (to .messageLen) ms) (unwritten out)
-    (written (to .encode starts (messageMoved (to .alphabet) (to .messageLen) ms)))
+    (servedWord (to .encode starts (messageMoved (to .alphabet) (to .messageLen) ms)))
 
 -- the lent message afterwards, where nothing was refused
 abbrev pub OtherMessage : ℕ → ℕ → List ℕ → List ℕ → List ℕ → Type 0
 OtherMessage q answer ms lent after = answer ≡ served → after ≡ messageMoved q (length lent) ms
 
 -- a message with five bytes or more, and the other; neither is longer than the longest word
-pub record Spelling (q : ℕ) (message other : List ℕ) : Type 0 where
+pub record JobMessage (q : ℕ) (message other : List ℕ) : Type 0 where
   pub alphabet : 2 ≤ q
   pub bytes : q ≤ maxAlphabet
   pub carries : 5 ≤ payloadLen q (length message)
@@ -69,17 +69,21 @@ pub record Spelling (q : ℕ) (message other : List ℕ) : Type 0 where
 -- ---- Figures that fit both codes
 
 -- the layouts are of the same figures, both payloads have five bytes or more, and both strips the length
-pub record Ready (newer : Layout) (older : LarssonLayout) (strip moved : ℕ) : Type 0 where
+pub record BothReady (newer : Layout) (older : LarssonLayout) (strip moved : ℕ) : Type 0 where
   pub serves : Serves newer
-  pub fitting : Fitting older
-  pub alike : codingIn newer ≡ coding (figuresOf older)
-  pub carries-a : carriesJob (older .q) (messageLenA (figuresOf older)) ≡ true
-  pub carries-larsson : carriesJob (older .q) (messageLenLarsson (figuresOf older)) ≡ true
+  pub fitting : LarssonLayoutFits older
+  pub alike : codingIn newer ≡ coding (larssonFiguresOf older)
+  pub carries-a : carriesJob (older .q) (messageLenA (larssonFiguresOf older)) ≡ true
+  pub carries-larsson : carriesJob (older .q) (messageLenLarsson (larssonFiguresOf older)) ≡ true
   pub complete : strip ≡ older .n
   pub lent : moved ≡ older .n
 
+-- of the layouts alone
+abbrev pub LaidBoth : Layout → LarssonLayout → Type 0
+LaidBoth newer older = BothReady newer older (older .n) (older .n)
+
 -- a placement and a message that were read, and the lent word
-pub record Writable (d : Coding) (at : Placement) (message out : List ℕ) : Type 0 where
+pub record MovedWritable (d : Coding) (at : Placement) (message out : List ℕ) : Type 0 where
   pub count : at .count ≡ d .bursts
   pub placed : apart (d .burstLen) (d .codec .wordLen) 0 (startsIn at) ≡ true
   pub carries : 5 ≤ payloadLen (d .codec .alphabet) (length message)

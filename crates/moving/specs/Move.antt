@@ -25,11 +25,11 @@ use Rattle.moving.specs.Resize.{resized, hasRoom}
 -- ---- From one codec to another
 
 -- the bytes of a codec's payload
-abbrev pub bytesOf : Codec → ℕ
-bytesOf c = payloadLen (c .alphabet) (c .messageLen)
+abbrev pub payloadBytes : Codec → ℕ
+payloadBytes c = payloadLen (c .alphabet) (c .messageLen)
 
-abbrev pub written : List ℕ → Encoded
-written w = record { answer = served; word = w }
+abbrev pub servedWord : List ℕ → Encoded
+servedWord w = record { answer = served; word = w }
 
 -- a payload written at a placement
 unfoldable pub jobWord : Codec → List ℕ → List ℕ → List ℕ
@@ -38,9 +38,9 @@ jobWord c starts payload = c .encode starts (messageOf (c .alphabet) (c .message
 -- "22, after the reader's refusals and before the writer's 17"; the writer's 12, 23 and 14 are behind the reader's own
 unfoldable pub moveJob : Codec → List ℕ → List ℕ → List ℕ → Encoded
 moveJob to out starts payload =
-    must (hasRoom (bytesOf to) payload) (unwritten out surplusBytes)
+    must (hasRoom (payloadBytes to) payload) (unwritten out surplusBytes)
     (must (isJob (jobNumber payload)) (unwritten out numberZero)
-    (written (jobWord to starts (resized (bytesOf to) payload))))
+    (servedWord (jobWord to starts (resized (payloadBytes to) payload))))
 
 -- the reader's "10, 12 14" of an accepted word, with 23 between
 unfoldable pub moveMessage : Codec → Codec → List Entry → List ℕ → List ℕ → List ℕ → Encoded

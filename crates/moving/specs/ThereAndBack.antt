@@ -22,7 +22,7 @@ use Rattle.jobcodec.specs.JobWrite.{unless, jobWriteUnder}
 use Rattle.jobcodec.specs.JobRead.{handOut, jobReading}
 use Rattle.roundtrip.specs.Damage.{damaged}
 use Rattle.moving.specs.Resize.{resized, hasRoom}
-use Rattle.moving.specs.Move.{bytesOf, written, toConstructionA, toLarsson}
+use Rattle.moving.specs.Move.{payloadBytes, servedWord, toConstructionA, toLarsson}
 
 -- w′ differs from a word only inside a placement's bursts
 abbrev pub SpoiltFrom : Codec → List ℕ → List ℕ → List ℕ → Type 0
@@ -35,7 +35,7 @@ pub record Returned (from to : Codec) (w moved : List ℕ) (back : List ℕ → 
   pub read : from .decode w ≡ accepted starts message
   -- "returns the original message": the strip of that placement and message, whether the moved strip was spoilt inside its runs or not
   pub returns : (w′ out : List ℕ) → Word to w′ → SpoiltFrom to starts moved w′ → length out ≡ from .wordLen
-      → back w′ out ≡ written (from .encode starts message)
+      → back w′ out ≡ servedWord (from .encode starts message)
   pub unspoilt : Word to moved
   pub again : from .decode (from .encode starts message) ≡ accepted starts message
 
@@ -53,13 +53,13 @@ pub record SameJob (from to : Codec) (write : Held → List ℕ → List ℕ →
   pub message : List ℕ
   pub payload : List ℕ
   pub read : from .decode w ≡ accepted starts message
-  pub before : (buffer : List ℕ) → length buffer ≡ bytesOf from → jobReading from es w buffer ≡ handOut payload
-  pub after : (buffer : List ℕ) → length buffer ≡ bytesOf to → jobReading to es moved buffer ≡ handOut (resized (bytesOf to) payload)
+  pub before : (buffer : List ℕ) → length buffer ≡ payloadBytes from → jobReading from es w buffer ≡ handOut payload
+  pub after : (buffer : List ℕ) → length buffer ≡ payloadBytes to → jobReading to es moved buffer ≡ handOut (resized (payloadBytes to) payload)
   -- "Number and text are preserved": nothing but zero bytes is cut off
-  pub whole : hasRoom (bytesOf to) payload ≡ true
-  pub number : jobNumber (resized (bytesOf to) payload) ≡ jobNumber payload
+  pub whole : hasRoom (payloadBytes to) payload ≡ true
+  pub number : jobNumber (resized (payloadBytes to) payload) ≡ jobNumber payload
   -- "with the same .. placement": the moved strip is what job writing leaves in any strip of the length, for the placement that was read
-  pub as-written : (out : List ℕ) → length out ≡ to .wordLen → write (held starts) (resized (bytesOf to) payload) out ≡ written moved
+  pub as-written : (out : List ℕ) → length out ≡ to .wordLen → write (held starts) (resized (payloadBytes to) payload) out ≡ servedWord moved
 
 pub record MovesJob (f : Params) (es : List Entry) (w out : List ℕ) : Type 0 where
   pub from-larsson : toConstructionA f es w out .answer ≡ served

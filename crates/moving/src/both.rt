@@ -3,7 +3,7 @@ ghost use mathlib.Core.Path.{_≡_};
 ghost use Rattle.construction_a.specs.Outcomes.{coding};
 ghost use Rattle.params.specs.Bridge.{given};
 ghost use Rattle.params.specs.Given.{codingIn, Serves};
-ghost use Rattle.larsson_params.specs.Given.{figuresOf, Fitting};
+ghost use Rattle.larsson_params.specs.Given.{larssonFiguresOf, LarssonLayoutFits};
 ghost use Rattle.moving.specs.Both.{BothIn};
 use larsson_params::LarssonAnswer;
 use larsson_params::LarssonLayout;
@@ -45,8 +45,8 @@ fn older_fits(figures: Params, newer: Layout, strip: usize, moved: usize) -> Bot
 
 // The same where both fit. Refusals: 10 3.
 fn both_carry(newer: Layout, older: LarssonLayout, strip: usize, moved: usize) -> BothAnswer
-    requires { ⌜ Serves newer × Fitting older × (codingIn newer ≡ coding (figuresOf older)) ⌝ }
-    ensures { λ r. ⌜ BothIn (figuresOf older) strip moved r ⌝ }
+    requires { ⌜ Serves newer × LarssonLayoutFits older × (codingIn newer ≡ coding (larssonFiguresOf older)) ⌝ }
+    ensures { λ r. ⌜ BothIn (larssonFiguresOf older) strip moved r ⌝ }
 {
     if bytes::payload_len(newer.q, newer.message_len) < jobcodec::MIN_PAYLOAD {
         return BothAnswer::Refused(Refusal::PAYLOAD);

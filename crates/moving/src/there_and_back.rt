@@ -3,7 +3,7 @@ ghost use mathlib.Core.Path.{_≡_};
 ghost use Rattle.params.specs.Bridge.{given};
 ghost use Rattle.placements.specs.Bridge.{startsIn};
 ghost use Rattle.jobs.specs.Slots.{entries};
-ghost use Rattle.roundtrip.specs.Damage.{Damaging};
+ghost use Rattle.roundtrip.specs.Damage.{DamageLent};
 ghost use Rattle.moving.specs.ThereAndBack.{thereAndBackAs, thereAndBackOut, CameBack};
 use crate::move_to_a;
 use crate::move_to_larsson;
@@ -24,9 +24,12 @@ pub fn move_there_and_back(
     between: &mut [u8],
     back: &mut [u8],
 ) -> u8
-    requires { ⌜ Damaging at (now damage) (now between) ⌝ }
-    ensures outcome { λ r. ⌜ thereAndBackAs r (now (between .exit)) (now (back .exit)) ≡ thereAndBackOut (given figures) (entries table) (startsIn at) (now (strip .entry)) (now (damage .entry)) (now (between .entry)) (now (back .entry)) ⌝ }
-    ensures returned { λ r. ⌜ CameBack (given figures) (entries table) (startsIn at) (now (strip .entry)) (now (damage .entry)) (now (between .entry)) (now (back .entry)) r (now (back .exit)) ⌝ }
+    requires { ⌜ DamageLent at (now damage) (now between) ⌝ }
+    ensures outcome { λ r. ⌜ thereAndBackAs r (now (between .exit)) (now (back .exit))
+        ≡ thereAndBackOut (given figures) (entries table) (startsIn at) (now (strip .entry)) (now (damage .entry)) (now (between .entry))
+        (now (back .entry)) ⌝ }
+    ensures returned { λ r. ⌜ CameBack (given figures) (entries table) (startsIn at) (now (strip .entry)) (now (damage .entry)) (now (between .entry))
+        (now (back .entry)) r (now (back .exit)) ⌝ }
 {
     let refusal = move_to_a(figures, table, strip, between);
     if refusal != Refusal::NONE {

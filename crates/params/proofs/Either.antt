@@ -22,7 +22,7 @@ use Rattle.params.specs.declared.Spells.{Spells}
 use Rattle.params.specs.declared.Spells.the-variants.{Rank, EndOffset}
 use Rattle.params.specs.Answer.{figuredAs, LaidOut, LaidIn, LongLaidOut, LongLaidIn, LaidAs, HasNumbers, Small}
 use Rattle.params.specs.Bridge.{given, givenLong, codingOf}
-use Rattle.params.specs.Given.{figuresOf, longOf, LongFitting, codingWith, codingIn, FittingWith, Serves, Shaped}
+use Rattle.params.specs.Given.{figuresOf, longOf, LongLayoutFits, codingWith, codingIn, LayoutFitsWith, Serves, Shaped}
 use Rattle.params.proofs.Fitting.{laid-fits, shaped}
 use Rattle.params.proofs.LongFitting.{long-shaped}
 
@@ -55,21 +55,21 @@ module _ (l : Layout) where
   pub in-shape : Serves l → Shaped l
   in-shape g = go (l .spells) g
     where
-      go : (s : Spells) → FittingWith s l → Shaped l
+      go : (s : Spells) → LayoutFitsWith s l → Shaped l
       go Rank g = shaped l g
       go EndOffset g = long-shaped l g
 
   pub in-order : Serves l → (codingIn l .inRange ≡ true) × (codingIn l .fits ≡ true)
   in-order g = go (l .spells) g
     where
-      go : (s : Spells) → FittingWith s l → (codingWith s (figuresOf l) .inRange ≡ true) × (codingWith s (figuresOf l) .fits ≡ true)
+      go : (s : Spells) → LayoutFitsWith s l → (codingWith s (figuresOf l) .inRange ≡ true) × (codingWith s (figuresOf l) .fits ≡ true)
       go Rank g = (g .range, g .fit)
       go EndOffset g = (g .range, g .fit)
 
   pub numbers-in : Serves l → HasNumbers (codingIn l) l
   numbers-in g = go (l .spells) g
     where
-      go : (s : Spells) → FittingWith s l → HasNumbers (codingWith s (figuresOf l)) l
+      go : (s : Spells) → LayoutFitsWith s l → HasNumbers (codingWith s (figuresOf l)) l
       go Rank g =
           record {
             word-is = refl;
@@ -105,15 +105,15 @@ serves (Ranked p) r l e answer laid =
     let fit = laid-learnt (Ranked p) r l e answer laid in
     let is : LaidOut (given p) l = subst (LaidIn (given p)) e laid in
     let own = laid-fits (given p) l (fit .0) (fit .1) is in
-    (ap₂ codingWith (is .spells-is) (own .0), subst (λ (s : Spells). FittingWith s l) (sym (is .spells-is)) (own .1))
+    (ap₂ codingWith (is .spells-is) (own .0), subst (λ (s : Spells). LayoutFitsWith s l) (sym (is .spells-is)) (own .1))
 serves (Long p) r l e answer laid =
     let fit = laid-learnt (Long p) r l e answer laid in
     let is : LongLaidOut (givenLong p) l = subst (LongLaidIn (givenLong p)) e laid in
     let same : longOf (figuresOf l) ≡ givenLong p = long-same (is .n-is) (is .q-is) (is .b-is) in
-    let own : LongFitting l =
+    let own : LongLayoutFits l =
     record {
       range = ap B.inRange same ∙ fit .0;
       fit = ap B.fits same ∙ fit .1;
       laid = subst (λ (g : LongParams). LongLaidOut g l) (sym same) is;
     } in
-    (ap (λ (s : Spells). codingWith s (figuresOf l)) (is .spells-is) ∙ ap codingB same, subst (λ (s : Spells). FittingWith s l) (sym (is .spells-is)) own)
+    (ap (λ (s : Spells). codingWith s (figuresOf l)) (is .spells-is) ∙ ap codingB same, subst (λ (s : Spells). LayoutFitsWith s l) (sym (is .spells-is)) own)

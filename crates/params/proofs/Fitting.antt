@@ -16,7 +16,7 @@ use Rattle.params.specs.declared.Layout.{Layout}
 use Rattle.params.specs.declared.LayoutAnswer.{LayoutAnswer}
 use Rattle.params.specs.declared.LayoutAnswer.the-variants.{Fit}
 use Rattle.params.specs.Answer.{figuredAs, LaidOut, LaidIn}
-use Rattle.params.specs.Given.{figuresOf, Fitting, frameOf, Shaped}
+use Rattle.params.specs.Given.{figuresOf, LayoutFits, frameOf, Shaped}
 use Rattle.params.proofs.Answered.{Told, Bounds}
 use Rattle.params.proofs.Shape as Shape
 
@@ -24,18 +24,18 @@ same-figures : {f : Params} {n q m b : ℕ} → n ≡ f .n → q ≡ f .q → m 
 same-figures e₁ e₂ e₃ e₄ = rw (e₁, e₂, e₃, e₄)
 
 -- a layout of figures that fit has these figures itself
-pub laid-fits : (f : Params) (l : Layout) → inRange f ≡ true → fits f ≡ true → LaidOut f l → (figuresOf l ≡ f) × Fitting l
+pub laid-fits : (f : Params) (l : Layout) → inRange f ≡ true → fits f ≡ true → LaidOut f l → (figuresOf l ≡ f) × LayoutFits l
 laid-fits f l range fit is =
     let same : figuresOf l ≡ f = same-figures (is .n-is) (is .q-is) (is .m-is) (is .b-is) in
     (same, record { range = ap inRange same ∙ range; fit = ap fits same ∙ fit; laid = subst (λ (g : Params). LaidOut g l) (sym same) is })
 
 -- of an answer that was taken apart: the layout's figures are the caller's, and they fit
-pub layout-fits : (f : Params) (r : LayoutAnswer) (l : Layout) → r ≡ Fit l → figuredAs r ≡ figuresOut f → Told f r → (figuresOf l ≡ f) × Fitting l
+pub layout-fits : (f : Params) (r : LayoutAnswer) (l : Layout) → r ≡ Fit l → figuredAs r ≡ figuresOut f → Told f r → (figuresOf l ≡ f) × LayoutFits l
 layout-fits f r l e answer told =
     let fit = figured-fits f (l .«placement_count») (l .«index_tail») (l .«message_len») (sym answer ∙ ap figuredAs e) in
     laid-fits f l (fit .0) (fit .1) (subst (LaidIn f) e (told .0))
 
-module _ (l : Layout) (g : Fitting l) where
+module _ (l : Layout) (g : LayoutFits l) where
   pub served : Served (figuresOf l)
   served = serve (figuresOf l) (g .range) (g .fit)
 

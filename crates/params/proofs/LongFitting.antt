@@ -17,10 +17,10 @@ use Rattle.construction_b.specs.Writing.{startIn, plan}
 use Rattle.construction_b.proofs.Base.{asBase, parts-same, plan-same, written-same, framed-base}
 use Rattle.construction_b.proofs.Figures.{Served, serve, placed-start}
 use Rattle.params.specs.declared.Layout.{Layout}
-use Rattle.params.specs.Given.{figuresOf, longOf, LongFitting, frameOf, Shaped}
+use Rattle.params.specs.Given.{figuresOf, longOf, LongLayoutFits, frameOf, Shaped}
 use Rattle.params.proofs.LongLaying.{range-same}
 
-module _ (l : Layout) (g : LongFitting l) where
+module _ (l : Layout) (g : LongLayoutFits l) where
   long-figures : LongParams
   long-figures = longOf (figuresOf l)
 

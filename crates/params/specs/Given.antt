@@ -31,7 +31,7 @@ abbrev pub figuresOf : Layout → Params
 figuresOf l = params (l .n) (l .q) (l .m) (l .b)
 
 -- they fit, and the layout is theirs
-pub record Fitting (l : Layout) : Type 0 where
+pub record LayoutFits (l : Layout) : Type 0 where
   pub range : inRange (figuresOf l) ≡ true
   pub fit : fits (figuresOf l) ≡ true
   pub laid : LaidOut (figuresOf l) l
@@ -43,7 +43,7 @@ abbrev pub longOf : Params → LongParams
 longOf f = longParams (f .n) (f .q) (f .b)
 
 -- the same of Construction B
-pub record LongFitting (l : Layout) : Type 0 where
+pub record LongLayoutFits (l : Layout) : Type 0 where
   pub range : B.inRange (longOf (figuresOf l)) ≡ true
   pub fit : B.fits (longOf (figuresOf l)) ≡ true
   pub laid : LongLaidOut (longOf (figuresOf l)) l
@@ -56,13 +56,13 @@ codingWith EndOffset f = codingB (longOf f)
 abbrev pub codingIn : Layout → Coding
 codingIn l = codingWith (l .spells) (figuresOf l)
 
-abbrev pub FittingWith : Spells → Layout → Type 0
-FittingWith Rank l = Fitting l
-FittingWith EndOffset l = LongFitting l
+abbrev pub LayoutFitsWith : Spells → Layout → Type 0
+LayoutFitsWith Rank l = LayoutFits l
+LayoutFitsWith EndOffset l = LongLayoutFits l
 
 -- the figures of its construction fit, and the layout is theirs
 abbrev pub Serves : Layout → Type 0
-Serves l = FittingWith (l .spells) l
+Serves l = LayoutFitsWith (l .spells) l
 
 -- what the index blocks spell of a placement: its rank, or how far into its part the burst ends
 abbrev pub spelledWith : Spells → Params → List ℕ → ℕ

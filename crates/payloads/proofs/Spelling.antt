@@ -19,7 +19,7 @@ use Rattle.cells.proofs.Bytes.{width-most, width-enough}
 use Rattle.cells.proofs.Digits.{horner, horner-is, span-plain, spell-snoc, length-spell}
 use Rattle.cells.proofs.Walk.{rest-is}
 use Rattle.payloads.specs.Payload.{messageOf, payloadIn, spellsPayload}
-use Rattle.payloads.specs.Given.{Measured, Spellable, Valued}
+use Rattle.payloads.specs.Given.{Measured, Spellable, EnoughSymbols}
 use Rattle.payloads.proofs.Payload.{byteAt, length-payload, spelled-room}
 
 -- ---- A byte's symbols, from the right by quotient and remainder
@@ -128,7 +128,7 @@ module _ (q w count : ℕ) (ms : List ℕ) (m : Measured q w count ms) where
         below = rw (part-len i l, m .width-is) (omega (arith, width-enough q (m .alphabet)));
       }
 
-  pub byte-valued : (i : ℕ) → i < count → Valued q w (take (length ms - i * w) (drop (i * w) ms))
+  pub byte-valued : (i : ℕ) → i < count → EnoughSymbols q w (take (length ms - i * w) (drop (i * w) ms))
   byte-valued i l =
       record {
         bytes = m .bytes;

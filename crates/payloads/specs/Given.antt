@@ -20,7 +20,7 @@ pub record Spellable (q value width : ℕ) : Type 0 where
   pub below : value < q ^ width
 
 -- symbols enough, and no more than a byte can take
-pub record Valued (q width : ℕ) (symbols : List ℕ) : Type 0 where
+pub record EnoughSymbols (q width : ℕ) (symbols : List ℕ) : Type 0 where
   pub bytes : q ≤ maxAlphabet
   pub short : width ≤ maxByteWidth
   pub room : width ≤ length symbols

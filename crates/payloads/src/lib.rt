@@ -6,14 +6,12 @@ ghost use Prim.Native.Nat.{_≤_};
 ghost use lib.ListN.{length, replicate};
 ghost use Rattle.cells.specs.Digits.{plain, spell, value};
 ghost use Rattle.payloads.specs.Payload.{jobNumber, messageOf, payloadIn, spellsPayload};
-ghost use Rattle.payloads.specs.Given.{Measured, Spellable, Valued};
-use params::bytes;
+ghost use Rattle.payloads.specs.Given.{Measured, Spellable, EnoughSymbols};
+use symbols::numbers::BYTE_VALUES;
+use symbols::numbers::NUMBER_BYTES;
 
 // The largest value of a byte.
 const MAX_BYTE: u64 = 255;
-
-// How many bytes a job number takes.
-const NUMBER_BYTES: usize = 4;
 
 // The width at which a byte is its own symbol, so that a payload is copied and nothing is left over.
 const COPIED_WIDTH: usize = 1;
@@ -125,7 +123,7 @@ pub fn job_number(payload: &[u8]) -> u32
     requires { ⌜ 4 ≤ length (now payload) ⌝ }
     ensures { λ r. ⌜ r ≡ jobNumber (now (payload .entry)) ⌝ }
 {
-    spelled_value(bytes::BYTE_VALUES, NUMBER_BYTES, payload) as u32
+    spelled_value(BYTE_VALUES, NUMBER_BYTES, payload) as u32
 }
 
 // The job number of the payload that a message spells, so that nothing is stored before its job is known to be open.
@@ -138,7 +136,7 @@ pub fn number_in(q: u64, width: usize, count: usize, message: &[u8]) -> u32
     while i < NUMBER_BYTES {
         let at = i * width;
         let byte = spelled_value(q, width, &message[at..]);
-        number = number * bytes::BYTE_VALUES + byte;
+        number = number * BYTE_VALUES + byte;
         i += 1;
     }
     number as u32
@@ -146,7 +144,7 @@ pub fn number_in(q: u64, width: usize, count: usize, message: &[u8]) -> u32
 
 // What the first `width` symbols spell, most significant first. Whatever bytes stand there, eight of them stay below 2^64.
 fn spelled_value(q: u64, width: usize, symbols: &[u8]) -> u64
-    requires { ⌜ Valued q width (now symbols) ⌝ }
+    requires { ⌜ EnoughSymbols q width (now symbols) ⌝ }
     ensures { λ r. ⌜ r ≡ value q (replicate width plain) (now (symbols .entry)) ⌝ }
 {
     let mut value: u64 = 0;

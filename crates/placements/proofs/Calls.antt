@@ -13,7 +13,7 @@ use Rattle.combinatorics.specs.Bursts.{apart, placements, rankOf, startsOf, cov
 use Rattle.combinatorics.specs.Lists.{allBelow}
 use Rattle.combinatorics.proofs.Cases.{by-bool, eqb-same, eqb-other}
 use Rattle.combinatorics.proofs.Loops.{apart-longer}
-use Rattle.cells.specs.Outcomes.{Coding, inUse, held, worn, unserved, figuresUnder, unplaced, coverUnder}
+use Rattle.cells.specs.Outcomes.{Coding, inUse, held, defectAt, unserved, figuresUnder, unplaced, coverUnder}
 use Rattle.cells.proofs.Outcomes.{refused-alike}
 use Rattle.construction_a.specs.Figures.{Params, maxWord, maxBursts, maxCount}
 use Rattle.construction_a.proofs.Figures.{Served, ranged}
@@ -21,7 +21,7 @@ use Rattle.construction_b.proofs.Figures.{count-is}
 use Rattle.params.specs.declared.Spells.{Spells}
 use Rattle.params.specs.declared.Spells.the-variants.{Rank, EndOffset}
 use Rattle.params.specs.declared.Layout.{Layout}
-use Rattle.params.specs.Given.{figuresOf, longOf, codingWith, codingIn, FittingWith, Serves}
+use Rattle.params.specs.Given.{figuresOf, longOf, codingWith, codingIn, LayoutFitsWith, Serves}
 use Rattle.params.proofs.Either.{in-shape, in-order, numbers-in}
 use Rattle.placements.specs.declared.Placement.{Placement}
 use Rattle.placements.specs.Bridge.{heldAs, startsIn, coverable, leastCover, coverWithin, Rankable, Room}
@@ -42,7 +42,7 @@ starts-held ss e = ap inUse e ∙ take-append-seam ss (replicate (maxBursts - le
 pub cover-unfit : (d : Coding) (map : List ℕ) (a : ℕ) → figuresUnder d ≡ unserved a → coverUnder d map ≡ unplaced a
 cover-unfit d map a e =
     let n = d .codec .wordLen in
-    let v = coverRank n (d .bursts) (d .burstLen) (worn map) in
+    let v = coverRank n (d .bursts) (d .burstLen) (defectAt map) in
     refused-alike d a unplaced
     (must (eqb (length map) n) (unplaced wrongLength)
     (must (allBelow 2 map) (unplaced badSymbol)
@@ -54,7 +54,7 @@ pub by-cover : (n m b : ℕ) (map : List ℕ) → coverWithin n m b map
     ≡ must (eqb (length map) n) (unplaced wrongLength)
     (must (allBelow 2 map) (unplaced badSymbol)
     (must (coverable n m b map) (unplaced uncovered)
-    (record { answer = served; placement = held (startsOf n m b (coverRank n m b (worn map))) })))
+    (record { answer = served; placement = held (startsOf n m b (coverRank n m b (defectAt map))) })))
 by-cover n m b map = by-bool (coverable n m b map) (λ t. rw t) (λ t. rw t)
 
 -- 3, 4 and 6, and a cover
@@ -77,7 +77,7 @@ module _ (l : Layout) (g : Serves l) where
   counts-all : codingIn l .placementCount ≡ placements (l .n) (l .m) (l .b)
   counts-all = go (l .spells) g
     where
-      go : (s : Spells) → FittingWith s l → codingWith s (figuresOf l) .placementCount ≡ placements (l .n) (l .m) (l .b)
+      go : (s : Spells) → LayoutFitsWith s l → codingWith s (figuresOf l) .placementCount ≡ placements (l .n) (l .m) (l .b)
       go Rank h = refl
       go EndOffset h =
           let t : 1 * l .b ≤ l .n = rw (h .laid .m-is) at (in-shape l g .total) in

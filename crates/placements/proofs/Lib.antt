@@ -1,4 +1,5 @@
 pub mod Filling
+mod Begun
 pub mod Scanning
 pub mod Calls
 pub mod Placing

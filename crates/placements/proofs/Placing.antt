@@ -13,17 +13,17 @@ use Rattle.construction_a.proofs.Figures.{placed-starts}
 use Rattle.params.specs.Given.{figuresOf, Shaped}
 use Rattle.params.proofs.Shape.{in-range}
 use Rattle.params.specs.declared.Layout.{Layout}
-use Rattle.placements.specs.Bridge.{startsIn, Placing}
+use Rattle.placements.specs.Bridge.{startsIn, PlacesBursts}
 use Rattle.placements.specs.declared.Placement.{Placement}
 
 -- a placement that passed the tests for refusals 3 and 5
-pub placing-of : (l : Layout) (at : Placement) → length (at .starts) ≡ maxBursts → Shaped l → at .count ≡ l .m → apart (l .b) (l .n) 0 (startsIn at) ≡ true → Placing l at
+pub placing-of : (l : Layout) (at : Placement) → length (at .starts) ≡ maxBursts → Shaped l → at .count ≡ l .m → apart (l .b) (l .n) 0 (startsIn at) ≡ true → PlacesBursts l at
 unfolding isPlacement
 placing-of l at sized g e valid =
     let count : length (startsIn at) ≡ l .m = length-take-le (at .count) (at .starts) (omega (arith, in-range l g .m-most, sized)) ∙ e in
     record { layout = g; count = e; placed = rw (eqb-same (length (startsIn at)) (l .m) count) valid }
 
-module _ (l : Layout) (at : Placement) (g : Placing l at) where
+module _ (l : Layout) (at : Placement) (g : PlacesBursts l at) where
   pub starts-placed : Placed (l .b) (l .n) 0 (startsIn at)
   starts-placed = placed-starts (figuresOf l) (startsIn at) (g .placed) .0
 

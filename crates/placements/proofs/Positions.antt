@@ -15,13 +15,13 @@ use Rattle.combinatorics.proofs.Cases.{by-le, by-eq, by-bool, leb-holds, leb-fa
 use Rattle.combinatorics.proofs.Cover.{Covers, covers-of, of-covers}
 use Rattle.combinatorics.proofs.Lists.{below-at, some-below, at-below}
 use Rattle.cells.specs.Erasures.{erasedAt}
-use Rattle.placements.specs.Bridge.{holds}
+use Rattle.placements.specs.Bridge.{burstHas}
 
-pub burst-next : (b s x : ℕ) (ss : List ℕ) → holds b s x ≡ false → inBurst b (s ∷ ss) x ≡ inBurst b ss x
+pub burst-next : (b s x : ℕ) (ss : List ℕ) → burstHas b s x ≡ false → inBurst b (s ∷ ss) x ≡ inBurst b ss x
 unfolding inBurst
 burst-next b s x ss e = rw e
 
-pub burst-found : (b s x : ℕ) (ss : List ℕ) → holds b s x ≡ true → inBurst b (s ∷ ss) x ≡ true
+pub burst-found : (b s x : ℕ) (ss : List ℕ) → burstHas b s x ≡ true → inBurst b (s ∷ ss) x ≡ true
 unfolding inBurst
 burst-found b s x ss e = rw e
 

@@ -8,8 +8,10 @@ use lib.ListN.{length, getD}
 use Rattle.refusals.specs.Refusals.{must, served, wrongLength, badSymbol, uncovered}
 use Rattle.combinatorics.specs.Lists.{allBelow}
 use Rattle.combinatorics.specs.Bursts.{apart, placements, rankOf, startsOf, coverRank}
+use Rattle.combinatorics.specs.Stretch.{tabulate}
+use Rattle.cells.specs.Bytes.{byteValues}
 use Rattle.construction_a.specs.Figures.{maxWord, maxBursts, maxCount, isPlacement}
-use Rattle.construction_a.specs.Outcomes.{Held, inUse, held, worn, Covered, unplaced}
+use Rattle.construction_a.specs.Outcomes.{Held, inUse, held, defectAt, Covered, unplaced}
 use Rattle.params.specs.Given.{figuresOf, Shaped}
 use Rattle.params.specs.declared.Layout.{Layout}
 use Rattle.placements.specs.declared.Placement.{Placement}
@@ -23,16 +25,20 @@ heldAs p = record { starts = p .starts; count = p .count }
 abbrev pub startsIn : Placement → List ℕ
 startsIn p = inUse (heldAs p)
 
+-- "starts of 2 bytes each, high byte first": m of them, from a position of the bytes on
+abbrev pub startsAt : List ℕ → ℕ → ℕ → List ℕ
+startsAt bytes from m = tabulate m 0 (λ i. getD bytes (from + 2 * i) 0 * byteValues + getD bytes (from + 2 * i + 1) 0)
+
 -- whether the burst from s on has position x
-abbrev pub holds : ℕ → ℕ → ℕ → Bool
-holds b s x = leb s x && ltb x (s + b)
+abbrev pub burstHas : ℕ → ℕ → ℕ → Bool
+burstHas b s x = leb s x && ltb x (s + b)
 
 -- the positions at which two words differ
 abbrev pub differAt : List ℕ → List ℕ → ℕ → Bool
 differAt v w x = not (eqb (getD v x 0) (getD w x 0))
 
 -- a placement whose bursts are apart, and within a word
-pub record Within (p : Placement) (b : ℕ) (w : List ℕ) : Type 0 where
+pub record WithinWord (p : Placement) (b : ℕ) (w : List ℕ) : Type 0 where
   pub few : p .count ≤ maxBursts
   pub valid : apart b (length w) 0 (startsIn p) ≡ true
 
@@ -52,11 +58,11 @@ pub record Room (n m b : ℕ) : Type 0 where
 
 -- some placement covers the map: otherwise "6: no placement covers the map."
 abbrev pub coverable : ℕ → ℕ → ℕ → List ℕ → Bool
-coverable n m b map = ltb (coverRank n m b (worn map)) (placements n m b)
+coverable n m b map = ltb (coverRank n m b (defectAt map)) (placements n m b)
 
 -- "the planner gives the placement of least rank whose runs cover every worn position"; no starts where none covers
 abbrev pub leastCover : ℕ → ℕ → ℕ → List ℕ → Held
-leastCover n m b map = cond (coverable n m b map) (held (startsOf n m b (coverRank n m b (worn map)))) (held [])
+leastCover n m b map = cond (coverable n m b map) (held (startsOf n m b (coverRank n m b (defectAt map)))) (held [])
 
 -- covering behind the figures, "3 4 6"
 abbrev pub coverWithin : ℕ → ℕ → ℕ → List ℕ → Covered
@@ -71,7 +77,7 @@ abbrev pub coveredAs : CoverAnswer → Covered
 coveredAs c = record { answer = c .answer; placement = heldAs (c .placement) }
 
 -- a placement of the bursts of a layout
-pub record Placing (l : Layout) (at : Placement) : Type 0 where
+pub record PlacesBursts (l : Layout) (at : Placement) : Type 0 where
   pub layout : Shaped l
   pub count : at .count ≡ l .m
   pub placed : isPlacement (figuresOf l) (startsIn at) ≡ true

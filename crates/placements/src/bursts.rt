@@ -5,12 +5,12 @@ ghost use lib.ListN.{length};
 ghost use Rattle.combinatorics.specs.Bursts.{inBurst, covers};
 ghost use Rattle.cells.specs.Erasures.{erasedAt};
 ghost use Rattle.construction_a.specs.Figures.{maxBursts};
-ghost use Rattle.placements.specs.Bridge.{startsIn, holds, differAt, Within};
+ghost use Rattle.placements.specs.Bridge.{startsIn, burstHas, differAt, WithinWord};
 use crate::Placement;
 
 // Whether every symbol of a word that is q or more lies in a burst: what stands before, between and behind the bursts is below q.
 pub fn cover_erasures(at: Placement, b: u32, q: u64, word: &[u8]) -> bool
-    requires { ⌜ Within at b (now word) ⌝ }
+    requires { ⌜ WithinWord at b (now word) ⌝ }
     ensures { λ r. ⌜ r ≡ covers (length (now (word .entry))) b (erasedAt q (now (word .entry))) (startsIn at) ⌝ }
 {
     let count = at.count as usize;
@@ -66,7 +66,7 @@ pub fn in_burst(at: Placement, b: u32, x: u64) -> bool
 // Whether the burst from `start` on has the position.
 fn has(start: u64, b: u32, x: u64) -> bool
     requires { ⌜ start < 2 ^ 16 ⌝ }
-    ensures { λ r. ⌜ r ≡ holds b start x ⌝ }
+    ensures { λ r. ⌜ r ≡ burstHas b start x ⌝ }
 {
     if x < start {
         return false;

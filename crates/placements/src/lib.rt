@@ -9,7 +9,7 @@ ghost use Rattle.combinatorics.specs.Choose.{choose};
 ghost use Rattle.combinatorics.specs.Rank.{ways};
 ghost use Rattle.combinatorics.specs.Stretch.{top, lastEnd};
 ghost use Rattle.binomials.specs.Limits.{maxThings, maxChosen};
-ghost use Rattle.cells.specs.Outcomes.{held, worn, unplaced as unplacedAs, coverUnder};
+ghost use Rattle.cells.specs.Outcomes.{held, defectAt, unplaced as unplacedAs, coverUnder};
 ghost use Rattle.construction_a.specs.Figures.{maxWord, maxBursts, maxCount};
 ghost use Rattle.params.specs.Bridge.{codingOf};
 ghost use Rattle.params.specs.Given.{codingIn, Serves};
@@ -21,6 +21,7 @@ use params::Params;
 use refusals::Refusal;
 
 pub mod bursts;
+pub mod starts;
 
 // "A placement is held as six starts and the count in use"; document 02, ticket 11: "Raise .. a placement's starts to eight." Starts past the
 // count are 0 in an answer and unread in a call.
@@ -253,7 +254,7 @@ fn least_cover(n: usize, m: usize, b: usize, map: &[u8]) -> Covering
 // One past the last defect below `below`, or 0.
 fn last_end(map: &[u8], below: usize) -> usize
     requires { ⌜ below ≤ length (now map) ⌝ }
-    ensures { λ r. ⌜ r ≡ lastEnd (worn (now (map .entry))) below ⌝ }
+    ensures { λ r. ⌜ r ≡ lastEnd (defectAt (now (map .entry))) below ⌝ }
 {
     let mut end = below;
     while 0 < end {

@@ -16,7 +16,7 @@ use Rattle.combinatorics.proofs.Lists.{both, below-at, all-same}
 use Rattle.prescription.specs.declared.fields.StoredEye.{StoredEye}
 use Rattle.prescription.specs.Lens.{Lens, plano, sphere, toric, keeps}
 use Rattle.prescription.specs.Eyes.{ruled, Prescribed, KeepsRules, prescribedOf, prescriptionOf, prescriptionFits}
-use Rattle.prescription.specs.Outcomes.{answered, refused, orRefused, readOut, written, writtenOr, writeOut}
+use Rattle.prescription.specs.Outcomes.{answered, refused, orRefused, readTextOut, writtenText, writtenOr, writeTextOut}
 use Rattle.prescription.specs.Laws.{TextsReadBack}
 use Rattle.prescription.specs.declared.texts.Prescription.{Prescription}
 use Rattle.prescription.specs.Stored.{bitsOf, countIn, fields, fieldsOf, lensIn, bytesOf, byteAt, fieldsAt, storedLen, textOf, prescribedIn}
@@ -182,29 +182,29 @@ text-only (a ∷ c ∷ d ∷ f ∷ g ∷ h ∷ i ∷ j ∷ k ∷ l ∷ m ∷ n �
 
 -- ---- Both ways
 
-written-reads : (p : Prescription) (text : List ℕ) → prescriptionFits p ≡ true → writeOut p text .answer ≡ served
-    → readOut (writeOut p text .text) ≡ answered p
-unfolding writeOut
+written-reads : (p : Prescription) (text : List ℕ) → prescriptionFits p ≡ true → writeTextOut p text .answer ≡ served
+    → readTextOut (writeTextOut p text .text) ≡ answered p
+unfolding writeTextOut
 written-reads p text t = go (leb storedLen (length text)) (prescribedOf p) refl
   where
-    go : (b : Bool) (o : Option Prescribed) → prescribedOf p ≡ o → must b (written badPrescription text) (writtenOr text o) .answer ≡ served
-        → readOut (must b (written badPrescription text) (writtenOr text o) .text) ≡ answered p
+    go : (b : Bool) (o : Option Prescribed) → prescribedOf p ≡ o → must b (writtenText badPrescription text) (writtenOr text o) .answer ≡ served
+        → readTextOut (must b (writtenText badPrescription text) (writtenOr text o) .text) ≡ answered p
     go false o e h = absurd (omega arith)
     go true none e h = absurd (omega arith)
     go true (some x) e h = reads-back (length text) x (held-exactly .ruled p x e) ∙ ap answered (sym (held-exactly .alone p x t e))
 
-read-writes : (p : Prescription) (text lent : List ℕ) → allBelow 256 text ≡ true → length lent ≡ length text → readOut text ≡ answered p
-    → writeOut p lent ≡ written served text
-unfolding readOut writeOut
+read-writes : (p : Prescription) (text lent : List ℕ) → allBelow 256 text ≡ true → length lent ≡ length text → readTextOut text ≡ answered p
+    → writeTextOut p lent ≡ writtenText served text
+unfolding readTextOut writeTextOut
 read-writes p text lent v l = go (prescribedIn text) refl
   where
     go : (o : Option Prescribed) → prescribedIn text ≡ o → orRefused prescriptionOf o ≡ answered p
-        → must (leb storedLen (length lent)) (written badPrescription lent) (writtenOr lent (prescribedOf p)) ≡ written served text
+        → must (leb storedLen (length lent)) (writtenText badPrescription lent) (writtenOr lent (prescribedOf p)) ≡ writtenText served text
     go none e h = absurd (Option·none-ne-some p (ap (λ a. a .value) h))
     go (some x) e h =
         let is : prescriptionOf x ≡ p = Option·some-injective (prescriptionOf x) p (ap (λ a. a .value) h) in
         let stands : prescribedOf p ≡ some x = ap prescribedOf (sym is) ∙ held-exactly .stands x (text-kept text x v e) in
-        rw (l, long text x e, stands) (ap (λ (n : ℕ). written served (textOf n x)) l ∙ ap (written served) (text-only text x v e))
+        rw (l, long text x e, stands) (ap (λ (n : ℕ). writtenText served (textOf n x)) l ∙ ap (writtenText served) (text-only text x v e))
 
 pub texts-read-back : TextsReadBack
 texts-read-back = record { written-reads = written-reads; read-writes = read-writes }

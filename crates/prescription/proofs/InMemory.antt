@@ -15,7 +15,7 @@ use Rattle.prescription.specs.declared.eyes.Eye.the-variants.{Plano, Sph
 use Rattle.prescription.specs.declared.texts.Prescription.{Prescription}
 use Rattle.prescription.specs.Fractions.{fraction, countOf}
 use Rattle.prescription.specs.Lens.{Lens, plano, sphere, toric, keeps}
-use Rattle.prescription.specs.Eyes.{lensOf, eyeOf, eyeFits, isDistance, Prescribed, KeepsRules, joined, prescribedOf, prescriptionOf, prescriptionFits}
+use Rattle.prescription.specs.Eyes.{lensOf, eyeOf, eyeFits, isDistance, Prescribed, KeepsRules, joinedEyes, prescribedOf, prescriptionOf, prescriptionFits}
 use Rattle.prescription.specs.Stored.{fieldsOf}
 use Rattle.prescription.specs.Counts.{storedOf}
 use Rattle.prescription.specs.Laws.{HeldExactly}
@@ -54,7 +54,7 @@ pub record JoinedTold (r l : Option Lens) (h : Option ℤ) (x : Prescribed) : Ty
   pub halves-is : h ≡ some (pos (x .halves))
   pub distance : isDistance (x .halves) ≡ true
 
-pub joined-told : (r l : Option Lens) (h : Option ℤ) (x : Prescribed) → joined r l h ≡ some x → JoinedTold r l h x
+pub joined-told : (r l : Option Lens) (h : Option ℤ) (x : Prescribed) → joinedEyes r l h ≡ some x → JoinedTold r l h x
 joined-told none l h x e = absurd (Option·none-ne-some x e)
 joined-told (some r) none h x e = absurd (Option·none-ne-some x e)
 joined-told (some r) (some l) none x e = absurd (Option·none-ne-some x e)
@@ -72,9 +72,9 @@ stands : (x : Prescribed) → KeepsRules x → prescribedOf (prescriptionOf x) �
 unfolding prescribedOf prescriptionOf
 stands x k =
     let distance = countOf 2 (fraction 2 (pos (x .halves))) in
-    ap (λ (o : Option Lens). joined o (lensOf (eyeOf (x .left))) distance) (lens-back (x .right) (k .right-kept))
-    ∙ ap (λ (o : Option Lens). joined (some (x .right)) o distance) (lens-back (x .left) (k .left-kept))
-    ∙ ap (joined (some (x .right)) (some (x .left))) (counts-back 2 halves (pos (x .halves)) (distance-small (x .halves) (k .distance)))
+    ap (λ (o : Option Lens). joinedEyes o (lensOf (eyeOf (x .left))) distance) (lens-back (x .right) (k .right-kept))
+    ∙ ap (λ (o : Option Lens). joinedEyes (some (x .right)) o distance) (lens-back (x .left) (k .left-kept))
+    ∙ ap (joinedEyes (some (x .right)) (some (x .left))) (counts-back 2 halves (pos (x .halves)) (distance-small (x .halves) (k .distance)))
     ∙ ap (λ (b : Bool). must b none (some x)) (k .distance)
 
 told : (p : Prescription) (x : Prescribed) → prescribedOf p ≡ some x → JoinedTold (lensOf (p .right)) (lensOf (p .left)) (countOf 2 (p .«pupil_distance»)) x

@@ -13,10 +13,12 @@ use Rattle.refusals.specs.Refusals.{must, badPrescription}
 use Rattle.prescription.specs.declared.eyes.Eye.{Eye}
 use Rattle.prescription.specs.declared.eyes.Eye.the-variants.{Plano, Sphere, Toric}
 use Rattle.prescription.specs.declared.fields.StoredEye.{StoredEye}
+use Rattle.prescription.specs.declared.fields.StoredAnswer.{StoredAnswer}
+use Rattle.prescription.specs.declared.fields.StoredAnswer.the-variants.{Kept}
 use Rattle.prescription.specs.Fractions.{isNegative, fraction, countOf}
 use Rattle.prescription.specs.Lens.{Lens, plano, sphere, toric, keeps, turned, transposed, equivalent}
 use Rattle.prescription.specs.Eyes.{ruled, sphereOf, toricOf, lensOf, eyeOf}
-use Rattle.prescription.specs.Counts.{storedOf}
+use Rattle.prescription.specs.Counts.{storedAs, storedOf}
 use Rattle.prescription.specs.Outcomes.{answered, refused, orRefused, transposeOut, equivalentOut}
 use Rattle.prescription.specs.Laws.{SameBits}
 use Rattle.prescription.proofs.Fractions.{Worth, worth-of-count, fraction-of-worth}
@@ -71,6 +73,17 @@ toric-of (some s) (some c) x y a e i j h = go (keeps (toric s c a)) refl h
 pub toric-is : (x y : Float) (a : ℕ) (e : StoredEye) → some e ≡ storedOf (lensOf (Toric x y a)) → ToricIs x y a
 unfolding lensOf
 toric-is x y a e h = toric-of (countOf 8 x) (countOf 8 y) x y a e refl refl h
+
+-- the same of an eye whose fields are kept
+module _ {self : Eye} {r : StoredAnswer} {e : StoredEye} (kept : r ≡ Kept e) (stored : storedAs r ≡ storedOf (lensOf self)) where
+  fields-of : (eye : Eye) → self ≡ eye → some e ≡ storedOf (lensOf eye)
+  fields-of eye is = sym (ap storedAs kept) ∙ stored ∙ ap (λ (x : Eye). storedOf (lensOf x)) is
+
+  pub sphere-told : {p : Float} → self ≡ Sphere p → SphereIs p
+  sphere-told {p} is = sphere-is p e (fields-of (Sphere p) is)
+
+  pub toric-told : {x y : Float} {a : ℕ} → self ≡ Toric x y a → ToricIs x y a
+  toric-told {x} {y} {a} is = toric-is x y a e (fields-of (Toric x y a) is)
 
 -- ---- The lens, and the eye of a lens
 

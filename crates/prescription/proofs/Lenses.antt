@@ -8,7 +8,7 @@ use lib.IntN.{ℤ, pos, negsuc, negℤ, natAbs, _+ℤ_, +ℤ-negℤ-cancel, +ℤ
 use lib.Ieee.Fits.{and-l, and-r}
 use borrow.Author.Tests.{lt-ltb, le-ltb, le-leb}
 use Rattle.combinatorics.proofs.Cases.{eqb-other}
-use Rattle.prescription.specs.Lens.{Lens, plano, sphere, toric, inRange, nonzero, keeps, turned, transposed, equivalent}
+use Rattle.prescription.specs.Lens.{Lens, plano, sphere, toric, inPowerRange, nonzero, keeps, turned, transposed, equivalent}
 use Rattle.prescription.specs.Laws.{Moves}
 use Rattle.prescription.specs.Counts.{PowerOfTwo}
 use Rattle.prescription.proofs.Arithmetic.{by-lt}
@@ -31,8 +31,8 @@ pub toric-kept : (s c : ℤ) (a : ℕ) → keeps (toric s c a) ≡ true → Tori
 unfolding keeps
 toric-kept s c a h =
     let t = holds h in
-    let p = inRange s in
-    let q = inRange (s +ℤ c) in
+    let p = inPowerRange s in
+    let q = inPowerRange (s +ℤ c) in
     let r = nonzero c in
     let x = leb 1 a && leb a 180 in
     let front = and-l (p && q && r) x t in
@@ -48,7 +48,7 @@ toric-kept s c a h =
 pub keeps-toric : (s c : ℤ) (a : ℕ) → ToricKept s c a → keeps (toric s c a) ≡ true
 unfolding keeps
 keeps-toric s c a k =
-    ap (λ (b : Bool). b && inRange (s +ℤ c) && nonzero c && (leb 1 a && leb a 180)) (le-leb (natAbs s) 240 (k .sphere-in))
+    ap (λ (b : Bool). b && inPowerRange (s +ℤ c) && nonzero c && (leb 1 a && leb a 180)) (le-leb (natAbs s) 240 (k .sphere-in))
     ∙ ap (λ (b : Bool). b && nonzero c && (leb 1 a && leb a 180)) (le-leb (natAbs (s +ℤ c)) 240 (k .sum-in))
     ∙ ap (λ (b : Bool). not b && (leb 1 a && leb a 180)) (eqb-other (natAbs c) 0 (k .other))
     ∙ ap (λ (b : Bool). b && leb a 180) (le-leb 1 a (k .low))
@@ -56,7 +56,7 @@ keeps-toric s c a k =
 
 pub sphere-kept : (p : ℤ) → keeps (sphere p) ≡ true → natAbs p ≤ 240
 unfolding keeps
-sphere-kept p h = leb→le (natAbs p) 240 (and-l (inRange p) (nonzero p) (holds h))
+sphere-kept p h = leb→le (natAbs p) 240 (and-l (inPowerRange p) (nonzero p) (holds h))
 
 pub cylinder-in : (s c : ℤ) (a : ℕ) → ToricKept s c a → natAbs c ≤ 480
 cylinder-in s c a k = let l = sum-apart s c in let m = k .sphere-in in let n = k .sum-in in omega arith

@@ -19,9 +19,9 @@ use Rattle.prescription.specs.declared.eyes.Eye.the-variants.{Sphere, To
 use Rattle.prescription.specs.declared.fields.StoredEye.{StoredEye}
 use Rattle.prescription.specs.Fractions.{fraction, countOf}
 use Rattle.prescription.specs.Lens.{Lens, plano, sphere, toric, keeps}
-use Rattle.prescription.specs.Eyes.{ruled, sphereOf, toricOf, lensOf, eyeOf, isDistance, joined, prescriptionOf}
+use Rattle.prescription.specs.Eyes.{ruled, sphereOf, toricOf, lensOf, eyeOf, isDistance, joinedEyes, prescriptionOf}
 use Rattle.prescription.specs.Stored.{countIn, lensIn, storedLen, prescribedAt, prescribedIn}
-use Rattle.prescription.specs.Outcomes.{answered, refused, orRefused, distanced, readOut}
+use Rattle.prescription.specs.Outcomes.{answered, refused, orRefused, distanced, readTextOut}
 use Rattle.prescription.proofs.Arithmetic.{by-lt}
 use Rattle.prescription.proofs.Counting.{counts-back}
 use Rattle.prescription.proofs.Storing.{eighths, no-second}
@@ -110,24 +110,24 @@ pub eye-read : (o : Option Lens) (e : Eye) → answered e ≡ orRefused eyeOf o 
 eye-read none e h = absurd (Option·none-ne-some e (sym (ap (λ x. x .value) h)))
 eye-read (some l) e h = record { lens = l; lens-is = refl; eye-is = Option·some-injective e (eyeOf l) (ap (λ x. x .value) h) }
 
-pub no-right : (r l : Option Lens) (h : Option ℤ) → r ≡ none → refused badPrescription ≡ orRefused prescriptionOf (joined r l h)
-no-right r l h e = ap (λ (o : Option Lens). orRefused prescriptionOf (joined o l h)) (sym e)
+pub no-right : (r l : Option Lens) (h : Option ℤ) → r ≡ none → refused badPrescription ≡ orRefused prescriptionOf (joinedEyes r l h)
+no-right r l h e = ap (λ (o : Option Lens). orRefused prescriptionOf (joinedEyes o l h)) (sym e)
 
-pub no-left : (r l : Option Lens) (h : Option ℤ) → l ≡ none → refused badPrescription ≡ orRefused prescriptionOf (joined r l h)
-no-left r l h e = go r ∙ ap (λ (o : Option Lens). orRefused prescriptionOf (joined r o h)) (sym e)
+pub no-left : (r l : Option Lens) (h : Option ℤ) → l ≡ none → refused badPrescription ≡ orRefused prescriptionOf (joinedEyes r l h)
+no-left r l h e = go r ∙ ap (λ (o : Option Lens). orRefused prescriptionOf (joinedEyes r o h)) (sym e)
   where
-    go : (r : Option Lens) → refused badPrescription ≡ orRefused prescriptionOf (joined r none h)
+    go : (r : Option Lens) → refused badPrescription ≡ orRefused prescriptionOf (joinedEyes r none h)
     go none = refl
     go (some m) = refl
 
-pub both-read : (r l : Option Lens) (e f : Eye) (h : ℕ) → EyeRead r e → EyeRead l f → distanced e f h ≡ orRefused prescriptionOf (joined r l (some (pos h)))
+pub both-read : (r l : Option Lens) (e f : Eye) (h : ℕ) → EyeRead r e → EyeRead l f → distanced e f h ≡ orRefused prescriptionOf (joinedEyes r l (some (pos h)))
 unfolding prescriptionOf
 both-read r l e f h i j =
     ap (λ (x : Eye). distanced x f h) (i .eye-is)
     ∙ ap (λ (x : Eye). distanced (eyeOf (i .lens)) x h) (j .eye-is)
     ∙ go (isDistance h)
-    ∙ ap (λ (o : Option Lens). orRefused prescriptionOf (joined o (some (j .lens)) (some (pos h)))) (sym (i .lens-is))
-    ∙ ap (λ (o : Option Lens). orRefused prescriptionOf (joined r o (some (pos h)))) (sym (j .lens-is))
+    ∙ ap (λ (o : Option Lens). orRefused prescriptionOf (joinedEyes o (some (j .lens)) (some (pos h)))) (sym (i .lens-is))
+    ∙ ap (λ (o : Option Lens). orRefused prescriptionOf (joinedEyes r o (some (pos h)))) (sym (j .lens-is))
   where
     go : (b : Bool) → must b (refused badPrescription) (answered (prescriptionOf (record { right = i .lens; left = j .lens; halves = h })))
         ≡ orRefused prescriptionOf (must b none (some (record { right = i .lens; left = j .lens; halves = h })))
@@ -148,20 +148,20 @@ pub zeros-behind : (text : List ℕ) (r : Bool) → r ≡ allBelow 1 (take (leng
     → r ≡ all (λ x. eqb x 0) (drop storedLen text)
 zeros-behind text r h = h ∙ ap (allBelow 1) (rest-is storedLen text) ∙ zeros-below (drop storedLen text)
 
-pub text-short : (text : List ℕ) → length text < storedLen → refused badPrescription ≡ readOut text
-unfolding readOut prescribedIn
+pub text-short : (text : List ℕ) → length text < storedLen → refused badPrescription ≡ readTextOut text
+unfolding readTextOut prescribedIn
 text-short text h = ap (λ (b : Bool). orRefused prescriptionOf (must (b && all (λ x. eqb x 0) (drop storedLen text)) none (prescribedAt text)))
     (sym (lt-leb storedLen (length text) h))
 
-pub text-behind : (text : List ℕ) → all (λ x. eqb x 0) (drop storedLen text) ≡ false → refused badPrescription ≡ readOut text
-unfolding readOut prescribedIn
+pub text-behind : (text : List ℕ) → all (λ x. eqb x 0) (drop storedLen text) ≡ false → refused badPrescription ≡ readTextOut text
+unfolding readTextOut prescribedIn
 text-behind text h =
     ap (λ (b : Bool). orRefused prescriptionOf (must b none (prescribedAt text)))
     (sym (no-second (leb storedLen (length text)) (all (λ x. eqb x 0) (drop storedLen text)) h))
 
 pub text-read : (text : List ℕ) → storedLen ≤ length text → all (λ x. eqb x 0) (drop storedLen text) ≡ true
-    → orRefused prescriptionOf (prescribedAt text) ≡ readOut text
-unfolding readOut prescribedIn
+    → orRefused prescriptionOf (prescribedAt text) ≡ readTextOut text
+unfolding readTextOut prescribedIn
 text-read text l h =
     ap (λ (b : Bool). orRefused prescriptionOf (must (true && b) none (prescribedAt text))) (sym h)
     ∙ ap (λ (b : Bool). orRefused prescriptionOf (must (b && all (λ x. eqb x 0) (drop storedLen text)) none (prescribedAt text)))

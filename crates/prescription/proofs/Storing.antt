@@ -12,7 +12,7 @@ use lib.Ieee.{Float, binary64, add}
 use Rattle.refusals.specs.Refusals.{must}
 use Rattle.combinatorics.proofs.Cases.{eqb-other}
 use Rattle.prescription.specs.Fractions.{countOf}
-use Rattle.prescription.specs.Lens.{Lens, sphere, toric, inRange, nonzero, keeps}
+use Rattle.prescription.specs.Lens.{Lens, sphere, toric, inPowerRange, nonzero, keeps}
 use Rattle.prescription.specs.Eyes.{ruled, sphereOf, toricOf}
 use Rattle.prescription.specs.Stored.{bitsOf, countIn, fields, fieldsOf}
 use Rattle.prescription.specs.Counts.{PowerOfTwo, limit, bitsIn, storedOf, toricKeeps}
@@ -87,7 +87,7 @@ beyond c = by-lt (natAbs c) limit (λ b. none ≡ must b none (some (bitsOf c)) 
 
 -- ---- What is stored
 
-out-of-range : (c : ℤ) → 240 < natAbs c → inRange c ≡ false
+out-of-range : (c : ℤ) → 240 < natAbs c → inPowerRange c ≡ false
 out-of-range c h = lt-leb (natAbs c) 240 h
 
 stored-must : (b : Bool) (l : Lens) → storedOf (must b none (some l)) ≡ must b none (some (fieldsOf l))
@@ -103,29 +103,29 @@ sphere-out none h = refl
 sphere-out (some c) h = unruled (sphere c) (ap (λ (b : Bool). b && nonzero c) (out-of-range c (let l = beyond c h in omega arith)))
 
 pub sphere-stored : (o : Option ℤ) (u : ℕ) → some u ≡ bitsIn o
-    → storedOf (sphereOf o) ≡ must (inRange (countIn u) && not (eqb u 0)) none (some (fields 1 u 0 0))
+    → storedOf (sphereOf o) ≡ must (inPowerRange (countIn u) && not (eqb u 0)) none (some (fields 1 u 0 0))
 unfolding keeps fieldsOf
 sphere-stored o u h =
     let t = bits-told o u h in
     let c = t .count in
     ap (λ (x : Option ℤ). storedOf (sphereOf x)) (t .is)
     ∙ stored-must (keeps (sphere c)) (sphere c)
-    ∙ ap (λ (z : Bool). must (inRange c && not z) none (some (fields 1 (bitsOf c) 0 0))) (sym (bits-zero c (t .small)))
-    ∙ ap (λ (z : ℤ). must (inRange z && not (eqb (bitsOf c) 0)) none (some (fields 1 (bitsOf c) 0 0))) (sym (count-of-bits c (t .small)))
-    ∙ ap (λ (z : ℕ). must (inRange (countIn z) && not (eqb z 0)) none (some (fields 1 z 0 0))) (sym (t .bits))
+    ∙ ap (λ (z : Bool). must (inPowerRange c && not z) none (some (fields 1 (bitsOf c) 0 0))) (sym (bits-zero c (t .small)))
+    ∙ ap (λ (z : ℤ). must (inPowerRange z && not (eqb (bitsOf c) 0)) none (some (fields 1 (bitsOf c) 0 0))) (sym (count-of-bits c (t .small)))
+    ∙ ap (λ (z : ℕ). must (inPowerRange (countIn z) && not (eqb z 0)) none (some (fields 1 z 0 0))) (sym (t .bits))
 
 pub toric-out-sphere : (o p : Option ℤ) (a : ℕ) → none ≡ bitsIn o → none ≡ storedOf (toricOf o p a)
 unfolding keeps
 toric-out-sphere none p a h = refl
 toric-out-sphere (some s) none a h = refl
 toric-out-sphere (some s) (some c) a h =
-    unruled (toric s c a) (ap (λ (b : Bool). b && inRange (s +ℤ c) && nonzero c && (leb 1 a && leb a 180))
+    unruled (toric s c a) (ap (λ (b : Bool). b && inPowerRange (s +ℤ c) && nonzero c && (leb 1 a && leb a 180))
     (out-of-range s (let l = beyond s h in omega arith)))
 
 -- a sum out of range
-no-sum : (s c : ℤ) (a : ℕ) → inRange (s +ℤ c) ≡ false → keeps (toric s c a) ≡ false
+no-sum : (s c : ℤ) (a : ℕ) → inPowerRange (s +ℤ c) ≡ false → keeps (toric s c a) ≡ false
 unfolding keeps
-no-sum s c a h = ap (λ (b : Bool). inRange s && b && nonzero c && (leb 1 a && leb a 180)) h ∙ none-left (inRange s)
+no-sum s c a h = ap (λ (b : Bool). inPowerRange s && b && nonzero c && (leb 1 a && leb a 180)) h ∙ none-left (inPowerRange s)
   where
     none-left : (b : Bool) → b && false && nonzero c && (leb 1 a && leb a 180) ≡ false
     none-left true = refl
@@ -138,7 +138,7 @@ toric-out-cylinder (some s) none a h = refl
 toric-out-cylinder (some s) (some c) a h = unruled (toric s c a) (go (ltb 240 (natAbs s)) refl)
   where
     go : (b : Bool) → ltb 240 (natAbs s) ≡ b → keeps (toric s c a) ≡ false
-    go true e = ap (λ (b : Bool). b && inRange (s +ℤ c) && nonzero c && (leb 1 a && leb a 180)) (out-of-range s (ltb-true 240 (natAbs s) e))
+    go true e = ap (λ (b : Bool). b && inPowerRange (s +ℤ c) && nonzero c && (leb 1 a && leb a 180)) (out-of-range s (ltb-true 240 (natAbs s) e))
     go false e = no-sum s c a (out-of-range (s +ℤ c) (let l = beyond c h in let m = ltb-false 240 (natAbs s) e in let n = sum-apart s c in omega arith))
 
 -- sphere and cylinder in reach, and what their sum is then
@@ -173,11 +173,11 @@ toric-stored x y u v w a h k n =
     ap (λ (o : Option ℤ). storedOf (toricOf o (countOf 8 y) a)) (s .is)
     ∙ ap (λ (o : Option ℤ). storedOf (toricOf (some S) o a)) (c .is)
     ∙ stored-must (keeps (toric S C a)) (toric S C a)
-    ∙ ap (λ (z : Bool). must (inRange S && inRange (S +ℤ C) && not z && (leb 1 a && leb a 180)) none (some (fields 2 (bitsOf S) (bitsOf C) a)))
+    ∙ ap (λ (z : Bool). must (inPowerRange S && inPowerRange (S +ℤ C) && not z && (leb 1 a && leb a 180)) none (some (fields 2 (bitsOf S) (bitsOf C) a)))
     (sym (bits-zero C (c .small)))
-    ∙ ap (λ (z : ℤ). must (inRange z && inRange (S +ℤ C) && not (eqb (bitsOf C) 0) && (leb 1 a && leb a 180)) none (some (fields 2 (bitsOf S) (bitsOf C) a)))
+    ∙ ap (λ (z : ℤ). must (inPowerRange z && inPowerRange (S +ℤ C) && not (eqb (bitsOf C) 0) && (leb 1 a && leb a 180)) none (some (fields 2 (bitsOf S) (bitsOf C) a)))
     (sym (count-of-bits S (s .small)))
-    ∙ ap (λ (z : ℤ). must (inRange (countIn (bitsOf S)) && inRange z && not (eqb (bitsOf C) 0) && (leb 1 a && leb a 180)) none
+    ∙ ap (λ (z : ℤ). must (inPowerRange (countIn (bitsOf S)) && inPowerRange z && not (eqb (bitsOf C) 0) && (leb 1 a && leb a 180)) none
     (some (fields 2 (bitsOf S) (bitsOf C) a))) (sym sum ∙ sym (count-of-bits (t .count) (t .small)) ∙ ap countIn (sym (t .bits)))
     ∙ ap (λ (z : ℕ). must (toricKeeps z w (bitsOf C) a) none (some (fields 2 z (bitsOf C) a))) (sym (s .bits))
     ∙ ap (λ (z : ℕ). must (toricKeeps u w z a) none (some (fields 2 u z a))) (sym (c .bits))
@@ -187,11 +187,11 @@ toric-stored x y u v w a h k n =
 
 -- ---- The test of a range, on bits
 
-pub range-low : (u : ℕ) → u < 32768 → leb u 240 ≡ inRange (countIn u)
-range-low u h = ap (λ (b : Bool). inRange (cond b (pos u) (negsuc (65535 - u)))) (sym (lt-ltb u 32768 h))
+pub range-low : (u : ℕ) → u < 32768 → leb u 240 ≡ inPowerRange (countIn u)
+range-low u h = ap (λ (b : Bool). inPowerRange (cond b (pos u) (negsuc (65535 - u)))) (sym (lt-ltb u 32768 h))
 
-pub range-high : (u : ℕ) → 32768 ≤ u → u < 65536 → leb (65536 - u) 240 ≡ inRange (countIn u)
-range-high u h l = ap (λ (n : ℕ). leb n 240) (size u l) ∙ ap (λ (b : Bool). inRange (cond b (pos u) (negsuc (65535 - u)))) (sym (le-ltb u 32768 h))
+pub range-high : (u : ℕ) → 32768 ≤ u → u < 65536 → leb (65536 - u) 240 ≡ inPowerRange (countIn u)
+range-high u h l = ap (λ (n : ℕ). leb n 240) (size u l) ∙ ap (λ (b : Bool). inPowerRange (cond b (pos u) (negsuc (65535 - u)))) (sym (le-ltb u 32768 h))
   where
     size : (u : ℕ) → u < 65536 → 65536 - u ≡ suc (65535 - u)
     size u l = omega arith
@@ -208,17 +208,21 @@ no-third p q r h = no-second (p && q) r h
 pub no-first-of-three : (p q r : Bool) → p ≡ false → p && q && r ≡ false
 no-first-of-three p q r h = ap (λ (b : Bool). b && q && r) h
 
-pub no-first-of-four : (p q r s : Bool) → p ≡ false → p && q && r && s ≡ false
-no-first-of-four p q r s h = ap (λ (b : Bool). b && q && r && s) h
+module _ (s t c a : ℕ) where
+  pub sphere-fails : inPowerRange (countIn s) ≡ false → false ≡ toricKeeps s t c a
+  sphere-fails h = sym (ap (λ (b : Bool). b && inPowerRange (countIn t) && not (eqb c 0) && (leb 1 a && leb a 180)) h)
 
-pub no-second-of-four : (p q r s : Bool) → q ≡ false → p && q && r && s ≡ false
-no-second-of-four p q r s h = ap (λ (b : Bool). b && r && s) (no-second p q h)
+  pub sum-fails : inPowerRange (countIn t) ≡ false → false ≡ toricKeeps s t c a
+  sum-fails h = sym (ap (λ (b : Bool). b && not (eqb c 0) && (leb 1 a && leb a 180)) (no-second (inPowerRange (countIn s)) (inPowerRange (countIn t)) h))
 
-pub no-third-of-four : (p q r s : Bool) → r ≡ false → p && q && r && s ≡ false
-no-third-of-four p q r s h = ap (λ (b : Bool). b && s) (no-second (p && q) r h)
+  pub cylinder-fails : not (eqb c 0) ≡ false → false ≡ toricKeeps s t c a
+  cylinder-fails h = sym (ap (λ (b : Bool). b && (leb 1 a && leb a 180)) (no-third (inPowerRange (countIn s)) (inPowerRange (countIn t)) (not (eqb c 0)) h))
 
-pub all-four : (p q r s : Bool) → p ≡ true → q ≡ true → r ≡ true → p && q && r && s ≡ s
-all-four p q r s h k l = ap (λ (b : Bool). b && q && r && s) h ∙ ap (λ (b : Bool). b && r && s) k ∙ ap (λ (b : Bool). b && s) l
+  pub axis-fails : leb 1 a ≡ false → false ≡ toricKeeps s t c a
+  axis-fails h = sym (no-third (inPowerRange (countIn s) && inPowerRange (countIn t)) (not (eqb c 0)) (leb 1 a && leb a 180) (ap (λ (b : Bool). b && leb a 180) h))
+
+  pub last-decides : inPowerRange (countIn s) ≡ true → inPowerRange (countIn t) ≡ true → not (eqb c 0) ≡ true → leb 1 a ≡ true → leb a 180 ≡ toricKeeps s t c a
+  last-decides h k l m = rw (h, k, l, m)
 
 pub must-not : {A : Type 0} (b : Bool) (x y : A) → b ≡ false → must b x y ≡ x
 must-not b x y h = ap (λ (t : Bool). must t x y) h

@@ -15,10 +15,10 @@ use Rattle.combinatorics.specs.Lists.{all}
 use Rattle.combinatorics.proofs.Lists.{all-replicate}
 use Rattle.prescription.specs.declared.fields.StoredEye.{StoredEye}
 use Rattle.prescription.specs.Lens.{Lens, plano, sphere, toric, keeps}
-use Rattle.prescription.specs.Eyes.{ruled, Prescribed, KeepsRules, joined, prescriptionOf}
+use Rattle.prescription.specs.Eyes.{ruled, Prescribed, KeepsRules, joinedEyes, prescriptionOf}
 use Rattle.prescription.specs.Stored.{bitsOf, countIn, fields, fieldsOf, lensIn, bytesOf, fieldsAt, storedLen, textOf, prescribedIn, prescribedAt}
 use Rattle.prescription.specs.Counts.{limit}
-use Rattle.prescription.specs.Outcomes.{answered, orRefused, readOut}
+use Rattle.prescription.specs.Outcomes.{answered, orRefused, readTextOut}
 use Rattle.prescription.proofs.Storing.{count-of-bits}
 use Rattle.prescription.proofs.Lenses.{toric-kept, sphere-kept, cylinder-in}
 use Rattle.prescription.proofs.LensOfEye.{rule-kept}
@@ -51,17 +51,17 @@ text-back n x k =
     (le-leb storedLen (length (bytesOf (fieldsOf (x .right)) ++ (bytesOf (fieldsOf (x .left)) ++ (x .halves ∷ zeros)))) (long (length zeros)))
     ∙ ap (λ (b : Bool). must (true && b) none (prescribedAt (bytesOf (fieldsOf (x .right)) ++ (bytesOf (fieldsOf (x .left)) ++ (x .halves ∷ zeros)))))
     (all-replicate (λ y. eqb y 0) (n - storedLen) 0 refl)
-    ∙ ap (λ (f : StoredEye). joined (lensIn f) (lensIn (fieldsAt (bytesOf (fieldsOf (x .right)) ++ (bytesOf (fieldsOf (x .left)) ++ (x .halves ∷ zeros))) 6))
+    ∙ ap (λ (f : StoredEye). joinedEyes (lensIn f) (lensIn (fieldsAt (bytesOf (fieldsOf (x .right)) ++ (bytesOf (fieldsOf (x .left)) ++ (x .halves ∷ zeros))) 6))
     (some (pos (x .halves)))) (joined-bytes (fieldsOf (x .right)))
-    ∙ ap (λ (f : StoredEye). joined (lensIn (fieldsOf (x .right))) (lensIn f) (some (pos (x .halves)))) (joined-bytes (fieldsOf (x .left)))
-    ∙ ap (λ (o : Option Lens). joined o (lensIn (fieldsOf (x .left))) (some (pos (x .halves)))) (fields-back (x .right) (k .right-kept))
-    ∙ ap (λ (o : Option Lens). joined (some (x .right)) o (some (pos (x .halves)))) (fields-back (x .left) (k .left-kept))
+    ∙ ap (λ (f : StoredEye). joinedEyes (lensIn (fieldsOf (x .right))) (lensIn f) (some (pos (x .halves)))) (joined-bytes (fieldsOf (x .left)))
+    ∙ ap (λ (o : Option Lens). joinedEyes o (lensIn (fieldsOf (x .left))) (some (pos (x .halves)))) (fields-back (x .right) (k .right-kept))
+    ∙ ap (λ (o : Option Lens). joinedEyes (some (x .right)) o (some (pos (x .halves)))) (fields-back (x .left) (k .left-kept))
     ∙ ap (λ (b : Bool). must b none (some x)) (k .distance)
   where
     long : (j : ℕ) → 13 ≤ suc (suc (suc (suc (suc (suc (suc (suc (suc (suc (suc (suc (suc j))))))))))))
     long j = omega arith
 
 -- what is read from the text of a prescription is its floats
-pub reads-back : (n : ℕ) (x : Prescribed) → KeepsRules x → readOut (textOf n x) ≡ answered (prescriptionOf x)
-unfolding readOut
+pub reads-back : (n : ℕ) (x : Prescribed) → KeepsRules x → readTextOut (textOf n x) ≡ answered (prescriptionOf x)
+unfolding readTextOut
 reads-back n x k = ap (orRefused prescriptionOf) (text-back n x k)

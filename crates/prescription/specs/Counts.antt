@@ -13,10 +13,10 @@ use Rattle.prescription.specs.declared.counts.Count.the-variants.{Whole,
 use Rattle.prescription.specs.declared.fields.StoredEye.{StoredEye}
 use Rattle.prescription.specs.declared.fields.StoredAnswer.{StoredAnswer}
 use Rattle.prescription.specs.declared.fields.StoredAnswer.the-variants.{Kept, Refused}
-use Rattle.prescription.specs.Lens.{Lens, inRange}
+use Rattle.prescription.specs.Lens.{Lens, inPowerRange}
 use Rattle.prescription.specs.Stored.{bitsOf, countIn, fieldsOf, bytesOf, storedLen}
 use Rattle.prescription.specs.Eyes.{isDistance}
-use Rattle.prescription.specs.Outcomes.{Written, written}
+use Rattle.prescription.specs.Outcomes.{Written, writtenText}
 
 -- so many parts that floats have them exactly: a power of two
 pub record PowerOfTwo (d : ℕ) : Type 0 where
@@ -59,7 +59,7 @@ storedOf (some l) = some (fieldsOf l)
 
 -- a toric's fields keep the rules; t are the bits of sphere plus cylinder
 abbrev pub toricKeeps : ℕ → ℕ → ℕ → ℕ → Bool
-toricKeeps s t c a = inRange (countIn s) && inRange (countIn t) && not (eqb c 0) && (leb 1 a && leb a 180)
+toricKeeps s t c a = inPowerRange (countIn s) && inPowerRange (countIn t) && not (eqb c 0) && (leb 1 a && leb a 180)
 
 -- ---- Texts
 
@@ -76,4 +76,4 @@ storedText t r l h = bytesOf r ++ (bytesOf l ++ (h ∷ replicate (t - storedLen)
 
 -- it is stored where the distance keeps the rule
 unfoldable pub storedOut : List ℕ → StoredEye → StoredEye → ℕ → Written
-storedOut text r l h = must (isDistance h) (written badPrescription text) (written served (storedText (length text) r l h))
+storedOut text r l h = must (isDistance h) (writtenText badPrescription text) (writtenText served (storedText (length text) r l h))

@@ -14,8 +14,8 @@ use Rattle.prescription.specs.Stored.{textOf}
 abbrev pub rightLens : Lens
 rightLens = toric (negsuc 9) (pos 4) 90
 
-abbrev pub example : Prescribed
-example = record { right = rightLens; left = sphere (pos 24); halves = 125 }
+abbrev pub prescribedExample : Prescribed
+prescribedExample = record { right = rightLens; left = sphere (pos 24); halves = 125 }
 
 -- its text of 15 bytes, 02FFF600045A 010018000000 7D 0000
 abbrev pub exampleText : List ℕ
@@ -26,7 +26,7 @@ abbrev pub eighthsOf : ℕ → Option ℤ
 eighthsOf bits = countOf 8 (ofBits binary64 bits)
 
 pub record ExampleHolds : Type 0 where
-  pub text : textOf 15 example ≡ exampleText
+  pub text : textOf 15 prescribedExample ≡ exampleText
   -- −0.75, −0.5 at 180 degrees
   pub transposes : transposed rightLens ≡ toric (negsuc 5) (negsuc 3) 180
   -- −1.25 + 0.25 is −16 sixteenths

@@ -53,16 +53,16 @@ pub record Prescribed : Type 0 where
 abbrev pub isDistance : ℕ → Bool
 isDistance h = leb 80 h && leb h 160
 
-abbrev pub joined : Option Lens → Option Lens → Option ℤ → Option Prescribed
-joined none l h = none
-joined (some r) none h = none
-joined (some r) (some l) none = none
-joined (some r) (some l) (some (negsuc h)) = none
-joined (some r) (some l) (some (pos h)) = must (isDistance h) none (some (record { right = r; left = l; halves = h }))
+abbrev pub joinedEyes : Option Lens → Option Lens → Option ℤ → Option Prescribed
+joinedEyes none l h = none
+joinedEyes (some r) none h = none
+joinedEyes (some r) (some l) none = none
+joinedEyes (some r) (some l) (some (negsuc h)) = none
+joinedEyes (some r) (some l) (some (pos h)) = must (isDistance h) none (some (record { right = r; left = l; halves = h }))
 
 -- what a prescription in memory stands for
 unfoldable pub prescribedOf : Prescription → Option Prescribed
-prescribedOf p = joined (lensOf (p .right)) (lensOf (p .left)) (countOf 2 (p .«pupil_distance»))
+prescribedOf p = joinedEyes (lensOf (p .right)) (lensOf (p .left)) (countOf 2 (p .«pupil_distance»))
 
 -- "In memory powers are dioptres and the pupil distance millimetres"
 unfoldable pub prescriptionOf : Prescribed → Prescription

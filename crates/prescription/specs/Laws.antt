@@ -17,7 +17,7 @@ use Rattle.prescription.specs.declared.texts.Prescription.{Prescription}
 use Rattle.prescription.specs.Fractions.{fraction, countOf}
 use Rattle.prescription.specs.Lens.{Lens, toric, keeps, equivalent}
 use Rattle.prescription.specs.Eyes.{Prescribed, KeepsRules, prescribedOf, prescriptionOf, prescriptionFits}
-use Rattle.prescription.specs.Outcomes.{answered, transposeOut, equivalentOut, readOut, written, writeOut}
+use Rattle.prescription.specs.Outcomes.{answered, transposeOut, equivalentOut, readTextOut, writtenText, writeTextOut}
 
 -- ---- One lens
 
@@ -34,9 +34,9 @@ SameBits (Toric s c a) (Sphere q) = ⊥
 SameBits (Toric s c a) (Toric t d b) = (toBits binary64 s ≡ toBits binary64 t) × (toBits binary64 c ≡ toBits binary64 d) × (a ≡ b)
 
 -- "Twice gives the original bits": an accepted answer transposes to an eye with the bits of the one given
-abbrev pub Restores : Eye → EyeAnswer → Type 0
-Restores e (Kept f) = (g : Eye) × (transposeOut f ≡ answered g) × SameBits g e
-Restores e (Refused a) = Unit {0}
+abbrev pub RestoresBits : Eye → EyeAnswer → Type 0
+RestoresBits e (Kept f) = (g : Eye) × (transposeOut f ≡ answered g) × SameBits g e
+RestoresBits e (Refused a) = Unit {0}
 
 -- "for one toric lens, altering the sphere by t eighths moves it t eighths, altering the cylinder by t moves it half that, while the lens keeps to these
 -- rules": in sixteenths of a dioptre, 2 t and t; and each equivalent is the float of that count, exactly
@@ -71,7 +71,7 @@ pub record HeldExactly : Type 0 where
 
 -- what was written as a text reads back as it was, float by float; and a text of bytes that is read is the one that its prescription is written as
 pub record TextsReadBack : Type 0 where
-  pub written-reads : (p : Prescription) (text : List ℕ) → prescriptionFits p ≡ true → writeOut p text .answer ≡ served
-      → readOut (writeOut p text .text) ≡ answered p
-  pub read-writes : (p : Prescription) (text lent : List ℕ) → allBelow 256 text ≡ true → length lent ≡ length text → readOut text ≡ answered p
-      → writeOut p lent ≡ written served text
+  pub written-reads : (p : Prescription) (text : List ℕ) → prescriptionFits p ≡ true → writeTextOut p text .answer ≡ served
+      → readTextOut (writeTextOut p text .text) ≡ answered p
+  pub read-writes : (p : Prescription) (text lent : List ℕ) → allBelow 256 text ≡ true → length lent ≡ length text → readTextOut text ≡ answered p
+      → writeTextOut p lent ≡ writtenText served text

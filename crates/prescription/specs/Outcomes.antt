@@ -66,21 +66,21 @@ unfoldable pub equivalentOut : Eye → Answered Float
 equivalentOut e = orRefused (λ l. fraction 16 (equivalent l)) (lensOf e)
 
 -- "Both eyes and the pupil distance make one prescription": what the text stands for, in dioptres and millimetres
-unfoldable pub readOut : List ℕ → Answered Prescription
-readOut text = orRefused prescriptionOf (prescribedIn text)
+unfoldable pub readTextOut : List ℕ → Answered Prescription
+readTextOut text = orRefused prescriptionOf (prescribedIn text)
 
 -- the answer, and what the lent text holds afterwards
 pub record Written : Type 0 where
   pub answer : ℕ
   pub text : List ℕ
 
-abbrev pub written : ℕ → List ℕ → Written
-written a text = record { answer = a; text = text }
+abbrev pub writtenText : ℕ → List ℕ → Written
+writtenText a text = record { answer = a; text = text }
 
 abbrev pub writtenOr : List ℕ → Option Prescribed → Written
-writtenOr text none = written badPrescription text
-writtenOr text (some x) = written served (textOf (length text) x)
+writtenOr text none = writtenText badPrescription text
+writtenOr text (some x) = writtenText served (textOf (length text) x)
 
 -- the text of what the prescription stands for; a text below 13 bytes is a "payload below 17 bytes"
-unfoldable pub writeOut : Prescription → List ℕ → Written
-writeOut p text = must (leb storedLen (length text)) (written badPrescription text) (writtenOr text (prescribedOf p))
+unfoldable pub writeTextOut : Prescription → List ℕ → Written
+writeTextOut p text = must (leb storedLen (length text)) (writtenText badPrescription text) (writtenOr text (prescribedOf p))

@@ -10,7 +10,7 @@ use Rattle.refusals.specs.Refusals.{must}
 use Rattle.combinatorics.specs.Lists.{all}
 use Rattle.prescription.specs.declared.fields.StoredEye.{StoredEye}
 use Rattle.prescription.specs.Lens.{Lens, plano, sphere, toric}
-use Rattle.prescription.specs.Eyes.{ruled, Prescribed, joined}
+use Rattle.prescription.specs.Eyes.{ruled, Prescribed, joinedEyes}
 
 -- ---- An eye: "kind byte 0, 1 or 2, sphere and cylinder as signed 16-bit counts of eighths of a dioptre, high byte first, and an axis byte"
 
@@ -66,7 +66,7 @@ textOf t x = bytesOf (fieldsOf (x .right)) ++ (bytesOf (fieldsOf (x .left)) ++ (
 
 -- what the first thirteen bytes stand for
 abbrev pub prescribedAt : List ℕ → Option Prescribed
-prescribedAt text = joined (lensIn (fieldsAt text 0)) (lensIn (fieldsAt text eyeLen)) (some (pos (byteAt text 12)))
+prescribedAt text = joinedEyes (lensIn (fieldsAt text 0)) (lensIn (fieldsAt text eyeLen)) (some (pos (byteAt text 12)))
 
 -- what a text stands for; none for "any text .. outside these rules"
 unfoldable pub prescribedIn : List ℕ → Option Prescribed

@@ -1,7 +1,7 @@
 // An eye in memory: transposing and the spherical equivalent. Assumes nothing.
 ghost use mathlib.Core.Path.{_≡_};
 ghost use Prim.Native.Nat.{_≤_};
-ghost use Rattle.prescription.specs.Laws.{Restores};
+ghost use Rattle.prescription.specs.Laws.{RestoresBits};
 ghost use Rattle.prescription.specs.Lens.{turned as turnedAs};
 ghost use Rattle.prescription.specs.Outcomes.{eyeAnswered, powerAnswered, transposeOut, equivalentOut};
 use crate::fields;
@@ -35,7 +35,7 @@ impl Eye {
     // The same lens written with the other sign of its cylinder. Refusal 16.
     pub fn transpose(self) -> EyeAnswer
         ensures answer { λ r. ⌜ eyeAnswered r ≡ transposeOut self ⌝ }
-        ensures bits { λ r. ⌜ Restores self r ⌝ }
+        ensures bits { λ r. ⌜ RestoresBits self r ⌝ }
     {
         let stored = fields::stored(self);
         let StoredAnswer::Kept(_) = stored else {

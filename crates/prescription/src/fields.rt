@@ -2,7 +2,7 @@
 ghost use mathlib.Core.Path.{_≡_};
 ghost use Rattle.prescription.specs.Counts.{storedAs, storedOf, toricKeeps};
 ghost use Rattle.prescription.specs.Eyes.{lensOf, eyeOf};
-ghost use Rattle.prescription.specs.Lens.{inRange};
+ghost use Rattle.prescription.specs.Lens.{inPowerRange};
 ghost use Rattle.prescription.specs.Outcomes.{orRefused, eyeAnswered};
 ghost use Rattle.prescription.specs.Stored.{countIn, lensIn};
 use crate::counts::Count;
@@ -122,7 +122,7 @@ fn toric_keeps(sphere: u16, sum: u16, cylinder: u16, axis: u8) -> bool
 
 // Whether the bits are those of a count within −240 to 240.
 fn in_range(bits: u16) -> bool
-    ensures { λ r. ⌜ r ≡ inRange (countIn bits) ⌝ }
+    ensures { λ r. ⌜ r ≡ inPowerRange (countIn bits) ⌝ }
 {
     if bits < 32768 {
         return bits <= MAX_EIGHTHS;

@@ -1,11 +1,11 @@
 // A prescription, and as the text of a job: thirteen bytes, then zeros. Assumes nothing.
 ghost use mathlib.Core.Path.{_≡_};
-ghost use Prim.Native.Nat.{_+_, _*_, _≤_};
+ghost use Prim.Native.Nat.{_+_, _≤_};
 ghost use lib.ListN.{length};
 ghost use Rattle.prescription.specs.Counts.{withEye, storedText, storedOut};
 ghost use Rattle.prescription.specs.Eyes.{eyeOf, prescriptionOf};
-ghost use Rattle.prescription.specs.Outcomes.{orRefused, eyeAnswered, prescriptionAnswered, readOut, distanced, written, writeOut};
-ghost use Rattle.prescription.specs.Stored.{lensIn, byteAt, fieldsAt, prescribedAt};
+ghost use Rattle.prescription.specs.Outcomes.{orRefused, eyeAnswered, prescriptionAnswered, readTextOut, distanced, writtenText, writeTextOut};
+ghost use Rattle.prescription.specs.Stored.{lensIn, fieldsAt, prescribedAt};
 use crate::counts::Count;
 use crate::counts::count_of;
 use crate::eyes::Eye;
@@ -14,6 +14,7 @@ use crate::fields;
 use crate::fields::StoredAnswer;
 use crate::fields::StoredEye;
 use refusals::Refusal;
+use symbols::numbers;
 
 // An eye's bytes in a text, where the pupil distance stands behind both, and how many bytes that makes.
 const EYE_LEN: usize = 6;
@@ -45,7 +46,7 @@ pub enum PrescriptionAnswer {
 impl Prescription {
     // The prescription of a text: thirteen bytes, then zeros. Refusal 16.
     pub fn read_text(text: &[u8]) -> PrescriptionAnswer
-        ensures { λ r. ⌜ prescriptionAnswered r ≡ readOut (now (text .entry)) ⌝ }
+        ensures { λ r. ⌜ prescriptionAnswered r ≡ readTextOut (now (text .entry)) ⌝ }
     {
         if text.len() < STORED_LEN {
             return PrescriptionAnswer::Refused(Refusal::PRESCRIPTION);
@@ -58,7 +59,7 @@ impl Prescription {
 
     // Stores a prescription that keeps the rules as a text. Refusal 16; the text then keeps what it held.
     pub fn write_text(self, text: &mut [u8]) -> u8
-        ensures { λ r. ⌜ written r (now (text .exit)) ≡ writeOut self (now (text .entry)) ⌝ }
+        ensures { λ r. ⌜ writtenText r (now (text .exit)) ≡ writeTextOut self (now (text .entry)) ⌝ }
     {
         if text.len() < STORED_LEN {
             return Refusal::PRESCRIPTION;
@@ -120,8 +121,8 @@ fn eye_at(text: &[u8], at: usize) -> EyeAnswer
     ensures { λ r. ⌜ eyeAnswered r ≡ orRefused eyeOf (lensIn (fieldsAt (now (text .entry)) at)) ⌝ }
 {
     let kind = text[at];
-    let sphere = two_bytes(text, at + 1);
-    let cylinder = two_bytes(text, at + 3);
+    let sphere = numbers::two_bytes(text, at + 1);
+    let cylinder = numbers::two_bytes(text, at + 3);
     let axis = text[at + 5];
     fields::eye_of(StoredEye {
         kind,
@@ -131,20 +132,10 @@ fn eye_at(text: &[u8], at: usize) -> EyeAnswer
     })
 }
 
-// Two bytes of a text as one number, high byte first.
-fn two_bytes(text: &[u8], at: usize) -> u16
-    requires { ⌜ at + 2 ≤ length (now text) ⌝ }
-    ensures { λ r. ⌜ r ≡ byteAt (now (text .entry)) at * 256 + byteAt (now (text .entry)) (at + 1) ⌝ }
-{
-    let high = text[at] as u16;
-    let low = text[at + 1] as u16;
-    high * 256 + low
-}
-
 // Stores both eyes' fields and a pupil distance in half millimetres. Refusal 16.
 fn write_stored(text: &mut [u8], right: StoredEye, left: StoredEye, halves: u16) -> u8
     requires { ⌜ 13 ≤ length (now text) ⌝ }
-    ensures { λ r. ⌜ written r (now (text .exit)) ≡ storedOut (now (text .entry)) right left halves ⌝ }
+    ensures { λ r. ⌜ writtenText r (now (text .exit)) ≡ storedOut (now (text .entry)) right left halves ⌝ }
 {
     if halves < (MIN_HALVES as u16) {
         return Refusal::PRESCRIPTION;

@@ -22,7 +22,7 @@ use Rattle.params.specs.declared.Layout.{Layout}
 use Rattle.jobs.specs.declared.Entry.{Entry}
 use Rattle.jobs.specs.Table.{twice}
 use Rattle.payloads.specs.Payload.{carriesJob}
-use Rattle.jobcodec.specs.Given.{Laid, ReadyUnder}
+use Rattle.jobcodec.specs.Given.{ServesTable, ReadyUnder}
 use Rattle.jobcodec.specs.JobWrite.{jobWriteUnder}
 use Rattle.jobcodec.proofs.Calls.{carries-not}
 use Rattle.jobcodec.proofs.Outcomes.{both-false, figures-refused}
@@ -118,7 +118,7 @@ module _ (d : Coding) (es : List Entry) (at : Held) (n : ℕ) (p : Prescription)
               go (some x) e = writes-job d es at n p x out h e
 
 -- "10: K below 5"
-pub write-few : (l : Layout) (es : List Entry) (at : Held) (n : ℕ) (p : Prescription) (out : List ℕ) → Laid l es
+pub write-few : (l : Layout) (es : List Entry) (at : Held) (n : ℕ) (p : Prescription) (out : List ℕ) → ServesTable l es
     → (count : ℕ) → count ≡ payloadLen (l .q) (l .«message_len») → count < 5 → prescriptionWriteUnder (codingIn l) es at n p out ≡ unwritten out badPayload
 write-few l es at n p out h count e few =
     let order = in-order l (h .serves) in

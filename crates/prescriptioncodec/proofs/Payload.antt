@@ -22,7 +22,7 @@ use Rattle.jobcodec.specs.JobWrite.{jobWriteUnder}
 use Rattle.prescription.specs.declared.texts.Prescription.{Prescription}
 use Rattle.prescription.specs.Eyes.{Prescribed, prescribedOf}
 use Rattle.prescription.specs.Stored.{storedLen, textOf}
-use Rattle.prescription.specs.Outcomes.{Written, written, writtenOr, writeOut}
+use Rattle.prescription.specs.Outcomes.{Written, writtenText, writtenOr, writeTextOut}
 use Rattle.prescriptioncodec.specs.PrescriptionWrite.{numberLen, numberBytes, prescriptionPayload, minPayload, asJob}
 
 -- ---- Lengths
@@ -39,19 +39,19 @@ lent-is count room le = length-take-le {A = ℕ} count (replicate room 0) (omega
 -- ---- The text behind the number
 
 module _ (p : Prescription) (y text : List ℕ) (r : ℕ) (long : minPayload ≤ length y)
-    (told : written r text ≡ writeOut p (take (length y - numberLen) (drop numberLen y))) where
-  text-told : written r text ≡ writtenOr (drop numberLen y) (prescribedOf p)
-  unfolding writeOut
+    (told : writtenText r text ≡ writeTextOut p (take (length y - numberLen) (drop numberLen y))) where
+  text-told : writtenText r text ≡ writtenOr (drop numberLen y) (prescribedOf p)
+  unfolding writeTextOut
   text-told =
       let enough : storedLen ≤ length (drop numberLen y) = omega (arith, length-drop numberLen y) in
-      told ∙ ap (writeOut p) (rest-is numberLen y)
-      ∙ ap (λ b. must b (written badPrescription (drop numberLen y)) (writtenOr (drop numberLen y) (prescribedOf p))) (le-leb storedLen (length (drop numberLen y)) enough)
+      told ∙ ap (writeTextOut p) (rest-is numberLen y)
+      ∙ ap (λ b. must b (writtenText badPrescription (drop numberLen y)) (writtenOr (drop numberLen y) (prescribedOf p))) (le-leb storedLen (length (drop numberLen y)) enough)
 
   module _ (d : Coding) (es : List Entry) (at : Held) (n K : ℕ) (out : List ℕ) where
     pub text-refused : r ≢ served → unwritten out r ≡ asJob d es at n K out (prescribedOf p)
     text-refused other = go (prescribedOf p) text-told
       where
-        go : (o : Option Prescribed) → written r text ≡ writtenOr (drop numberLen y) o → unwritten out r ≡ asJob d es at n K out o
+        go : (o : Option Prescribed) → writtenText r text ≡ writtenOr (drop numberLen y) o → unwritten out r ≡ asJob d es at n K out o
         go none e = ap (λ (x : Written). unwritten out (x .answer)) e
         go (some x) e = absurd (other (ap (λ (x : Written). x .answer) e))
 
@@ -67,7 +67,7 @@ module _ (p : Prescription) (y text : List ℕ) (r : ℕ) (long : minPayload ≤
             ∙ ap (λ (z : List ℕ). text ++ z) (drop-of-length-le (drop numberLen y) {i = length y - numberLen} (omega (arith, length-drop numberLen y)))
             ∙ append-nil text
 
-        go : (o : Option Prescribed) → written r text ≡ writtenOr (drop numberLen y) o
+        go : (o : Option Prescribed) → writtenText r text ≡ writtenOr (drop numberLen y) o
             → jobWriteUnder d es at (front ++ drop numberLen (putMid numberLen (length y - numberLen) y text)) out ≡ asJob d es at n K out o
         go none e = absurd (sixteen (sym (ap (λ (x : Written). x .answer) e) ∙ z))
           where

@@ -21,14 +21,14 @@ use Rattle.jobs.specs.declared.Entry.{Entry}
 use Rattle.jobs.specs.Jobs.{needsOpen}
 use Rattle.jobs.specs.Table.{twice}
 use Rattle.payloads.specs.Payload.{jobNumber, payloadIn}
-use Rattle.jobcodec.specs.Given.{Laid, ReadyUnder, spelledAnswer}
+use Rattle.jobcodec.specs.Given.{ServesTable, ReadyUnder, spelledAnswer}
 use Rattle.jobcodec.specs.JobWrite.{jobStatus}
 use Rattle.jobcodec.proofs.Calls.{carries-not}
 use Rattle.jobcodec.proofs.Outcomes.{both-false, figures-refused, afterSpelled, spelled-decodes}
 use Rattle.prescription.specs.declared.texts.Prescription.{Prescription}
 use Rattle.prescription.specs.Eyes.{Prescribed, prescriptionOf}
 use Rattle.prescription.specs.Stored.{prescribedIn}
-use Rattle.prescription.specs.Outcomes.{Answered, answered, refused, orRefused, readOut}
+use Rattle.prescription.specs.Outcomes.{Answered, answered, refused, orRefused, readTextOut}
 use Rattle.prescriptioncodec.specs.PrescriptionWrite.{numberLen}
 use Rattle.prescriptioncodec.specs.PrescriptionRead.{handPrescription, prescriptionIn, ofPayload, prescriptionReading, prescriptionReadUnder}
 
@@ -69,7 +69,7 @@ read-spelled l g es w ms ms′ ready room r said is e lent =
     ∙ ap (λ (x : ℕ). afterSpelled refused (λ ds. ofPayload es (payloadIn x (d .codec .messageLen) ds)) (answerAs said) ms′) (sym q)
 
 -- 10 for K
-pub read-few : (l : Layout) (es : List Entry) (w : List ℕ) → Laid l es → (count : ℕ) → count ≡ payloadLen (l .q) (l .«message_len») → count < 5
+pub read-few : (l : Layout) (es : List Entry) (w : List ℕ) → ServesTable l es → (count : ℕ) → count ≡ payloadLen (l .q) (l .«message_len») → count < 5
     → prescriptionReadUnder (codingIn l) es w ≡ refused badPayload
 unfolding prescriptionReading
 read-few l es w h count e few = let order = in-order l (h .serves) in rw (order .0, h .once, order .1, carries-not l es h count e few)
@@ -77,17 +77,17 @@ read-few l es w h count e few = let order = in-order l (h .serves) in rw (order 
 -- ---- The prescription of a payload's text, and the table
 
 module _ (es : List Entry) (payload : List ℕ) where
-  pub no-prescription : (a : ℕ) → refused a ≡ readOut (drop numberLen payload) → refused badPrescription ≡ ofPayload es payload
-  unfolding readOut
+  pub no-prescription : (a : ℕ) → refused a ≡ readTextOut (drop numberLen payload) → refused badPrescription ≡ ofPayload es payload
+  unfolding readTextOut
   no-prescription a e = go (prescribedIn (drop numberLen payload)) e
     where
       go : (o : Option Prescribed) → refused a ≡ orRefused prescriptionOf o → refused badPrescription ≡ handPrescription es payload o
       go none e = refl
       go (some x) e = absurd (Option·none-ne-some (prescriptionOf x) (ap (λ (r : Answered Prescription). r .value) e))
 
-  module _ (p : Prescription) (found : answered p ≡ readOut (drop numberLen payload)) where
+  module _ (p : Prescription) (found : answered p ≡ readTextOut (drop numberLen payload)) where
     pub not-open : (a : ℕ) → a ≡ needsOpen (jobStatus es payload) → a ≢ served → refused a ≡ ofPayload es payload
-    unfolding readOut
+    unfolding readTextOut
     not-open a n d = go (prescribedIn (drop numberLen payload)) found
       where
         go : (o : Option Prescribed) → answered p ≡ orRefused prescriptionOf o → refused a ≡ handPrescription es payload o
@@ -95,7 +95,7 @@ module _ (es : List Entry) (payload : List ℕ) where
         go (some x) e = rw (← n, eqb-other a served d)
 
     pub handed : needsOpen (jobStatus es payload) ≡ served → answered (record { number = jobNumber payload; prescription = p }) ≡ ofPayload es payload
-    unfolding readOut
+    unfolding readTextOut
     handed n = go (prescribedIn (drop numberLen payload)) found
       where
         go : (o : Option Prescribed) → answered p ≡ orRefused prescriptionOf o → answered (record { number = jobNumber payload; prescription = p }) ≡ handPrescription es payload o

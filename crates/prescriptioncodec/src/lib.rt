@@ -8,7 +8,7 @@ ghost use Rattle.params.specs.Given.{codingIn};
 ghost use Rattle.placements.specs.Bridge.{heldAs};
 ghost use Rattle.jobs.specs.Slots.{entries};
 ghost use Rattle.payloads.specs.Payload.{payloadIn};
-ghost use Rattle.jobcodec.specs.Given.{Laid, Readable, Holding};
+ghost use Rattle.jobcodec.specs.Given.{ServesTable, ReadableJob, SpellsJob};
 ghost use Rattle.prescription.specs.Eyes.{prescribedOf};
 ghost use Rattle.prescriptioncodec.specs.PrescriptionRead.{ofPayload, prescriptionReadUnder, readAnswered};
 ghost use Rattle.prescriptioncodec.specs.PrescriptionWrite.{asJob, prescriptionWriteUnder};
@@ -23,10 +23,10 @@ use placements::Placement;
 use prescription::texts::Prescription;
 use prescription::texts::PrescriptionAnswer;
 use refusals::Refusal;
+use symbols::numbers::BYTE_VALUES;
+use symbols::numbers::NUMBER_BYTES;
 
 // A payload begins with the job number's bytes, and with thirteen more of a prescription it has these.
-const NUMBER_BYTES: usize = 4;
-
 const MIN_PRESCRIBED: usize = 17;
 
 // No message and no payload is longer than the longest word.
@@ -50,7 +50,8 @@ pub fn prescription_write(
     word: &mut [u8],
 ) -> u8
     ensures answer { λ r. ⌜ r ≡ prescriptionWriteUnder (codingOf figures) (entries table) (heldAs at) number prescription (now (word .entry)) .answer ⌝ }
-    ensures word { λ _. ⌜ now (word .exit) ≡ prescriptionWriteUnder (codingOf figures) (entries table) (heldAs at) number prescription (now (word .entry)) .word ⌝ }
+    ensures word { λ _. ⌜ now (word .exit)
+        ≡ prescriptionWriteUnder (codingOf figures) (entries table) (heldAs at) number prescription (now (word .entry)) .word ⌝ }
 {
     if table.twice() {
         return Refusal::INVALID;
@@ -71,8 +72,9 @@ fn write_laid(
     prescription: Prescription,
     word: &mut [u8],
 ) -> u8
-    requires { ⌜ Laid layout (entries table) ⌝ }
-    ensures { λ r. ⌜ unwritten (now (word .exit)) r ≡ prescriptionWriteUnder (codingIn layout) (entries table) (heldAs at) number prescription (now (word .entry)) ⌝ }
+    requires { ⌜ ServesTable layout (entries table) ⌝ }
+    ensures { λ r. ⌜ unwritten (now (word .exit)) r
+        ≡ prescriptionWriteUnder (codingIn layout) (entries table) (heldAs at) number prescription (now (word .entry)) ⌝ }
 {
     let count = bytes::payload_len(layout.q, layout.message_len);
     if count < jobcodec::MIN_PAYLOAD {
@@ -124,18 +126,15 @@ fn write_payload(
     payload: &mut [u8],
     word: &mut [u8],
 ) -> u8
-    requires { ⌜ Laid layout (entries table) × (17 ≤ length (now payload)) ⌝ }
-    ensures { λ r. ⌜ unwritten (now (word .exit)) r ≡ asJob (codingIn layout) (entries table) (heldAs at) number (length (now (payload .entry))) (now (word .entry)) (prescribedOf prescription) ⌝ }
+    requires { ⌜ ServesTable layout (entries table) × (17 ≤ length (now payload)) ⌝ }
+    ensures { λ r. ⌜ unwritten (now (word .exit)) r
+        ≡ asJob (codingIn layout) (entries table) (heldAs at) number (length (now (payload .entry))) (now (word .entry)) (prescribedOf prescription) ⌝ }
 {
     let refusal = prescription.write_text(&mut payload[NUMBER_BYTES..]);
     if refusal != Refusal::NONE {
         return refusal;
     }
-    payloads::spell_value(
-        bytes::BYTE_VALUES,
-        number as u64,
-        &mut payload[..NUMBER_BYTES],
-    );
+    payloads::spell_value(BYTE_VALUES, number as u64, &mut payload[..NUMBER_BYTES]);
     jobcodec::write_laid(layout, table, at, payload, word)
 }
 
@@ -155,7 +154,7 @@ pub fn prescription_read(figures: Figures, table: JobTable, word: &[u8]) -> Read
 
 // The same for figures that fit. Refusals: 10 for too few bytes, 3 4 7 19 8 9 19, 10, 16, 12 23 14.
 fn read_laid(layout: Layout, table: JobTable, word: &[u8]) -> ReadAnswer
-    requires { ⌜ Laid layout (entries table) ⌝ }
+    requires { ⌜ ServesTable layout (entries table) ⌝ }
     ensures { λ r. ⌜ readAnswered r ≡ prescriptionReadUnder (codingIn layout) (entries table) (now (word .entry)) ⌝ }
 {
     let k = layout.message_len;
@@ -187,7 +186,7 @@ fn read_message(
     message: &mut [u8],
     payload: &mut [u8],
 ) -> ReadAnswer
-    requires { ⌜ Readable layout (entries table) (now message) (now payload) ⌝ }
+    requires { ⌜ ReadableJob layout (entries table) (now message) (now payload) ⌝ }
     ensures { λ r. ⌜ readAnswered r ≡ prescriptionReadUnder (codingIn layout) (entries table) (now (word .entry)) ⌝ }
 {
     let answer = jobcodec::read_spelled(layout, word, message);
@@ -199,7 +198,7 @@ fn read_message(
 
 // The number and the prescription of the payload that an accepted word's message spells. Refusals: 16, 12 23 14.
 fn hand_out(table: JobTable, q: u64, message: &[u8], payload: &mut [u8]) -> ReadAnswer
-    requires { ⌜ Holding q (now message) (now payload) ⌝ }
+    requires { ⌜ SpellsJob q (now message) (now payload) ⌝ }
     ensures { λ r. ⌜ readAnswered r ≡ ofPayload (entries table) (payloadIn q (length (now (message .entry))) (now (message .entry))) ⌝ }
 {
     payloads::unspell(q, bytes::byte_width(q), message, payload);

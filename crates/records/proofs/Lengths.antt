@@ -27,7 +27,7 @@ use Rattle.jobs.specs.Letters.{kindOf, isLetter}
 use Rattle.jobs.proofs.Letters.{no-kind}
 use Rattle.records.specs.Session.{Session}
 use Rattle.lines.specs.Lines.{letterS, letterL, letterW, letterR}
-use Rattle.records.specs.Records.{headLen, isMarked, letterOf, ifFit, current, payloadLenOf, writeLen, readLen, recordLen, maxRecord, isWhole, readable, reach, begunLen, neededFor}
+use Rattle.records.specs.Records.{recordHeadLen, isMarked, letterOf, ifFit, current, payloadLenOf, writeLen, readLen, recordLen, maxRecord, isWhole, readable, reach, begunLen, neededFor}
 use Rattle.records.specs.declared.CurrentAnswer.{CurrentAnswer}
 use Rattle.records.specs.declared.CurrentAnswer.the-variants.{Missing as NoFigures, Laid}
 use Rattle.records.specs.Bridge.{IsCurrent, Current, orZero}
@@ -70,10 +70,10 @@ module _ (last : Option Figures) (f : Figures) (l : Layout) (is : IsCurrent last
   pub payload-short : payloadLen (l .q) (l .«message_len») ≤ maxWord
   payload-short = omega (arith, payload-within (l .q) (l .«message_len»), is .numbers .len-is, is .small .message-most, is .small .word-most)
 
-  pub write-len-is : orZero (writeLen (current last)) ≡ headLen + 2 * l .m + payloadLen (l .q) (l .«message_len»)
+  pub write-len-is : orZero (writeLen (current last)) ≡ recordHeadLen + 2 * l .m + payloadLen (l .q) (l .«message_len»)
   write-len-is = ap (λ x. orZero (writeLen x)) (is .are) ∙ omega (arith, is .numbers .bursts-is, payload-is)
 
-  pub read-len-is : orZero (readLen (current last)) ≡ headLen + l .n
+  pub read-len-is : orZero (readLen (current last)) ≡ recordHeadLen + l .n
   read-len-is = ap (λ x. orZero (readLen x)) (is .are) ∙ omega (arith, is .numbers .word-is)
 
 -- ---- No record is longer than the buffer for it
@@ -94,7 +94,7 @@ unfolding recordLen
 record-most s letter = go (eqb letter letterS) (eqb letter letterL) (isLetter letter) (eqb letter letterW) (eqb letter letterR)
   where
     go : (a l b c d : Bool)
-        → orZero (cond a (some (headLen + 6)) (cond l (some (headLen + 5)) (cond b (some (headLen + 4)) (cond c (writeLen (current (s .figures))) (cond d (readLen (current (s .figures))) none))))) ≤ maxRecord
+        → orZero (cond a (some (recordHeadLen + 6)) (cond l (some (recordHeadLen + 5)) (cond b (some (recordHeadLen + 4)) (cond c (writeLen (current (s .figures))) (cond d (readLen (current (s .figures))) none))))) ≤ maxRecord
     go true l b c d = omega arith
     go false true b c d = omega arith
     go false false true c d = omega arith
@@ -115,21 +115,21 @@ len-other s letter a l b c d e f = rw (eqb-other letter 83 a, eqb-other letter 7
 
 -- ---- A record that can be read
 
-write-reaches : (f : Option Figures) → headLen ≤ reach (writeLen f)
+write-reaches : (f : Option Figures) → recordHeadLen ≤ reach (writeLen f)
 write-reaches none = omega arith
 write-reaches (some f) = omega arith
 
-read-reaches : (f : Option Figures) → headLen ≤ reach (readLen f)
+read-reaches : (f : Option Figures) → recordHeadLen ≤ reach (readLen f)
 read-reaches none = omega arith
 read-reaches (some f) = omega arith
 
 -- no record is shorter than mark and letter
-pub reaches : (s : Session) (letter : ℕ) → headLen ≤ reach (recordLen s letter)
+pub reaches : (s : Session) (letter : ℕ) → recordHeadLen ≤ reach (recordLen s letter)
 unfolding recordLen
 reaches s letter = go (eqb letter letterS) (eqb letter letterL) (isLetter letter) (eqb letter letterW) (eqb letter letterR)
   where
     go : (a l b c d : Bool)
-        → headLen ≤ reach (cond a (some (headLen + 6)) (cond l (some (headLen + 5)) (cond b (some (headLen + 4)) (cond c (writeLen (current (s .figures))) (cond d (readLen (current (s .figures))) none)))))
+        → recordHeadLen ≤ reach (cond a (some (recordHeadLen + 6)) (cond l (some (recordHeadLen + 5)) (cond b (some (recordHeadLen + 4)) (cond c (writeLen (current (s .figures))) (cond d (readLen (current (s .figures))) none)))))
     go true l b c d = omega arith
     go false true b c d = omega arith
     go false false true c d = omega arith
@@ -141,7 +141,7 @@ never : (t : Bool) → (t && false) ≡ false
 never true = refl
 never false = refl
 
-cut : (bytes : List ℕ) (k : Option ℕ) → headLen ≤ reach k → length bytes < headLen → isWhole bytes k ≡ false
+cut : (bytes : List ℕ) (k : Option ℕ) → recordHeadLen ≤ reach k → length bytes < recordHeadLen → isWhole bytes k ≡ false
 cut bytes none h l = refl
 cut bytes (some k) h l = eqb-other (length bytes) k (λ e. omega arith)
 
@@ -153,11 +153,11 @@ whole-is : (bytes : List ℕ) (k : Option ℕ) → orZero k ≢ 0 → isWhole by
 whole-is bytes none h = absurd (h refl)
 whole-is bytes (some k) h = refl
 
-not-whole : (bytes : List ℕ) (k : Option ℕ) → headLen ≤ reach k → orZero k ≡ 0 → isWhole bytes k ≡ false
+not-whole : (bytes : List ℕ) (k : Option ℕ) → recordHeadLen ≤ reach k → orZero k ≡ 0 → isWhole bytes k ≡ false
 not-whole bytes none h e = refl
 not-whole bytes (some k) h e = absurd (omega arith)
 
-reach-none : (k : Option ℕ) → headLen ≤ reach k → orZero k ≡ 0 → reach k ≡ headLen
+reach-none : (k : Option ℕ) → recordHeadLen ≤ reach k → orZero k ≡ 0 → reach k ≡ recordHeadLen
 reach-none none h e = refl
 reach-none (some k) h e = absurd (omega arith)
 
@@ -172,17 +172,17 @@ reach-most (some k) h = h
 module _ (s : Session) (bytes : List ℕ) where
   -- ---- The record that begins with these bytes
 
-  pub begun-short : length bytes < headLen → begunLen s bytes ≡ none
+  pub begun-short : length bytes < recordHeadLen → begunLen s bytes ≡ none
   unfolding begunLen
-  begun-short h = rw (lt-ltb (length bytes) headLen h)
+  begun-short h = rw (lt-ltb (length bytes) recordHeadLen h)
 
   pub begun-unmarked : isMarked bytes ≡ false → begunLen s bytes ≡ none
   unfolding begunLen
-  begun-unmarked e = rw e (either (ltb (length bytes) headLen))
+  begun-unmarked e = rw e (either (ltb (length bytes) recordHeadLen))
 
-  pub begun-marked : headLen ≤ length bytes → isMarked bytes ≡ true → begunLen s bytes ≡ recordLen s (letterOf bytes)
+  pub begun-marked : recordHeadLen ≤ length bytes → isMarked bytes ≡ true → begunLen s bytes ≡ recordLen s (letterOf bytes)
   unfolding begunLen
-  begun-marked h e = rw (le-ltb (length bytes) headLen h, e)
+  begun-marked h e = rw (le-ltb (length bytes) recordHeadLen h, e)
 
   -- by the first two bytes
   pub begun-first : getD bytes 0 0 ≢ 76 → begunLen s bytes ≡ none
@@ -191,19 +191,19 @@ module _ (s : Session) (bytes : List ℕ) where
   pub begun-second : getD bytes 0 0 ≡ 76 → getD bytes 1 0 ≢ 84 → begunLen s bytes ≡ none
   begun-second e h = begun-unmarked (rw (eqb-same (getD bytes 0 0) 76 e) (eqb-other (getD bytes 1 0) 84 h))
 
-  pub begun-both : headLen ≤ length bytes → getD bytes 0 0 ≡ 76 → getD bytes 1 0 ≡ 84 → begunLen s bytes ≡ recordLen s (letterOf bytes)
+  pub begun-both : recordHeadLen ≤ length bytes → getD bytes 0 0 ≡ 76 → getD bytes 1 0 ≡ 84 → begunLen s bytes ≡ recordLen s (letterOf bytes)
   begun-both l e d = begun-marked l (rw (eqb-same (getD bytes 0 0) 76 e) (eqb-same (getD bytes 1 0) 84 d))
 
   -- whatever holds of no length and of the letter's
   begun-is : (P : Option ℕ → Type 0) → P none → P (recordLen s (letterOf bytes)) → P (begunLen s bytes)
   begun-is P n r =
-      by-le headLen (length bytes) (λ b. P (begunLen s bytes))
+      by-le recordHeadLen (length bytes) (λ b. P (begunLen s bytes))
       (λ h. by-bool (isMarked bytes) (λ e. subst P (sym (begun-marked h e)) r) (λ e. subst P (sym (begun-unmarked e)) n))
       (λ h. subst P (sym (begun-short h)) n)
 
   -- mark and letter at least, and no more than the letter has
-  pub needed-least : headLen ≤ neededFor s bytes
-  needed-least = begun-is (λ k. headLen ≤ reach k) (omega arith) (reaches s (letterOf bytes))
+  pub needed-least : recordHeadLen ≤ neededFor s bytes
+  needed-least = begun-is (λ k. recordHeadLen ≤ reach k) (omega arith) (reaches s (letterOf bytes))
 
   pub needed-within : neededFor s bytes ≤ reach (recordLen s (letterOf bytes))
   needed-within = begun-is (λ k. reach k ≤ reach (recordLen s (letterOf bytes))) (reaches s (letterOf bytes)) (omega arith)
@@ -221,7 +221,7 @@ module _ (s : Session) (bytes : List ℕ) where
       (is, omega (arith, is, begun-most))
 
   module _ (r : ℕ) (e : r ≡ orZero (begunLen s bytes)) where
-    pub needed-none : r ≡ 0 → (headLen ≡ neededFor s bytes) × (headLen ≤ maxRecord)
+    pub needed-none : r ≡ 0 → (recordHeadLen ≡ neededFor s bytes) × (recordHeadLen ≤ maxRecord)
     needed-none z = (sym (reach-none (begunLen s bytes) needed-least (sym e ∙ z)), omega arith)
 
     pub needed-some : r ≢ 0 → (r ≡ neededFor s bytes) × (r ≤ maxRecord)
@@ -234,7 +234,7 @@ module _ (s : Session) (bytes : List ℕ) where
   pub begun-readable : readable s bytes ≡ isWhole bytes (begunLen s bytes)
   unfolding readable
   begun-readable =
-      by-le headLen (length bytes) (λ b. readable s bytes ≡ isWhole bytes (begunLen s bytes))
+      by-le recordHeadLen (length bytes) (λ b. readable s bytes ≡ isWhole bytes (begunLen s bytes))
       (λ h. by-bool (isMarked bytes) (λ e. rw (e, begun-marked h e)) (λ e. rw (e, begun-unmarked e)))
       (λ h. rw (begun-short h, cut bytes (recordLen s (letterOf bytes)) (reaches s (letterOf bytes)) h) (never (isMarked bytes)))
 
@@ -254,20 +254,20 @@ module _ (s : Session) (bytes : List ℕ) where
 pub whole-len : (bytes : List ℕ) (k : Option ℕ) (n : ℕ) → k ≡ some n → isWhole bytes k ≡ true → length bytes ≡ n
 whole-len bytes k n e h = eqb-true (length bytes) n (ap (isWhole bytes) (sym e) ∙ h)
 
-whole-reaches : (bytes : List ℕ) (k : Option ℕ) → headLen ≤ reach k → isWhole bytes k ≡ true → headLen ≤ length bytes
+whole-reaches : (bytes : List ℕ) (k : Option ℕ) → recordHeadLen ≤ reach k → isWhole bytes k ≡ true → recordHeadLen ≤ length bytes
 whole-reaches bytes none l h = absurd (false≢true h)
 whole-reaches bytes (some k) l h = omega (arith, eqb-true (length bytes) k h)
 
-pub whole-long : (s : Session) (letter : ℕ) (bytes : List ℕ) → isWhole bytes (recordLen s letter) ≡ true → headLen ≤ length bytes
+pub whole-long : (s : Session) (letter : ℕ) (bytes : List ℕ) → isWhole bytes (recordLen s letter) ≡ true → recordHeadLen ≤ length bytes
 whole-long s letter bytes h = whole-reaches bytes (recordLen s letter) (reaches s letter) h
 
 module _ (last : Option Figures) (f : Figures) (l : Layout) (is : IsCurrent last f l) (bytes : List ℕ) where
-  pub write-long : isWhole bytes (writeLen (current last)) ≡ true → headLen + 2 * l .m ≤ length bytes
+  pub write-long : isWhole bytes (writeLen (current last)) ≡ true → recordHeadLen + 2 * l .m ≤ length bytes
   write-long h =
-      omega (arith, whole-len bytes (writeLen (current last)) (headLen + 2 * codingOf f .bursts + payloadLenOf f) (ap writeLen (is .are)) h, is .numbers .bursts-is)
+      omega (arith, whole-len bytes (writeLen (current last)) (recordHeadLen + 2 * codingOf f .bursts + payloadLenOf f) (ap writeLen (is .are)) h, is .numbers .bursts-is)
 
-  pub read-long : isWhole bytes (readLen (current last)) ≡ true → headLen ≤ length bytes
-  read-long h = omega (arith, whole-len bytes (readLen (current last)) (headLen + codingOf f .codec .wordLen) (ap readLen (is .are)) h)
+  pub read-long : isWhole bytes (readLen (current last)) ≡ true → recordHeadLen ≤ length bytes
+  read-long h = omega (arith, whole-len bytes (readLen (current last)) (recordHeadLen + codingOf f .codec .wordLen) (ap readLen (is .are)) h)
 
 module _ (s : Session) (letter : ℕ) where
   pub len-S : letter ≡ 83 → recordLen s letter ≡ some 9

@@ -17,7 +17,7 @@ use Rattle.records.specs.declared.LastFigures.{LastFigures}
 use Rattle.records.specs.declared.LastFigures.the-variants.{Missing, Accepted}
 use Rattle.records.specs.declared.Session.{Session as Given}
 use Rattle.records.specs.Session.{Session}
-use Rattle.records.specs.Records.{headLen, current}
+use Rattle.records.specs.Records.{recordHeadLen, current}
 
 abbrev pub lastFigures : LastFigures → Option Figures
 lastFigures Missing = none
@@ -46,4 +46,4 @@ orZero (some k) = k
 -- a record that has room for the starts of a placement
 pub record HasStarts (m : ℕ) (bytes : List ℕ) : Type 0 where
   pub few : m ≤ maxBursts
-  pub room : headLen + 2 * m ≤ length bytes
+  pub room : recordHeadLen + 2 * m ≤ length bytes

@@ -19,8 +19,8 @@ use Rattle.records.specs.Session.{Session}
 -- ---- What a record is made of
 
 -- mark and letter
-abbrev pub headLen : ℕ
-headLen = 3
+abbrev pub recordHeadLen : ℕ
+recordHeadLen = 3
 
 -- "Each record has the mark 4C 54 (hex), a kind letter, then .."
 abbrev pub isMarked : List ℕ → Bool
@@ -55,27 +55,27 @@ payloadLenOf f = payloadLen (codingOf f .codec .alphabet) (codingOf f .codec .me
 -- "W (write) m starts (2 each) and K bytes"
 abbrev pub writeLen : Option Figures → Option ℕ
 writeLen none = none
-writeLen (some f) = some (headLen + 2 * codingOf f .bursts + payloadLenOf f)
+writeLen (some f) = some (recordHeadLen + 2 * codingOf f .bursts + payloadLenOf f)
 
 -- "R (read) n bytes"
 abbrev pub readLen : Option Figures → Option ℕ
 readLen none = none
-readLen (some f) = some (headLen + codingOf f .codec .wordLen)
+readLen (some f) = some (recordHeadLen + codingOf f .codec .wordLen)
 
 -- "S (figures) n (2 bytes), q−1 (1), m (1), b (2); O (open), C (cancel), F (finish) a job number (4)"; document 02, ticket 1: "letter L carries n (2
 -- bytes), q−1 (1) and b (2)". Nothing for an "unknown letter" and for "W or R before an accepted S"; "an accepted L serves a W or R as an accepted S does".
 unfoldable pub recordLen : Session → ℕ → Option ℕ
 recordLen s letter =
-    cond (eqb letter letterS) (some (headLen + 6))
-    (cond (eqb letter letterL) (some (headLen + 5))
-    (cond (isLetter letter) (some (headLen + 4))
+    cond (eqb letter letterS) (some (recordHeadLen + 6))
+    (cond (eqb letter letterL) (some (recordHeadLen + 5))
+    (cond (isLetter letter) (some (recordHeadLen + 4))
     (cond (eqb letter letterW) (writeLen (current (s .figures)))
     (cond (eqb letter letterR) (readLen (current (s .figures)))
     none))))
 
 -- no record is longer: the starts of the most bursts, and as many bytes as the longest word has symbols
 abbrev pub maxRecord : ℕ
-maxRecord = headLen + 2 * maxBursts + maxWord
+maxRecord = recordHeadLen + 2 * maxBursts + maxWord
 
 -- not a "cut record"
 abbrev pub isWhole : List ℕ → Option ℕ → Bool
@@ -90,14 +90,14 @@ readable s bytes = isMarked bytes && isWhole bytes (recordLen s (letterOf bytes)
 
 -- how many bytes are read for a record: mark and letter alone, where no record has that letter
 abbrev pub reach : Option ℕ → ℕ
-reach none = headLen
+reach none = recordHeadLen
 reach (some k) = k
 
 -- The length of the record that begins with these bytes: nothing where mark and letter are not there yet, at a wrong mark, and where no record has
 -- that letter.
 unfoldable pub begunLen : Session → List ℕ → Option ℕ
 begunLen s bytes =
-    cond (ltb (length bytes) headLen) none
+    cond (ltb (length bytes) recordHeadLen) none
     (cond (isMarked bytes) (recordLen s (letterOf bytes))
     none)
 
@@ -116,9 +116,9 @@ abbrev pub longFiguresIn : List ℕ → Figures
 longFiguresIn bytes = Long (record { n = twoBytes bytes 3; q = getD bytes 5 0 + 1; b = twoBytes bytes 6 })
 
 -- "m starts (2 each)"
-abbrev pub startsIn : Figures → List ℕ → Held
-startsIn f bytes = held (tabulate (codingOf f .bursts) 0 (λ i. twoBytes bytes (headLen + 2 * i)))
+abbrev pub recordStarts : Figures → List ℕ → Held
+recordStarts f bytes = held (tabulate (codingOf f .bursts) 0 (λ i. twoBytes bytes (recordHeadLen + 2 * i)))
 
 -- "and K bytes"
 abbrev pub payloadOf : Figures → List ℕ → List ℕ
-payloadOf f bytes = drop (headLen + 2 * codingOf f .bursts) bytes
+payloadOf f bytes = drop (recordHeadLen + 2 * codingOf f .bursts) bytes

@@ -21,5 +21,5 @@ abbrev pub maxRecords : ℕ
 maxRecords = 4294967295
 
 -- after one record more, with these figures and this table
-abbrev pub after : Session → Option Figures → List Entry → Session
-after s f es = record { figures = f; table = es; count = suc (s .count) }
+abbrev pub nextSession : Session → Option Figures → List Entry → Session
+nextSession s f es = record { figures = f; table = es; count = suc (s .count) }

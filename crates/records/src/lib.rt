@@ -8,7 +8,7 @@ ghost use Rattle.cells.specs.Outcomes.{held};
 ghost use Rattle.placements.specs.Bridge.{heldAs};
 ghost use Rattle.records.specs.Session.{atStart, maxRecords};
 ghost use Rattle.lines.specs.Lines.{maxLine};
-ghost use Rattle.records.specs.Records.{headLen, twoBytes, writeLen, readLen, recordLen, maxRecord, readable, current as currentOf, figuresIn, longFiguresIn, begunLen, neededFor};
+ghost use Rattle.records.specs.Records.{recordHeadLen, twoBytes, writeLen, readLen, recordLen, maxRecord, readable, current as currentOf, figuresIn, longFiguresIn, begunLen, neededFor};
 ghost use Rattle.records.specs.Bridge.{lastFigures, sessionOf, Current, orZero, HasStarts};
 use jobs::JobTable;
 use params::Figures;
@@ -18,7 +18,10 @@ use params::Params;
 use params::bytes;
 use params::long::LongParams;
 use placements::Placement;
+use placements::starts;
 use refusals::Refusal;
+use symbols::numbers;
+use symbols::numbers::NUMBER_BYTES;
 
 // The figures of the last accepted S or L.
 pub enum LastFigures {
@@ -45,10 +48,6 @@ pub const HEAD_LEN: usize = 3;
 const FIGURES_LEN: usize = 6;
 
 const LONG_FIGURES_LEN: usize = 5;
-
-const NUMBER_LEN: usize = 4;
-
-const BYTE_VALUES: u16 = 256;
 
 const MAX_WORD: usize = Params::MAX_WORD as usize;
 
@@ -86,9 +85,9 @@ fn record_len(session: Session, letter: u8) -> usize
     match letter {
         b'S' => HEAD_LEN + FIGURES_LEN,
         b'L' => HEAD_LEN + LONG_FIGURES_LEN,
-        b'O' => HEAD_LEN + NUMBER_LEN,
-        b'C' => HEAD_LEN + NUMBER_LEN,
-        b'F' => HEAD_LEN + NUMBER_LEN,
+        b'O' => HEAD_LEN + NUMBER_BYTES,
+        b'C' => HEAD_LEN + NUMBER_BYTES,
+        b'F' => HEAD_LEN + NUMBER_BYTES,
         b'W' => write_len(figures),
         b'R' => read_len(figures),
         _ => 0,
@@ -180,52 +179,33 @@ fn begun_len(session: Session, received: &[u8]) -> usize
 
 // The figures of an S record.
 pub fn figures_in(received: &[u8]) -> Figures
-    requires { ⌜ length (now received) ≡ headLen + 6 ⌝ }
+    requires { ⌜ length (now received) ≡ recordHeadLen + 6 ⌝ }
     ensures { λ r. ⌜ r ≡ figuresIn (now (received .entry)) ⌝ }
 {
     Figures::Ranked(Params {
-        n: two_bytes(received, 3) as u32,
+        n: numbers::two_bytes(received, 3) as u32,
         q: received[5] as u32 + 1,
         m: received[6] as u32,
-        b: two_bytes(received, 7) as u32,
+        b: numbers::two_bytes(received, 7) as u32,
     })
 }
 
 // The figures of an L record.
 pub fn long_figures_in(received: &[u8]) -> Figures
-    requires { ⌜ length (now received) ≡ headLen + 5 ⌝ }
+    requires { ⌜ length (now received) ≡ recordHeadLen + 5 ⌝ }
     ensures { λ r. ⌜ r ≡ longFiguresIn (now (received .entry)) ⌝ }
 {
     Figures::Long(LongParams {
-        n: two_bytes(received, 3) as u32,
+        n: numbers::two_bytes(received, 3) as u32,
         q: received[5] as u32 + 1,
-        b: two_bytes(received, 6) as u32,
+        b: numbers::two_bytes(received, 6) as u32,
     })
 }
 
 // The placement whose starts stand in a W record.
 pub fn placement_in(received: &[u8], m: usize) -> Placement
     requires { ⌜ HasStarts m (now received) ⌝ }
-    ensures { λ r. ⌜ heldAs r ≡ held (tabulate m 0 (λ i. twoBytes (now (received .entry)) (headLen + 2 * i))) ⌝ }
+    ensures { λ r. ⌜ heldAs r ≡ held (tabulate m 0 (λ i. twoBytes (now (received .entry)) (recordHeadLen + 2 * i))) ⌝ }
 {
-    let mut found = Placement {
-        starts: [0; Placement::MAX],
-        count: m as u32,
-    };
-    let mut j: usize = 0;
-    while j < m {
-        found.starts[j] = two_bytes(received, HEAD_LEN + 2 * j);
-        j += 1;
-    }
-    found
-}
-
-// The number in two bytes, high byte first.
-fn two_bytes(received: &[u8], at: usize) -> u16
-    requires { ⌜ at + 2 ≤ length (now received) ⌝ }
-    ensures { λ r. ⌜ r ≡ twoBytes (now (received .entry)) at ⌝ }
-{
-    let high = received[at] as u16;
-    let low = received[at + 1] as u16;
-    high * BYTE_VALUES + low
+    starts::placement_at(received, HEAD_LEN, m)
 }

@@ -13,6 +13,6 @@ unfoldable pub damaged : (ℕ → Bool) → List ℕ → List ℕ → List ℕ
 damaged spoilt ds w = tabulate (length w) 0 (λ x. cond (spoilt x) (getD ds x 0) (getD w x 0))
 
 -- a symbol for each position of the word
-pub record Damaging (at : Placement) (ds w : List ℕ) : Type 0 where
+pub record DamageLent (at : Placement) (ds w : List ℕ) : Type 0 where
   pub few : at .count ≤ maxBursts
   pub room : length ds ≡ length w

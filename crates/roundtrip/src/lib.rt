@@ -4,7 +4,7 @@ ghost use Rattle.combinatorics.specs.Bursts.{inBurst};
 ghost use Rattle.params.specs.Bridge.{codingOf};
 ghost use Rattle.placements.specs.Bridge.{heldAs, startsIn};
 ghost use Rattle.decoder.specs.Answer.{decodedAs};
-ghost use Rattle.roundtrip.specs.Damage.{Damaging, damaged};
+ghost use Rattle.roundtrip.specs.Damage.{DamageLent, damaged};
 ghost use Rattle.roundtrip.specs.RoundTrip.{Writable, readBack};
 use decoder::Decoded;
 use params::Figures;
@@ -22,7 +22,9 @@ pub fn round_trip(
     read: &mut [u8],
 ) -> Decoded
     requires { ⌜ Writable (codingOf figures) (heldAs at) (now message) (now damage) (now word) (now read) ⌝ }
-    ensures word { λ _. ⌜ now (word .exit) ≡ damaged (inBurst (codingOf figures .burstLen) (startsIn at)) (now (damage .entry)) (codingOf figures .codec .encode (startsIn at) (now (message .entry))) ⌝ }
+    ensures word { λ _. ⌜ now (word .exit)
+        ≡ damaged (inBurst (codingOf figures .burstLen) (startsIn at)) (now (damage .entry))
+        (codingOf figures .codec .encode (startsIn at) (now (message .entry))) ⌝ }
     ensures read { λ r. ⌜ decodedAs r (now (read .exit)) ≡ readBack (codingOf figures) (startsIn at) (now (message .entry)) ⌝ }
 {
     encoder::encode(figures, at, message, word);
@@ -42,7 +44,7 @@ fn burst_len(figures: Figures) -> u32
 
 // The symbols of `damage` stand in the word wherever a burst has its position.
 pub fn spoil(at: Placement, b: u32, damage: &[u8], word: &mut [u8])
-    requires { ⌜ Damaging at (now damage) (now word) ⌝ }
+    requires { ⌜ DamageLent at (now damage) (now word) ⌝ }
     ensures { λ _. ⌜ now (word .exit) ≡ damaged (inBurst b (startsIn at)) (now (damage .entry)) (now (word .entry)) ⌝ }
 {
     let mut x: usize = 0;

@@ -26,7 +26,8 @@ pub fn decode_both(
 ) -> BothDecoded
     ensures first { λ r. ⌜ decodedAs (r .first) (now (message .exit)) ≡ decodeOut (given figures) (now (strip .entry)) (now (message .entry)) ⌝ }
     ensures second { λ r. ⌜ decodedAs (r .second) (now (changed .exit)) ≡ decodeOut (given figures) (now (altered .entry)) (now (changed .entry)) ⌝ }
-    ensures claim { λ r. ⌜ ReadsSlipped (given figures) (now (strip .entry)) (now (altered .entry)) (now (message .entry)) (now (changed .entry)) (decodedAs (r .first) (now (message .exit))) (decodedAs (r .second) (now (changed .exit))) ⌝ }
+    ensures claim { λ r. ⌜ ReadsSlipped (given figures) (now (strip .entry)) (now (altered .entry)) (now (message .entry)) (now (changed .entry))
+        (decodedAs (r .first) (now (message .exit))) (decodedAs (r .second) (now (changed .exit))) ⌝ }
 {
     let first = decoder::decode(Figures::Ranked(figures), strip, message);
     let second = decoder::decode(Figures::Ranked(figures), altered, changed);

@@ -22,7 +22,7 @@ use Rattle.placements.specs.Bridge.{startsIn}
 use Rattle.blocks.specs.Blocks.{fixedKind, burstKind, indexKind}
 use Rattle.stretches.specs.declared.Walk.{Walk}
 use Rattle.stretches.specs.Walk.{headCells, headLen, nextStart, frameBy}
-use Rattle.stretches.specs.ByBlock.{Between, Entering, Past, Cells, PlacedIn, Walks}
+use Rattle.stretches.specs.ByBlock.{Between, EntersBlock, Past, Cells, PlacedIn, Walks}
 
 -- a frame whose blocks follow one another, and bursts of b that are placed in its word and spare the heads
 pub record Walkable (g : Frame) (b : ℕ) (ss : List ℕ) : Type 0 where
@@ -73,7 +73,7 @@ module _ {g : Frame} {b : ℕ} {ss : List ℕ} (w : Walkable g b ss) where
       by-le (suc (suc i)) (length ss) (λ t. getD ss i 0 + b ≤ cond t (getD ss (suc i) 0) (g .wordLen)) (λ q. placed-step b (g .wordLen) 0 i ss h q)
       (λ _. placed-at b (g .wordLen) 0 i ss h l)
 
-  pub entering-first : Entering g b ss 0 0 0
+  pub entering-first : EntersBlock g b ss 0 0 0
   entering-first =
       record {
         between = record { within = omega arith; counted = omega arith; behind = λ j l. absurd (omega arith); ahead = omega arith };
@@ -107,12 +107,12 @@ module _ {g : Frame} {b : ℕ} {ss : List ℕ} (w : Walkable g b ss) where
 
     -- ---- Head cells
 
-    pub head-none : Entering g b ss k x i → g .isIndex k ≡ false → g .isBurst k ≡ true → Past g b ss k x i
+    pub head-none : EntersBlock g b ss k x i → g .isIndex k ≡ false → g .isBurst k ≡ true → Past g b ss k x i
     unfolding headCells
     head-none e n d = record { between = e .between; from = rw (n, d) (omega (arith, e .from)); reach = inl (e .to l) }
 
     -- no burst starts among them
-    no-start : (len : ℕ) → len ≤ suc (g .tail) → Entering g b ss k x i → Free len → g .head k + len ≤ nextStart (g .wordLen) ss i
+    no-start : (len : ℕ) → len ≤ suc (g .tail) → EntersBlock g b ss k x i → Free len → g .head k + len ≤ nextStart (g .wordLen) ss i
     no-start len few e free =
         by-le (g .head k + len) (nextStart (g .wordLen) ss i) (λ _. g .head k + len ≤ nextStart (g .wordLen) ss i) (λ q. q)
         (λ q. let n = is-start i (omega (arith, w .up k l, edge-in k l)) in
@@ -121,14 +121,14 @@ module _ {g : Frame} {b : ℕ} {ss : List ℕ} (w : Walkable g b ss) where
         ∙ free s (omega (arith, start-at i n, e .from, e .between .ahead)) (omega (arith, start-at i n)))))
 
     -- where there are head cells, the walk stands at the first
-    stands : Entering g b ss k x i → 0 < headCells g k → x ≡ g .head k
+    stands : EntersBlock g b ss k x i → 0 < headCells g k → x ≡ g .head k
     stands e q = ⊎-elim (λ d. d) (λ d. absurd (omega arith)) (e .clear)
 
     pub record Headed (len : ℕ) : Type 0 where
       pub stands-at : x ≡ g .head k
       pub past : Past g b ss k (x + len) i
 
-    headed : (len : ℕ) → len ≤ suc (g .tail) → headCells g k ≡ len → 0 < len → Entering g b ss k x i → Free len → Headed len
+    headed : (len : ℕ) → len ≤ suc (g .tail) → headCells g k ≡ len → 0 < len → EntersBlock g b ss k x i → Free len → Headed len
     headed len few c q e free =
         let s = stands e (omega (arith, c)) in
         record {
@@ -147,22 +147,22 @@ module _ {g : Frame} {b : ℕ} {ss : List ℕ} (w : Walkable g b ss) where
               };
         }
 
-    pub head-fixed : Entering g b ss k x i → g .isIndex k ≡ false → g .isBurst k ≡ false → Headed 1
+    pub head-fixed : EntersBlock g b ss k x i → g .isIndex k ≡ false → g .isBurst k ≡ false → Headed 1
     unfolding headCells
     head-fixed e n d = headed 1 (omega arith) (rw (n, d) refl) (omega arith) e (fixed-free n d)
 
-    pub fixed-cells : Entering g b ss k x i → g .isIndex k ≡ false → g .isBurst k ≡ false → Cells g fixed x (x + 1)
+    pub fixed-cells : EntersBlock g b ss k x i → g .isIndex k ≡ false → g .isBurst k ≡ false → Cells g fixed x (x + 1)
     unfolding cellOf
     fixed-cells e n d y a c =
         let s = head-fixed e n d .stands-at in
         kind-is k y l (omega (arith, s)) (omega (arith, s, w .up k l))
         ∙ rw (fixed-free n d y (omega (arith, s)) (omega (arith, s)), n, d, eqb-same (y - g .head k) 0 (omega (arith, s)))
 
-    pub head-index : Entering g b ss k x i → g .isIndex k ≡ true → Headed (suc (g .tail))
+    pub head-index : EntersBlock g b ss k x i → g .isIndex k ≡ true → Headed (suc (g .tail))
     unfolding headCells
     head-index e n = headed (suc (g .tail)) (omega arith) (rw n refl) (omega arith) e (index-free n)
 
-    pub index-cells : Entering g b ss k x i → g .isIndex k ≡ true → Cells g digit x (x + suc (g .tail))
+    pub index-cells : EntersBlock g b ss k x i → g .isIndex k ≡ true → Cells g digit x (x + suc (g .tail))
     unfolding cellOf
     index-cells e n y a c =
         let s = head-index e n .stands-at in
@@ -170,7 +170,7 @@ module _ {g : Frame} {b : ℕ} {ss : List ℕ} (w : Walkable g b ss) where
         ∙ rw (index-free n y (omega (arith, s)) (omega (arith, s)), n, leb-holds (suc (y - g .head k)) (suc (g .tail)) (omega (arith, s)))
 
     -- whatever the block's kind
-    pub head-past : Entering g b ss k x i → Past g b ss k (x + headCells g k) i
+    pub head-past : EntersBlock g b ss k x i → Past g b ss k (x + headCells g k) i
     unfolding headCells
     head-past e =
         by-bool (g .isIndex k) (λ t. rw t (head-index e t .past))
@@ -254,7 +254,7 @@ module _ {g : Frame} {b : ℕ} {ss : List ℕ} (w : Walkable g b ss) where
 
     -- ---- The block's end
 
-    pub rest-hop : Past g b ss k x i → x < g .head (suc k) → g .head (suc k) ≤ nextStart (g .wordLen) ss i → Entering g b ss (suc k) (g .head (suc k)) i
+    pub rest-hop : Past g b ss k x i → x < g .head (suc k) → g .head (suc k) ≤ nextStart (g .wordLen) ss i → EntersBlock g b ss (suc k) (g .head (suc k)) i
     rest-hop e a c =
         record {
           between = record { within = edge-in k l; counted = e .between .counted; behind = λ j r. omega (arith, e .between .behind j r); ahead = c };
@@ -263,7 +263,7 @@ module _ {g : Frame} {b : ℕ} {ss : List ℕ} (w : Walkable g b ss) where
           clear = inl refl;
         }
 
-    pub rest-none : Past g b ss k x i → g .head (suc k) ≤ x → Entering g b ss (suc k) x i
+    pub rest-none : Past g b ss k x i → g .head (suc k) ≤ x → EntersBlock g b ss (suc k) x i
     rest-none e a =
         record {
           between = e .between;

@@ -22,9 +22,9 @@ use Rattle.params.specs.declared.Layout.{Layout}
 use Rattle.params.specs.Given.{figuresOf, frameOf}
 use Rattle.params.proofs.Shape.{in-range, min-room, min-burst, blocks-most}
 use Rattle.placements.specs.declared.Placement.{Placement}
-use Rattle.placements.specs.Bridge.{Placing, startsIn}
+use Rattle.placements.specs.Bridge.{PlacesBursts, startsIn}
 use Rattle.placements.proofs.Placing.{starts-placed, starts-count}
-use Rattle.blocks.specs.Blocks.{kindOf, burstKind, indexKind}
+use Rattle.blocks.specs.Blocks.{blockKind, burstKind, indexKind}
 use Rattle.stretches.specs.Walk.{frameBy, indexBefore, digitsBy}
 use Rattle.stretches.specs.ByBlock.{Walks, Tables, walkOf}
 use Rattle.stretches.specs.Fill.{DigitsFor, MessageFor}
@@ -33,23 +33,23 @@ use Rattle.stretches.proofs.Dealt.{dealt-own}
 
 -- ---- A block's kind as its number
 
-kind-few : (i b : Bool) → kindOf i b ≤ indexKind
+kind-few : (i b : Bool) → blockKind i b ≤ indexKind
 kind-few true b = omega arith
 kind-few false true = omega arith
 kind-few false false = omega arith
 
-kind-index : (i b : Bool) → eqb (kindOf i b) indexKind ≡ i
+kind-index : (i b : Bool) → eqb (blockKind i b) indexKind ≡ i
 kind-index true b = refl
 kind-index false true = refl
 kind-index false false = refl
 
-kind-burst : (i b : Bool) → (i ≡ true → b ≡ false) → eqb (kindOf i b) burstKind ≡ b
+kind-burst : (i b : Bool) → (i ≡ true → b ≡ false) → eqb (blockKind i b) burstKind ≡ b
 kind-burst true true e = absurd (true≢false (e refl))
 kind-burst true false e = refl
 kind-burst false true e = refl
 kind-burst false false e = refl
 
-module _ (l : Layout) (at : Placement) (heads kinds : List ℕ) (p : Placing l at) (tables : Tables l at heads kinds) where
+module _ (l : Layout) (at : Placement) (heads kinds : List ℕ) (p : PlacesBursts l at) (tables : Tables l at heads kinds) where
   range : Ranged (figuresOf l)
   range = in-range l (p .layout)
 

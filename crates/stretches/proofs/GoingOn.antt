@@ -13,7 +13,7 @@ use Rattle.placements.specs.Bridge.{startsIn}
 use Rattle.stretches.specs.declared.Walk.{Walk}
 use Rattle.stretches.specs.declared.taking.Taking.{Taking}
 use Rattle.stretches.specs.Walk.{headCells, frameBy}
-use Rattle.stretches.specs.ByBlock.{Cells, Entering}
+use Rattle.stretches.specs.ByBlock.{Cells, EntersBlock}
 use Rattle.stretches.specs.Take.{Takes, TakenTo, CellsTaken}
 use Rattle.stretches.proofs.ByBlock.{walkable, fixed-cells, index-cells, head-past}
 use Rattle.stretches.proofs.Picking.{taken-room, taken-other, taken-turn}
@@ -33,7 +33,7 @@ module _ {w : Walk} {at : Placement} {heads kinds ws out : List ℕ} {x taken : 
     room same = taken-room (w .n) (kindIn g) ws x to taken out (R .so-far) up in-word same
 
   -- a block's head is no message
-  pub passes-head : (k i : ℕ) → k < w .blocks → Entering g (w .b) (startsIn at) k x i → Takes w at heads kinds ws out (x + headCells g k) taken
+  pub passes-head : (k i : ℕ) → k < w .blocks → EntersBlock g (w .b) (startsIn at) k x i → Takes w at heads kinds ws out (x + headCells g k) taken
   unfolding headCells
   passes-head k i l e =
       let v = walkable (R .walks) in

@@ -25,7 +25,7 @@ pub record Between (n b : ℕ) (ss : List ℕ) (x i : ℕ) : Type 0 where
   pub ahead : x ≤ nextStart n ss i
 
 -- the walk comes to block k, or to the word's end: at its first cell, or behind a burst that ends in it, and then it has no head cells
-pub record Entering (g : Frame) (b : ℕ) (ss : List ℕ) (k x i : ℕ) : Type 0 where
+pub record EntersBlock (g : Frame) (b : ℕ) (ss : List ℕ) (k x i : ℕ) : Type 0 where
   pub between : Between (g .wordLen) b ss x i
   pub from : g .head k ≤ x
   pub to : k < g .blocks → x ≤ g .head (suc k)

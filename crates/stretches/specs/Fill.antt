@@ -12,7 +12,7 @@ use Rattle.placements.specs.Bridge.{startsIn}
 use Rattle.stretches.specs.declared.Walk.{Walk}
 use Rattle.stretches.specs.declared.fill.Filling.{Filling}
 use Rattle.stretches.specs.Walk.{frameBy, indexBefore, digitsBy}
-use Rattle.stretches.specs.ByBlock.{Entering, Past, Walks}
+use Rattle.stretches.specs.ByBlock.{EntersBlock, Past, Walks}
 
 -- digits for the head of each index block
 abbrev pub DigitsFor : Walk → List ℕ → List ℕ → Type 0
@@ -52,7 +52,7 @@ FilledTo w at heads kinds ds ms out here = Resumes w at heads kinds ds ms out (h
 -- the walk comes to a block, or to the word's end, past the index blocks before it
 abbrev pub ComesTo : Walk → Placement → List ℕ → List ℕ → ℕ → Filling → Type 0
 ComesTo w at heads kinds block here =
-    Entering (frameBy w heads kinds (startsIn at)) (w .b) (startsIn at) block (here .at) (here .passed) × (here .indexed ≡ indexBefore kinds block)
+    EntersBlock (frameBy w heads kinds (startsIn at)) (w .b) (startsIn at) block (here .at) (here .passed) × (here .indexed ≡ indexBefore kinds block)
 
 abbrev pub Enters : Walk → Placement → List ℕ → List ℕ → ℕ → Filling → Type 0
 Enters w at heads kinds block here = (block < w .blocks) × ComesTo w at heads kinds block here

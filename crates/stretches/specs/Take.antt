@@ -13,7 +13,7 @@ use Rattle.placements.specs.Bridge.{startsIn}
 use Rattle.stretches.specs.declared.Walk.{Walk}
 use Rattle.stretches.specs.declared.taking.Taking.{Taking}
 use Rattle.stretches.specs.Walk.{frameBy}
-use Rattle.stretches.specs.ByBlock.{Entering, PlacedIn, Walks}
+use Rattle.stretches.specs.ByBlock.{EntersBlock, PlacedIn, Walks}
 use Rattle.stretches.specs.Fill.{MessageFor}
 
 -- a placement's blocks, a complete word, and a buffer for its message
@@ -47,7 +47,7 @@ TakenTo w at heads kinds ws out here = Takes w at heads kinds ws out (here .at) 
 
 -- the walk comes to a block, or to the word's end
 abbrev pub ComesTo : Walk → Placement → List ℕ → List ℕ → ℕ → Taking → Type 0
-ComesTo w at heads kinds block here = Entering (frameBy w heads kinds (startsIn at)) (w .b) (startsIn at) block (here .at) (here .passed)
+ComesTo w at heads kinds block here = EntersBlock (frameBy w heads kinds (startsIn at)) (w .b) (startsIn at) block (here .at) (here .passed)
 
 abbrev pub Enters : Walk → Placement → List ℕ → List ℕ → ℕ → Taking → Type 0
 Enters w at heads kinds block here = (block < w .blocks) × ComesTo w at heads kinds block here

@@ -23,7 +23,8 @@ pub fn fill_cells(
     word: &mut [u8],
 )
     requires { ⌜ Fillable walk at (now heads) (now kinds) (now digits) (now message) (now word) ⌝ }
-    ensures { λ _. ⌜ now (word .exit) ≡ weave (planIn (frameBy walk (now (heads .entry)) (now (kinds .entry)) (startsIn at))) (digitsBy walk (now (kinds .entry)) (now (digits .entry))) (now (message .entry)) ⌝ }
+    ensures { λ _. ⌜ now (word .exit) ≡ weave (planIn (frameBy walk (now (heads .entry)) (now (kinds .entry)) (startsIn at)))
+        (digitsBy walk (now (kinds .entry)) (now (digits .entry))) (now (message .entry)) ⌝ }
 {
     let mut here = Filling {
         at: 0,
@@ -59,7 +60,8 @@ fn fill_block(
     from: Filling,
 ) -> Filling
     requires { ⌜ FilledTo walk at (now heads) (now kinds) (now digits) (now message) (now word) from × Enters walk at (now heads) (now kinds) block from ⌝ }
-    ensures { λ r. ⌜ FilledTo walk at (now (heads .entry)) (now (kinds .entry)) (now (digits .entry)) (now (message .entry)) (now (word .exit)) r × ComesTo walk at (now (heads .entry)) (now (kinds .entry)) (suc block) r ⌝ }
+    ensures { λ r. ⌜ FilledTo walk at (now (heads .entry)) (now (kinds .entry)) (now (digits .entry)) (now (message .entry)) (now (word .exit)) r
+        × ComesTo walk at (now (heads .entry)) (now (kinds .entry)) (suc block) r ⌝ }
 {
     let edge = heads[block + 1] as usize;
     let mut here = fill_head(walk, at, heads, kinds, digits, message, word, block, from);
@@ -88,7 +90,8 @@ fn fill_head(
     from: Filling,
 ) -> Filling
     requires { ⌜ FilledTo walk at (now heads) (now kinds) (now digits) (now message) (now word) from × Enters walk at (now heads) (now kinds) block from ⌝ }
-    ensures { λ r. ⌜ FilledTo walk at (now (heads .entry)) (now (kinds .entry)) (now (digits .entry)) (now (message .entry)) (now (word .exit)) r × HeadPassed walk at (now (heads .entry)) (now (kinds .entry)) block r ⌝ }
+    ensures { λ r. ⌜ FilledTo walk at (now (heads .entry)) (now (kinds .entry)) (now (digits .entry)) (now (message .entry)) (now (word .exit)) r
+        × HeadPassed walk at (now (heads .entry)) (now (kinds .entry)) block r ⌝ }
 {
     let start = from.at;
     let kind = kinds[block];

@@ -26,7 +26,8 @@ pub fn take_message(
     message: &mut [u8],
 )
     requires { ⌜ Takeable walk at (now heads) (now kinds) (now word) (now message) ⌝ }
-    ensures { λ _. ⌜ now (message .exit) ≡ pick Rattle.cells.specs.Cells.message (planIn (frameBy walk (now (heads .entry)) (now (kinds .entry)) (startsIn at))) (now (word .entry)) ⌝ }
+    ensures { λ _. ⌜ now (message .exit) ≡ pick Rattle.cells.specs.Cells.message (planIn (frameBy walk (now (heads .entry)) (now (kinds .entry)) (startsIn at)))
+        (now (word .entry)) ⌝ }
 {
     let mut here = Taking {
         at: 0,
@@ -70,7 +71,8 @@ fn take_block(
     from: Taking,
 ) -> Taking
     requires { ⌜ TakenTo walk at (now heads) (now kinds) (now word) (now message) from × Enters walk at (now heads) (now kinds) block from ⌝ }
-    ensures { λ r. ⌜ TakenTo walk at (now (heads .entry)) (now (kinds .entry)) (now (word .entry)) (now (message .exit)) r × ComesTo walk at (now (heads .entry)) (now (kinds .entry)) (suc block) r ⌝ }
+    ensures { λ r. ⌜ TakenTo walk at (now (heads .entry)) (now (kinds .entry)) (now (word .entry)) (now (message .exit)) r
+        × ComesTo walk at (now (heads .entry)) (now (kinds .entry)) (suc block) r ⌝ }
 {
     let edge = heads[block + 1] as usize;
     let mut here = Taking {

@@ -14,9 +14,9 @@ use Rattle.larsson.proofs.Walking.{untouched-any}
 use Rattle.blocks.specs.Blocks.{burstKind, indexKind}
 use Rattle.placements.specs.declared.Placement.{Placement}
 use Rattle.larsson_params.specs.declared.LarssonLayout.{LarssonLayout}
-use Rattle.larsson_params.specs.Given.{figuresOf}
+use Rattle.larsson_params.specs.Given.{larssonFiguresOf}
 use Rattle.larsson_params.proofs.Shape.{served}
-use Rattle.sub_blocks.specs.Given.{Bearing}
+use Rattle.sub_blocks.specs.Given.{BurstsOfLayout}
 
 -- whether the burst from s on touches the stretch
 abbrev pub touched : ℕ → ℕ → ℕ → ℕ → Bool
@@ -34,13 +34,13 @@ pub any-none : (t : ℕ → Bool) → any t [] ≡ false
 unfolding any
 any-none t = refl
 
-module _ (l : LarssonLayout) (at : Placement) (g : Bearing l at) where
+module _ (l : LarssonLayout) (at : Placement) (g : BurstsOfLayout l at) where
   -- a sub-block is untouched where no burst touches its stretch
-  pub untouched-is : (ss : List ℕ) (i from end : ℕ) → from ≡ subStart (figuresOf l) i → end ≡ from + l .«sub_len»
-      → not (any (touched (l .b) from end) ss) ≡ untouched (figuresOf l) ss i
+  pub untouched-is : (ss : List ℕ) (i from end : ℕ) → from ≡ subStart (larssonFiguresOf l) i → end ≡ from + l .«sub_len»
+      → not (any (touched (l .b) from end) ss) ≡ untouched (larssonFiguresOf l) ss i
   untouched-is ss i from end d e =
       let sub = g .layout .laid .sub-is in
-      rw (e, d, sub) (sym (untouched-any (figuresOf l) (served l (g .layout)) (omega (arith, sub, g .some)) ss i))
+      rw (e, d, sub) (sym (untouched-any (larssonFiguresOf l) (served l (g .layout)) (omega (arith, sub, g .some)) ss i))
 
 -- a sub-block's kind by what is known when the search comes to it
 pub bears-now : (f : Params) (ss : List ℕ) (i before : ℕ) (u : Bool) → u ≡ untouched f ss i → before ≡ count i 0 (untouched f ss)

@@ -19,34 +19,34 @@ use Rattle.larsson.proofs.Walking.{holds-same}
 use Rattle.blocks.specs.Blocks.{burstKind, indexKind}
 use Rattle.heads.specs.Written.{plainPlaces}
 use Rattle.larsson_params.specs.declared.LarssonLayout.{LarssonLayout}
-use Rattle.larsson_params.specs.Given.{figuresOf}
+use Rattle.larsson_params.specs.Given.{larssonFiguresOf}
 use Rattle.sub_blocks.specs.Given.{BearersOf}
-use Rattle.sub_blocks.specs.Found.{Finding, Holding, spelledAt}
+use Rattle.sub_blocks.specs.Found.{FoundWord, SubBlockValued, spelledAt}
 use Rattle.sub_blocks.proofs.Voting.{small}
 
 module _ (l : LarssonLayout) (w : List ℕ) (i : ℕ) where
   -- what Horner's rule gives for its symbols
-  pub spelled-is : (part : List ℕ) → part ≡ subSymbols (figuresOf l) w i → 0 * span (l .q) (plainPlaces part) + value (l .q) (plainPlaces part) part ≡ spelledAt (figuresOf l) w i
+  pub spelled-is : (part : List ℕ) → part ≡ subSymbols (larssonFiguresOf l) w i → 0 * span (l .q) (plainPlaces part) + value (l .q) (plainPlaces part) part ≡ spelledAt (larssonFiguresOf l) w i
   unfolding spelledAt
   spelled-is part e =
-      let xs = subSymbols (figuresOf l) w i in
-      let is : plainPlaces xs ≡ rankPlaces (figuresOf l) = ap (λ (n : ℕ). replicate n plain) (length-symbols (figuresOf l) w i) in
+      let xs = subSymbols (larssonFiguresOf l) w i in
+      let is : plainPlaces xs ≡ rankPlaces (larssonFiguresOf l) = ap (λ (n : ℕ). replicate n plain) (length-symbols (larssonFiguresOf l) w i) in
       rw (e, is) (omega arith)
 
   -- a bearer with other symbols, by the array of kinds
   abbrev pub Other : List ℕ → ℕ → Bool
-  Other kinds x = eqb (getD kinds x 0) indexKind && not (sameList (subSymbols (figuresOf l) w x) (subSymbols (figuresOf l) w i))
+  Other kinds x = eqb (getD kinds x 0) indexKind && not (sameList (subSymbols (larssonFiguresOf l) w x) (subSymbols (larssonFiguresOf l) w i))
 
 kind-test : (b : Bool) → eqb (cond b indexKind burstKind) indexKind ≡ b
 kind-test true = refl
 kind-test false = refl
 
 -- by what an array of kinds says of a placement's bearers
-pub agrees-by : (l : LarssonLayout) (w : List ℕ) (i : ℕ) → Finding l w → Holding (figuresOf l) w i → (ss kinds : List ℕ) → BearersOf (figuresOf l) ss kinds
-    → not (has (subBlocks (figuresOf l)) 0 (Other l w i kinds)) ≡ agrees (figuresOf l) w (spelledAt (figuresOf l) w i) ss
+pub agrees-by : (l : LarssonLayout) (w : List ℕ) (i : ℕ) → FoundWord l w → SubBlockValued (larssonFiguresOf l) w i → (ss kinds : List ℕ) → BearersOf (larssonFiguresOf l) ss kinds
+    → not (has (subBlocks (larssonFiguresOf l)) 0 (Other l w i kinds)) ≡ agrees (larssonFiguresOf l) w (spelledAt (larssonFiguresOf l) w i) ss
 unfolding agrees
 agrees-by l w i g h ss kinds is =
-    let f = figuresOf l in
+    let f = larssonFiguresOf l in
     let v = spelledAt f w i in
     ap not (has-ext (subBlocks f) 0 (Other l w i kinds) (λ x. bears f ss x && not (isValue v (subValue f w x)))
     (λ x _ k. ap₂ (λ (a b : Bool). a && not b) (ap (λ (y : ℕ). eqb y indexKind) (is x (omega arith)) ∙ kind-test (bears f ss x)) (sym (holds-same f w (small l w g) x i v (h .valued)))))

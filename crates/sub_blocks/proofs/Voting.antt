@@ -25,9 +25,9 @@ use Rattle.larsson.specs.Reading.{subSymbols, subValue, found}
 use Rattle.larsson.proofs.SubBlocks.{symbols-small}
 use Rattle.larsson.proofs.Walking.{holds-same, found-at, found-nowhere}
 use Rattle.larsson_params.specs.declared.LarssonLayout.{LarssonLayout}
-use Rattle.larsson_params.specs.Given.{figuresOf, StartsOf}
+use Rattle.larsson_params.specs.Given.{larssonFiguresOf, StartsOf}
 use Rattle.larsson_params.proofs.Shape.{bound, sub-room}
-use Rattle.sub_blocks.specs.Found.{Finding, spelledAt, MajorityAt}
+use Rattle.sub_blocks.specs.Found.{FoundWord, spelledAt, MajorityAt}
 
 -- ---- Two stretches
 
@@ -51,18 +51,18 @@ module _ (f : ℕ → ℕ) (a b : ℕ) where
 
 -- ---- The sub-blocks of a found word
 
-module _ (l : LarssonLayout) (w : List ℕ) (g : Finding l w) where
+module _ (l : LarssonLayout) (w : List ℕ) (g : FoundWord l w) where
   pub small : (x : ℕ) → getD w x 0 < foundBound (l .q)
   small = below-at (foundBound (l .q)) w (omega (arith, found-least (l .q), bound l (g .layout) .q-least)) (g .symbols)
 
   -- one of them, by where it starts
-  pub symbols-from : (i from : ℕ) → from ≡ subStart (figuresOf l) i → tabulate (l .«sub_len») from (λ x. getD w x 0) ≡ subSymbols (figuresOf l) w i
+  pub symbols-from : (i from : ℕ) → from ≡ subStart (larssonFiguresOf l) i → tabulate (l .«sub_len») from (λ x. getD w x 0) ≡ subSymbols (larssonFiguresOf l) w i
   unfolding subSymbols
   symbols-from i from e = rw (e, g .layout .laid .sub-is)
 
   -- the same, lent as a part of the word
-  pub part-is : (i from : ℕ) → i < subBlocks (figuresOf l) → from ≡ subStart (figuresOf l) i
-      → take (from + l .«sub_len» - from) (drop from w) ≡ subSymbols (figuresOf l) w i
+  pub part-is : (i from : ℕ) → i < subBlocks (larssonFiguresOf l) → from ≡ subStart (larssonFiguresOf l) i
+      → take (from + l .«sub_len» - from) (drop from w) ≡ subSymbols (larssonFiguresOf l) w i
   part-is i from h e =
       let n : from + l .«sub_len» - from ≡ l .«sub_len» = omega arith in
       (rw n (take-is (l .«sub_len») from (drop from w) (λ x. getD w x 0) (omega (arith, e, length-drop from w, sub-room l (g .layout) i h, g .complete)) (λ j _. getD-drop from w j 0)))
@@ -70,25 +70,25 @@ module _ (l : LarssonLayout) (w : List ℕ) (g : Finding l w) where
 
   module _ (i : ℕ) where
     -- symbols alone have a value
-    pub has-value : allBelow (l .q) (subSymbols (figuresOf l) w i) ≡ true → subValue (figuresOf l) w i ≡ some (spelledAt (figuresOf l) w i)
+    pub has-value : allBelow (l .q) (subSymbols (larssonFiguresOf l) w i) ≡ true → subValue (larssonFiguresOf l) w i ≡ some (spelledAt (larssonFiguresOf l) w i)
     unfolding subValue spelledAt
-    has-value e = rw (below-whole (l .q) (subSymbols (figuresOf l) w i) e)
+    has-value e = rw (below-whole (l .q) (subSymbols (larssonFiguresOf l) w i) e)
 
     -- "one with a silent cell has no value"
-    pub no-value : allBelow (l .q) (subSymbols (figuresOf l) w i) ≡ false → subValue (figuresOf l) w i ≡ none
+    pub no-value : allBelow (l .q) (subSymbols (larssonFiguresOf l) w i) ≡ false → subValue (larssonFiguresOf l) w i ≡ none
     unfolding subValue
     no-value e =
-        let xs = subSymbols (figuresOf l) w i in
+        let xs = subSymbols (larssonFiguresOf l) w i in
         by-bool (hasErasure (l .q) xs) (λ t. rw t)
-        (λ t. absurd (true≢false (sym (whole-below (l .q) xs (symbols-small (figuresOf l) w small i) t) ∙ e)))
+        (λ t. absurd (true≢false (sym (whole-below (l .q) xs (symbols-small (larssonFiguresOf l) w small i) t) ∙ e)))
 
     -- its value is common where enough sub-blocks have its symbols
-    pub voted : (votes : ℕ) → allBelow (l .q) (subSymbols (figuresOf l) w i) ≡ true
-        → votes ≡ count (subBlocks (figuresOf l)) 0 (λ j. sameList (subSymbols (figuresOf l) w j) (subSymbols (figuresOf l) w i))
-        → ltb (l .m) votes ≡ hasCommon (subBlocks (figuresOf l)) (suc (l .m)) (subValue (figuresOf l) w) (subValue (figuresOf l) w i)
+    pub voted : (votes : ℕ) → allBelow (l .q) (subSymbols (larssonFiguresOf l) w i) ≡ true
+        → votes ≡ count (subBlocks (larssonFiguresOf l)) 0 (λ j. sameList (subSymbols (larssonFiguresOf l) w j) (subSymbols (larssonFiguresOf l) w i))
+        → ltb (l .m) votes ≡ hasCommon (subBlocks (larssonFiguresOf l)) (suc (l .m)) (subValue (larssonFiguresOf l) w) (subValue (larssonFiguresOf l) w i)
     unfolding common
     voted votes e n =
-        let f = figuresOf l in
+        let f = larssonFiguresOf l in
         let v = spelledAt f w i in
         let is = has-value e in
         let each : count (subBlocks f) 0 (λ j. isValue v (subValue f w j)) ≡ count (subBlocks f) 0 (λ j. sameList (subSymbols f w j) (subSymbols f w i)) =
@@ -96,16 +96,16 @@ module _ (l : LarssonLayout) (w : List ℕ) (g : Finding l w) where
         rw is (ap (ltb (l .m)) (n ∙ sym each))
 
     -- a search that comes to a common value has the majority
-    pub majority-here : i < subBlocks (figuresOf l)
-        → hasCommon (subBlocks (figuresOf l)) (suc (l .m)) (subValue (figuresOf l) w) (subValue (figuresOf l) w i) ≡ true → MajorityAt (figuresOf l) w i
+    pub majority-here : i < subBlocks (larssonFiguresOf l)
+        → hasCommon (subBlocks (larssonFiguresOf l)) (suc (l .m)) (subValue (larssonFiguresOf l) w) (subValue (larssonFiguresOf l) w i) ≡ true → MajorityAt (larssonFiguresOf l) w i
     majority-here h t =
-        let f = figuresOf l in
+        let f = larssonFiguresOf l in
         let is : subValue f w i ≡ some (spelledAt f w i) =
         by-bool (allBelow (l .q) (subSymbols f w i)) has-value (λ e. absurd (true≢false (sym t ∙ ap (hasCommon (subBlocks f) (suc (l .m)) (subValue f w)) (no-value e)))) in
         record { holding = λ _. record { within = h; valued = is }; taken = λ _. found-at f w i (spelledAt f w i) is t; nowhere = λ k. absurd (omega arith) }
 
   -- and one that has seen the first m + 1 knows that there is none
-  pub majority-none : ((i : ℕ) → i < suc (l .m) → hasCommon (subBlocks (figuresOf l)) (suc (l .m)) (subValue (figuresOf l) w) (subValue (figuresOf l) w i) ≡ false)
-      → MajorityAt (figuresOf l) w (2 * l .m + 1)
+  pub majority-none : ((i : ℕ) → i < suc (l .m) → hasCommon (subBlocks (larssonFiguresOf l)) (suc (l .m)) (subValue (larssonFiguresOf l) w) (subValue (larssonFiguresOf l) w i) ≡ false)
+      → MajorityAt (larssonFiguresOf l) w (2 * l .m + 1)
   majority-none h =
-      record { holding = λ k. absurd (omega arith); taken = λ k. absurd (omega arith); nowhere = λ _. found-nowhere (figuresOf l) w h }
+      record { holding = λ k. absurd (omega arith); taken = λ k. absurd (omega arith); nowhere = λ _. found-nowhere (larssonFiguresOf l) w h }

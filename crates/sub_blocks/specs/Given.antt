@@ -10,11 +10,11 @@ use Rattle.larsson.specs.Writing.{bears}
 use Rattle.placements.specs.declared.Placement.{Placement}
 use Rattle.blocks.specs.Blocks.{burstKind, indexKind}
 use Rattle.larsson_params.specs.declared.LarssonLayout.{LarssonLayout}
-use Rattle.larsson_params.specs.Given.{Fitting}
+use Rattle.larsson_params.specs.Given.{LarssonLayoutFits}
 
 -- m starts, and sub-blocks that have a symbol
-pub record Bearing (l : LarssonLayout) (at : Placement) : Type 0 where
-  pub layout : Fitting l
+pub record BurstsOfLayout (l : LarssonLayout) (at : Placement) : Type 0 where
+  pub layout : LarssonLayoutFits l
   pub count : at .count ≡ l .m
   pub some : 0 < l .«sub_len»
 

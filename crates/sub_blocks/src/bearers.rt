@@ -9,8 +9,8 @@ ghost use Rattle.larsson.specs.Figures.{subBlocks};
 ghost use Rattle.larsson.specs.Writing.{untouched as untouchedIn};
 ghost use Rattle.placements.specs.Bridge.{startsIn};
 ghost use Rattle.blocks.specs.Blocks.{burstKind, indexKind};
-ghost use Rattle.larsson_params.specs.Given.{figuresOf, StartsOf};
-ghost use Rattle.sub_blocks.specs.Given.{Bearing, BearersOf};
+ghost use Rattle.larsson_params.specs.Given.{larssonFiguresOf, StartsOf};
+ghost use Rattle.sub_blocks.specs.Given.{BurstsOfLayout, BearersOf};
 use blocks::BURST;
 use blocks::INDEX;
 use larsson_params::LarssonLayout;
@@ -23,8 +23,8 @@ pub fn bearers_of(
     starts: &[u16; Layout::MAX_HEADS],
     at: Placement,
 ) -> [u8; Layout::MAX_BLOCKS]
-    requires { ⌜ Bearing layout at × StartsOf (figuresOf layout) (now starts) ⌝ }
-    ensures { λ r. ⌜ BearersOf (figuresOf layout) (startsIn at) r ⌝ }
+    requires { ⌜ BurstsOfLayout layout at × StartsOf (larssonFiguresOf layout) (now starts) ⌝ }
+    ensures { λ r. ⌜ BearersOf (larssonFiguresOf layout) (startsIn at) r ⌝ }
 {
     let blocks = 2 * layout.m + 1;
     let mut kinds = [BURST; Layout::MAX_BLOCKS];
@@ -61,8 +61,8 @@ fn is_untouched(
     at: Placement,
     i: usize,
 ) -> bool
-    requires { ⌜ Bearing layout at × StartsOf (figuresOf layout) (now starts) × (i < subBlocks (figuresOf layout)) ⌝ }
-    ensures { λ r. ⌜ r ≡ untouchedIn (figuresOf layout) (startsIn at) i ⌝ }
+    requires { ⌜ BurstsOfLayout layout at × StartsOf (larssonFiguresOf layout) (now starts) × (i < subBlocks (larssonFiguresOf layout)) ⌝ }
+    ensures { λ r. ⌜ r ≡ untouchedIn (larssonFiguresOf layout) (startsIn at) i ⌝ }
 {
     let from = starts[i] as usize;
     let end = from + layout.sub_len;

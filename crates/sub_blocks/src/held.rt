@@ -4,9 +4,9 @@ ghost use mathlib.Core.List.{List};
 ghost use Prim.Native.Nat.{ℕ, _<_, min};
 ghost use Rattle.larsson.specs.Figures.{subBlocks};
 ghost use Rattle.larsson.specs.Reading;
-ghost use Rattle.larsson_params.specs.Given.{figuresOf, StartsOf};
+ghost use Rattle.larsson_params.specs.Given.{larssonFiguresOf, StartsOf};
 ghost use Rattle.sub_blocks.specs.Given.{BearersOf};
-ghost use Rattle.sub_blocks.specs.Found.{Finding, Holding, spelledAt};
+ghost use Rattle.sub_blocks.specs.Found.{FoundWord, SubBlockValued, spelledAt};
 use crate::majority::same_symbols;
 use blocks::INDEX;
 use heads::written::with_digits;
@@ -20,8 +20,8 @@ pub fn value_of(
     word: &[u8],
     i: usize,
 ) -> u64
-    requires { ⌜ Finding layout (now word) × StartsOf (figuresOf layout) (now starts) × (i < subBlocks (figuresOf layout)) ⌝ }
-    ensures { λ r. ⌜ r ≡ min (spelledAt (figuresOf layout) (now (word .entry)) i) (layout .«placement_count») ⌝ }
+    requires { ⌜ FoundWord layout (now word) × StartsOf (larssonFiguresOf layout) (now starts) × (i < subBlocks (larssonFiguresOf layout)) ⌝ }
+    ensures { λ r. ⌜ r ≡ min (spelledAt (larssonFiguresOf layout) (now (word .entry)) i) (layout .«placement_count») ⌝ }
 {
     let from = starts[i] as usize;
     let end = from + layout.sub_len;
@@ -36,8 +36,9 @@ pub fn agrees(
     word: &[u8],
     i: usize,
 ) -> bool
-    requires { ⌜ Finding layout (now word) × StartsOf (figuresOf layout) (now starts) × Holding (figuresOf layout) (now word) i ⌝ }
-    ensures { λ r. ⌜ ((ss : List ℕ) → BearersOf (figuresOf layout) ss (now (kinds .entry)) → r ≡ Rattle.larsson.specs.Reading.agrees (figuresOf layout) (now (word .entry)) (spelledAt (figuresOf layout) (now (word .entry)) i) ss) ⌝ }
+    requires { ⌜ FoundWord layout (now word) × StartsOf (larssonFiguresOf layout) (now starts) × SubBlockValued (larssonFiguresOf layout) (now word) i ⌝ }
+    ensures { λ r. ⌜ ((ss : List ℕ) → BearersOf (larssonFiguresOf layout) ss (now (kinds .entry)) → r
+        ≡ Rattle.larsson.specs.Reading.agrees (larssonFiguresOf layout) (now (word .entry)) (spelledAt (larssonFiguresOf layout) (now (word .entry)) i) ss) ⌝ }
 {
     let blocks = 2 * layout.m + 1;
     let mut j: usize = 0;

@@ -8,8 +8,8 @@ ghost use Rattle.combinatorics.specs.Majority.{hasCommon};
 ghost use Rattle.combinatorics.specs.Stretch.{count, tabulate};
 ghost use Rattle.larsson.specs.Figures.{subBlocks};
 ghost use Rattle.larsson.specs.Reading.{subSymbols, subValue};
-ghost use Rattle.larsson_params.specs.Given.{figuresOf, StartsOf};
-ghost use Rattle.sub_blocks.specs.Found.{Finding, MajorityAt};
+ghost use Rattle.larsson_params.specs.Given.{larssonFiguresOf, StartsOf};
+ghost use Rattle.sub_blocks.specs.Found.{FoundWord, MajorityAt};
 use larsson_params::LarssonLayout;
 use params::Layout;
 
@@ -20,8 +20,8 @@ pub fn majority_block(
     starts: &[u16; Layout::MAX_HEADS],
     word: &[u8],
 ) -> usize
-    requires { ⌜ Finding layout (now word) × StartsOf (figuresOf layout) (now starts) ⌝ }
-    ensures { λ r. ⌜ MajorityAt (figuresOf layout) (now (word .entry)) r ⌝ }
+    requires { ⌜ FoundWord layout (now word) × StartsOf (larssonFiguresOf layout) (now starts) ⌝ }
+    ensures { λ r. ⌜ MajorityAt (larssonFiguresOf layout) (now (word .entry)) r ⌝ }
 {
     let m = layout.m;
     let mut i: usize = 0;
@@ -41,8 +41,9 @@ fn has_majority(
     word: &[u8],
     i: usize,
 ) -> bool
-    requires { ⌜ Finding layout (now word) × StartsOf (figuresOf layout) (now starts) × (i < subBlocks (figuresOf layout)) ⌝ }
-    ensures { λ r. ⌜ r ≡ hasCommon (subBlocks (figuresOf layout)) (suc (layout .m)) (subValue (figuresOf layout) (now (word .entry))) (subValue (figuresOf layout) (now (word .entry)) i) ⌝ }
+    requires { ⌜ FoundWord layout (now word) × StartsOf (larssonFiguresOf layout) (now starts) × (i < subBlocks (larssonFiguresOf layout)) ⌝ }
+    ensures { λ r. ⌜ r ≡ hasCommon (subBlocks (larssonFiguresOf layout)) (suc (layout .m)) (subValue (larssonFiguresOf layout) (now (word .entry)))
+        (subValue (larssonFiguresOf layout) (now (word .entry)) i) ⌝ }
 {
     let from = starts[i] as usize;
     let end = from + layout.sub_len;
@@ -54,8 +55,9 @@ fn has_majority(
 
 // How many sub-blocks have the symbols of sub-block i.
 fn votes(layout: LarssonLayout, starts: &[u16; Layout::MAX_HEADS], word: &[u8], i: usize) -> usize
-    requires { ⌜ Finding layout (now word) × StartsOf (figuresOf layout) (now starts) × (i < subBlocks (figuresOf layout)) ⌝ }
-    ensures { λ r. ⌜ r ≡ count (subBlocks (figuresOf layout)) 0 (λ j. sameList (subSymbols (figuresOf layout) (now (word .entry)) j) (subSymbols (figuresOf layout) (now (word .entry)) i)) ⌝ }
+    requires { ⌜ FoundWord layout (now word) × StartsOf (larssonFiguresOf layout) (now starts) × (i < subBlocks (larssonFiguresOf layout)) ⌝ }
+    ensures { λ r. ⌜ r ≡ count (subBlocks (larssonFiguresOf layout)) 0
+        (λ j. sameList (subSymbols (larssonFiguresOf layout) (now (word .entry)) j) (subSymbols (larssonFiguresOf layout) (now (word .entry)) i)) ⌝ }
 {
     let blocks = 2 * layout.m + 1;
     let mut met: usize = 0;
@@ -77,8 +79,9 @@ pub fn same_symbols(
     i: usize,
     j: usize,
 ) -> bool
-    requires { ⌜ Finding layout (now word) × StartsOf (figuresOf layout) (now starts) × (i < subBlocks (figuresOf layout)) × (j < subBlocks (figuresOf layout)) ⌝ }
-    ensures { λ r. ⌜ r ≡ sameList (subSymbols (figuresOf layout) (now (word .entry)) i) (subSymbols (figuresOf layout) (now (word .entry)) j) ⌝ }
+    requires { ⌜ FoundWord layout (now word) × StartsOf (larssonFiguresOf layout) (now starts) × (i < subBlocks (larssonFiguresOf layout))
+        × (j < subBlocks (larssonFiguresOf layout)) ⌝ }
+    ensures { λ r. ⌜ r ≡ sameList (subSymbols (larssonFiguresOf layout) (now (word .entry)) i) (subSymbols (larssonFiguresOf layout) (now (word .entry)) j) ⌝ }
 {
     same_stretches(word, starts[i] as usize, starts[j] as usize, layout.sub_len)
 }

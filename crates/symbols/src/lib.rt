@@ -6,14 +6,13 @@ ghost use lib.Dec.{ltb};
 ghost use lib.ListN.{length, take, replicate};
 ghost use Rattle.combinatorics.specs.Lists.{allBelow};
 
-// How many values a byte has.
-const BYTE_VALUES: u64 = 256;
+pub mod numbers;
 
 // Whether every symbol is below a bound: otherwise refusal 4.
 pub fn all_below(symbols: &[u8], bound: u64) -> bool
     ensures { λ r. ⌜ r ≡ allBelow bound (now (symbols .entry)) ⌝ }
 {
-    if BYTE_VALUES <= bound {
+    if numbers::BYTE_VALUES <= bound {
         return true;
     }
     if bound == 0 {

@@ -14,7 +14,7 @@ use Rattle.jobs.specs.Letters.{kindOf, callBy, isLetter}
 use Rattle.payloads.specs.Payload.{jobNumber}
 use Rattle.records.specs.Session.{Session, atStart, maxRecords}
 use Rattle.lines.specs.Lines.{letterS, letterL, letterW, letterR}
-use Rattle.records.specs.Records.{headLen, letterOf, isEmpty, ifFit, current, readable, figuresIn, longFiguresIn}
+use Rattle.records.specs.Records.{recordHeadLen, letterOf, isEmpty, ifFit, current, readable, figuresIn, longFiguresIn}
 use Rattle.transfer.specs.Steps.{Step, stopped, ended, figuresStep, callStep, writeOut, readOut, serveOut, stepOut}
 
 -- the figures that are held are those of the last accepted S or L
@@ -44,7 +44,7 @@ module _ (s : Session) (h : Accepted s) (bytes : List ℕ) where
       go : (a l b c d : Bool)
           → Accepted (cond a (figuresStep s letter (figuresIn bytes) (figuresUnder (codingOf (figuresIn bytes))))
           (cond l (figuresStep s letter (longFiguresIn bytes) (figuresUnder (codingOf (longFiguresIn bytes))))
-          (cond b (callStep s letter (callBy (kindOf letter) (s .table) (jobNumber (drop headLen bytes))))
+          (cond b (callStep s letter (callBy (kindOf letter) (s .table) (jobNumber (drop recordHeadLen bytes))))
           (cond c (writeOut s bytes (current (s .figures))) (cond d (readOut s bytes (current (s .figures))) (stopped s))))) .next)
       go true l b c d = figures-accepted letter (figuresIn bytes) (figuresUnder (codingOf (figuresIn bytes))) refl
       go false true b c d = figures-accepted letter (longFiguresIn bytes) (figuresUnder (codingOf (longFiguresIn bytes))) refl

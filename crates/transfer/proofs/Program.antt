@@ -19,7 +19,7 @@ use Rattle.payloads.specs.Payload.{jobNumber}
 use Rattle.records.proofs.Lengths.{reaches}
 use Rattle.records.specs.Session.{Session, atStart, maxRecords}
 use Rattle.lines.specs.Lines.{stopLine, endLine, letterS, letterL, letterW, letterR}
-use Rattle.records.specs.Records.{headLen, letterOf, isMarked, isEmpty, current, writeLen, readLen, recordLen, isWhole, readable, figuresIn, longFiguresIn, reach}
+use Rattle.records.specs.Records.{recordHeadLen, letterOf, isMarked, isEmpty, current, writeLen, readLen, recordLen, isWhole, readable, figuresIn, longFiguresIn, reach}
 use Rattle.transfer.specs.Steps.{Step, stopped, ended, figuresStep, callStep, writeOut, readOut, serveOut, stepOut}
 use Rattle.transfer.specs.Program.{nextRecord, behind, printedFrom, printed, Steps, lastStep, step, StepsPrint}
 
@@ -47,10 +47,10 @@ module _ (s : Session) (bytes : List ℕ) where
   serve-goes letter = go (eqb letter letterS) (eqb letter letterL) (isLetter letter) (eqb letter letterW) (eqb letter letterR)
     where
       go : (a l b c d : Bool)
-          → isWhole bytes (cond a (some (headLen + 6)) (cond l (some (headLen + 5)) (cond b (some (headLen + 4)) (cond c (writeLen (current (s .figures))) (cond d (readLen (current (s .figures))) none))))) ≡ true
+          → isWhole bytes (cond a (some (recordHeadLen + 6)) (cond l (some (recordHeadLen + 5)) (cond b (some (recordHeadLen + 4)) (cond c (writeLen (current (s .figures))) (cond d (readLen (current (s .figures))) none))))) ≡ true
           → Goes s (cond a (figuresStep s letter (figuresIn bytes) (figuresUnder (codingOf (figuresIn bytes))))
           (cond l (figuresStep s letter (longFiguresIn bytes) (figuresUnder (codingOf (longFiguresIn bytes))))
-          (cond b (callStep s letter (callBy (kindOf letter) (s .table) (jobNumber (drop headLen bytes))))
+          (cond b (callStep s letter (callBy (kindOf letter) (s .table) (jobNumber (drop recordHeadLen bytes))))
           (cond c (writeOut s bytes (current (s .figures))) (cond d (readOut s bytes (current (s .figures))) (stopped s))))))
       go true l b c d h = figures-go letter (figuresIn bytes) (figuresUnder (codingOf (figuresIn bytes)))
       go false true b c d h = figures-go letter (longFiguresIn bytes) (figuresUnder (codingOf (longFiguresIn bytes)))

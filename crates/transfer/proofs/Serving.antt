@@ -21,9 +21,9 @@ use Rattle.jobcodec.specs.JobWrite.{jobWriteUnder}
 use Rattle.jobcodec.specs.JobRead.{JobRead, withhold, jobReading, jobReadUnder}
 use Rattle.text.specs.Text.{overwrite}
 use Rattle.transfer.specs.declared.StepAnswer.{StepAnswer}
-use Rattle.records.specs.Session.{Session, maxRecords, after}
+use Rattle.records.specs.Session.{Session, maxRecords, nextSession}
 use Rattle.lines.specs.Lines.{refusalLine, servedLine}
-use Rattle.records.specs.Records.{headLen, letterOf, current, readable, figuresIn, longFiguresIn}
+use Rattle.records.specs.Records.{recordHeadLen, letterOf, current, readable, figuresIn, longFiguresIn}
 use Rattle.transfer.specs.Steps.{stopped, ended, goesOn, figuresStep, callStep, jobStep, writeStep, readStep, writeOut, readOut, serveOut, stepOut}
 use Rattle.records.specs.Bridge.{sessionOf}
 use Rattle.transfer.specs.Bridge.{Shown}
@@ -37,17 +37,17 @@ module _ (r : StepAnswer) (before line : List ℕ) where
 
   module _ (s : Session) (letter : ℕ) where
     pub shown-refused : (a a′ : ℕ) (fields : List (List ℕ)) → a ≡ a′ → a ≢ served
-        → Shown r before line (goesOn (after s (s .figures) (s .table)) (refusalLine letter a)) → Shown r before line (jobStep s letter a′ fields)
+        → Shown r before line (goesOn (nextSession s (s .figures) (s .table)) (refusalLine letter a)) → Shown r before line (jobStep s letter a′ fields)
     shown-refused a a′ fields e h is =
         subst (λ (x : ℕ). Shown r before line (jobStep s letter x fields)) e
-        (subst (λ (t : Bool). Shown r before line (goesOn (after s (s .figures) (s .table)) (must t (refusalLine letter a) (servedLine letter fields)))) (sym (eqb-other a served h)) is)
+        (subst (λ (t : Bool). Shown r before line (goesOn (nextSession s (s .figures) (s .table)) (must t (refusalLine letter a) (servedLine letter fields)))) (sym (eqb-other a served h)) is)
 
     pub shown-served : (a a′ : ℕ) (fields fields′ : List (List ℕ)) → a ≡ a′ → a ≡ served → fields ≡ fields′
-        → Shown r before line (goesOn (after s (s .figures) (s .table)) (servedLine letter fields)) → Shown r before line (jobStep s letter a′ fields′)
+        → Shown r before line (goesOn (nextSession s (s .figures) (s .table)) (servedLine letter fields)) → Shown r before line (jobStep s letter a′ fields′)
     shown-served a a′ fields fields′ e h f is =
-        subst (λ (t : Bool). Shown r before line (goesOn (after s (s .figures) (s .table)) (must t (refusalLine letter a′) (servedLine letter fields′))))
+        subst (λ (t : Bool). Shown r before line (goesOn (nextSession s (s .figures) (s .table)) (must t (refusalLine letter a′) (servedLine letter fields′))))
         (sym (eqb-same a′ served (sym e ∙ h)))
-        (subst (λ (x : List (List ℕ)). Shown r before line (goesOn (after s (s .figures) (s .table)) (servedLine letter x))) f is)
+        (subst (λ (x : List (List ℕ)). Shown r before line (goesOn (nextSession s (s .figures) (s .table)) (servedLine letter x))) f is)
 
 -- ---- A payload that is handed out has a job number
 
@@ -111,7 +111,7 @@ module _ (s : Session) (letter : ℕ) (bytes : List ℕ) where
   serve-R e = rw e
 
   pub serve-call-is : letter ≢ 83 → letter ≢ 76 → isLetter letter ≡ true
-      → serveOut s letter bytes ≡ callStep s letter (callBy (kindOf letter) (s .table) (jobNumber (drop headLen bytes)))
+      → serveOut s letter bytes ≡ callStep s letter (callBy (kindOf letter) (s .table) (jobNumber (drop recordHeadLen bytes)))
   unfolding serveOut
   serve-call-is a l e = rw (eqb-other letter 83 a, eqb-other letter 76 l, e)
 

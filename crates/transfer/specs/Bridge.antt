@@ -33,7 +33,7 @@ pub record Shown (r : StepAnswer) (before line : List ℕ) (o : Step) : Type 0 w
   pub stops : r .stops ≡ o .stops
 
 -- the figures that a W or R record is read by with the numbers of their layout, and a record as long as it needs at least
-pub record Laid (s : Given) (line : List ℕ) (f : Figures) (l : Layout) (long : ℕ) (bytes : List ℕ) : Type 0 where
+pub record RecordLaid (s : Given) (line : List ℕ) (f : Figures) (l : Layout) (long : ℕ) (bytes : List ℕ) : Type 0 where
   pub ready : Ready s line
   pub numbers : HasNumbers (codingOf f) l
   pub small : Small (codingOf f)

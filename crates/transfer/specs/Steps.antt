@@ -15,9 +15,9 @@ use Rattle.payloads.specs.Payload.{jobNumber}
 use Rattle.jobcodec.specs.JobWrite.{jobWriteUnder}
 use Rattle.jobcodec.specs.JobRead.{JobRead, jobReadUnder}
 use Rattle.text.specs.Text.{decimal, hex}
-use Rattle.records.specs.Session.{Session, maxRecords, after}
+use Rattle.records.specs.Session.{Session, maxRecords, nextSession}
 use Rattle.lines.specs.Lines.{refusalLine, servedLine, stopLine, endLine, letterS, letterL, letterW, letterR}
-use Rattle.records.specs.Records.{headLen, letterOf, isEmpty, current, payloadLenOf, readable, figuresIn, longFiguresIn, startsIn, payloadOf}
+use Rattle.records.specs.Records.{recordHeadLen, letterOf, isEmpty, current, payloadLenOf, readable, figuresIn, longFiguresIn, recordStarts, payloadOf}
 
 -- ---- What a step gives: the session afterwards, the line, and whether the program ends
 
@@ -40,17 +40,17 @@ goesOn s l = record { next = s; line = l; stops = false }
 -- "after S also T, r, k"; "A refused S keeps the former figures." The table "outlasts an S". Document 02, ticket 1: L "prints as S does"; "A refused L keeps
 -- the former figures"
 abbrev pub figuresStep : Session → ℕ → Figures → FiguresOut → Step
-figuresStep s letter f (figured t r k) = goesOn (after s (some f) (s .table)) (servedLine letter (decimal t ∷ decimal r ∷ decimal k ∷ []))
-figuresStep s letter f (unserved a) = goesOn (after s (s .figures) (s .table)) (refusalLine letter a)
+figuresStep s letter f (figured t r k) = goesOn (nextSession s (some f) (s .table)) (servedLine letter (decimal t ∷ decimal r ∷ decimal k ∷ []))
+figuresStep s letter f (unserved a) = goesOn (nextSession s (s .figures) (s .table)) (refusalLine letter a)
 
 -- "O (open), C (cancel), F (finish) a job number (4)": the table that the call hands back
 abbrev pub callStep : Session → ℕ → TableOut → Step
-callStep s letter out = goesOn (after s (s .figures) (out .table)) (refusalLine letter (out .answer))
+callStep s letter out = goesOn (nextSession s (s .figures) (out .table)) (refusalLine letter (out .answer))
 
 -- a record that changes nothing but the count; what comes behind the 0
 abbrev pub jobStep : Session → ℕ → ℕ → List (List ℕ) → Step
 jobStep s letter answer fields =
-    goesOn (after s (s .figures) (s .table)) (must (eqb answer served) (refusalLine letter answer) (servedLine letter fields))
+    goesOn (nextSession s (s .figures) (s .table)) (must (eqb answer served) (refusalLine letter answer) (servedLine letter fields))
 
 -- "after W the word in hex"
 abbrev pub writeStep : Session → Encoded → Step
@@ -63,18 +63,18 @@ readStep s out = jobStep s letterR (out .answer) (hex (take 4 (out .payload)) �
 -- the lent word holds 0 before it is written, and the lent payload before it is read: what a refused job leaves there is not printed
 abbrev pub writeOut : Session → List ℕ → Option Figures → Step
 writeOut s bytes none = stopped s
-writeOut s bytes (some f) = writeStep s (jobWriteUnder (codingOf f) (s .table) (startsIn f bytes) (payloadOf f bytes) (replicate (codingOf f .codec .wordLen) 0))
+writeOut s bytes (some f) = writeStep s (jobWriteUnder (codingOf f) (s .table) (recordStarts f bytes) (payloadOf f bytes) (replicate (codingOf f .codec .wordLen) 0))
 
 abbrev pub readOut : Session → List ℕ → Option Figures → Step
 readOut s bytes none = stopped s
-readOut s bytes (some f) = readStep s (jobReadUnder (codingOf f) (s .table) (drop headLen bytes) (replicate (payloadLenOf f) 0))
+readOut s bytes (some f) = readStep s (jobReadUnder (codingOf f) (s .table) (drop recordHeadLen bytes) (replicate (payloadLenOf f) 0))
 
 -- a record of its letter's length
 unfoldable pub serveOut : Session → ℕ → List ℕ → Step
 serveOut s letter bytes =
     cond (eqb letter letterS) (figuresStep s letter (figuresIn bytes) (figuresUnder (codingOf (figuresIn bytes))))
     (cond (eqb letter letterL) (figuresStep s letter (longFiguresIn bytes) (figuresUnder (codingOf (longFiguresIn bytes))))
-    (cond (isLetter letter) (callStep s letter (callBy (kindOf letter) (s .table) (jobNumber (drop headLen bytes))))
+    (cond (isLetter letter) (callStep s letter (callBy (kindOf letter) (s .table) (jobNumber (drop recordHeadLen bytes))))
     (cond (eqb letter letterW) (writeOut s bytes (current (s .figures)))
     (cond (eqb letter letterR) (readOut s bytes (current (s .figures)))
     (stopped s)))))

@@ -13,12 +13,12 @@ ghost use Rattle.jobcodec.specs.JobRead.{jobReadUnder};
 ghost use Rattle.params.specs.Bridge.{codingOf};
 ghost use Rattle.placements.specs.Bridge.{heldAs};
 ghost use Rattle.text.specs.Text.{overwrite};
-ghost use Rattle.records.specs.Session.{maxRecords, after as afterRecord};
+ghost use Rattle.records.specs.Session.{maxRecords, nextSession as afterRecord};
 ghost use Rattle.lines.specs.Lines.{stopLine, maxLine};
-ghost use Rattle.records.specs.Records.{headLen, writeLen, readLen, recordLen, current as currentOf, letterOf};
+ghost use Rattle.records.specs.Records.{recordHeadLen, writeLen, readLen, recordLen, current as currentOf, letterOf};
 ghost use Rattle.transfer.specs.Steps.{writeOut, readOut, serveOut, stepOut, stopped, ended, figuresStep, callStep, writeStep, readStep};
 ghost use Rattle.records.specs.Bridge.{lastFigures, sessionOf};
-ghost use Rattle.transfer.specs.Bridge.{Ready, Shown, Laid, Whole};
+ghost use Rattle.transfer.specs.Bridge.{Ready, Shown, RecordLaid, Whole};
 use jobs::JobTable;
 use params::Figures;
 use params::Layout;
@@ -83,7 +83,8 @@ fn step_on(session: Session, received: &[u8], line: &mut [u8]) -> StepAnswer
 // A record that can be read, by its letter.
 fn serve(session: Session, received: &[u8], line: &mut [u8]) -> StepAnswer
     requires { ⌜ Whole session (now line) (now received) (recordLen (sessionOf session) (letterOf (now received))) ⌝ }
-    ensures { λ r. ⌜ Shown r (now (line .entry)) (now (line .exit)) (serveOut (sessionOf session) (letterOf (now (received .entry))) (now (received .entry))) ⌝ }
+    ensures { λ r. ⌜ Shown r (now (line .entry)) (now (line .exit))
+        (serveOut (sessionOf session) (letterOf (now (received .entry))) (now (received .entry))) ⌝ }
 {
     let letter = received[2];
     match letter {
@@ -150,7 +151,8 @@ fn serve_figures(session: Session, letter: u8, figures: Figures, line: &mut [u8]
 // O, C, F: the call's answer, and the table that it hands back.
 fn serve_call(session: Session, letter: u8, number: u32, line: &mut [u8]) -> StepAnswer
     requires { ⌜ Ready session (now line) ⌝ }
-    ensures { λ r. ⌜ Shown r (now (line .entry)) (now (line .exit)) (callStep (sessionOf session) letter (callBy (kindOf letter) (entries (session .table)) number)) ⌝ }
+    ensures { λ r. ⌜ Shown r (now (line .entry)) (now (line .exit))
+        (callStep (sessionOf session) letter (callBy (kindOf letter) (entries (session .table)) number)) ⌝ }
 {
     let table = session.table;
     let out = table.call(letter, number);
@@ -163,7 +165,8 @@ fn serve_call(session: Session, letter: u8, number: u32, line: &mut [u8]) -> Ste
 // W: the word of the placement and the payload.
 fn serve_write(session: Session, received: &[u8], line: &mut [u8]) -> StepAnswer
     requires { ⌜ Whole session (now line) (now received) (writeLen (currentOf (lastFigures (session .figures)))) ⌝ }
-    ensures { λ r. ⌜ Shown r (now (line .entry)) (now (line .exit)) (writeOut (sessionOf session) (now (received .entry)) (currentOf (lastFigures (session .figures)))) ⌝ }
+    ensures { λ r. ⌜ Shown r (now (line .entry)) (now (line .exit))
+        (writeOut (sessionOf session) (now (received .entry)) (currentOf (lastFigures (session .figures)))) ⌝ }
 {
     let figures = session.figures;
     let answer = records::current(figures);
@@ -181,7 +184,7 @@ fn write_laid(
     received: &[u8],
     line: &mut [u8],
 ) -> StepAnswer
-    requires { ⌜ Laid session (now line) figures layout (headLen + 2 * layout .m) (now received) ⌝ }
+    requires { ⌜ RecordLaid session (now line) figures layout (recordHeadLen + 2 * layout .m) (now received) ⌝ }
     ensures { λ r. ⌜ Shown r (now (line .entry)) (now (line .exit)) (writeOut (sessionOf session) (now (received .entry)) (some figures)) ⌝ }
 {
     let m = layout.m;
@@ -220,7 +223,8 @@ fn write_word(
     line: &mut [u8],
 ) -> StepAnswer
     requires { ⌜ Ready session (now line) × (length (now word) ≤ maxWord) ⌝ }
-    ensures { λ r. ⌜ Shown r (now (line .entry)) (now (line .exit)) (writeStep (sessionOf session) (jobWriteUnder (codingOf figures) (entries (session .table)) (heldAs at) (now (payload .entry)) (now (word .entry)))) ⌝ }
+    ensures { λ r. ⌜ Shown r (now (line .entry)) (now (line .exit))
+        (writeStep (sessionOf session) (jobWriteUnder (codingOf figures) (entries (session .table)) (heldAs at) (now (payload .entry)) (now (word .entry)))) ⌝ }
 {
     let table = session.table;
     let answer = jobcodec::job_write(figures, table, at, payload, word);
@@ -233,7 +237,8 @@ fn write_word(
 // R: the payload of the word.
 fn serve_read(session: Session, received: &[u8], line: &mut [u8]) -> StepAnswer
     requires { ⌜ Whole session (now line) (now received) (readLen (currentOf (lastFigures (session .figures)))) ⌝ }
-    ensures { λ r. ⌜ Shown r (now (line .entry)) (now (line .exit)) (readOut (sessionOf session) (now (received .entry)) (currentOf (lastFigures (session .figures)))) ⌝ }
+    ensures { λ r. ⌜ Shown r (now (line .entry)) (now (line .exit))
+        (readOut (sessionOf session) (now (received .entry)) (currentOf (lastFigures (session .figures)))) ⌝ }
 {
     let figures = session.figures;
     let answer = records::current(figures);
@@ -251,7 +256,7 @@ fn read_laid(
     received: &[u8],
     line: &mut [u8],
 ) -> StepAnswer
-    requires { ⌜ Laid session (now line) figures layout headLen (now received) ⌝ }
+    requires { ⌜ RecordLaid session (now line) figures layout recordHeadLen (now received) ⌝ }
     ensures { λ r. ⌜ Shown r (now (line .entry)) (now (line .exit)) (readOut (sessionOf session) (now (received .entry)) (some figures)) ⌝ }
 {
     let count = bytes::payload_len(layout.q, layout.message_len);
@@ -284,7 +289,8 @@ fn read_payload(
     line: &mut [u8],
 ) -> StepAnswer
     requires { ⌜ Ready session (now line) × (length (now payload) ≤ maxWord) ⌝ }
-    ensures { λ r. ⌜ Shown r (now (line .entry)) (now (line .exit)) (readStep (sessionOf session) (jobReadUnder (codingOf figures) (entries (session .table)) (now (word .entry)) (now (payload .entry)))) ⌝ }
+    ensures { λ r. ⌜ Shown r (now (line .entry)) (now (line .exit))
+        (readStep (sessionOf session) (jobReadUnder (codingOf figures) (entries (session .table)) (now (word .entry)) (now (payload .entry)))) ⌝ }
 {
     let table = session.table;
     let answer = jobcodec::job_read(figures, table, word, payload);

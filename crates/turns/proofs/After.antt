@@ -23,7 +23,7 @@ use Rattle.turns.specs.declared.Phase.the-variants.{Ended, Failed, Done}
 use Rattle.turns.specs.declared.Wants.{Wants}
 use Rattle.turns.specs.declared.Wants.the-variants.{Read, Write, Stop}
 use Rattle.turns.specs.View.{wantsNone, wantsAt, stepAt}
-use Rattle.turns.specs.State.{Within, Fronted, withMore, repeated, inPhase, isInterrupted, isRepeated, afterRead, afterWrite}
+use Rattle.turns.specs.State.{WithinBuffers, Fronted, withMore, repeated, inPhase, isInterrupted, isRepeated, afterRead, afterWrite}
 
 module _ (s : State) where
   pub read-some : (got error : ℤ) → ltZ (pos 0) got ≡ true → withMore s (natAbs got) ≡ afterRead s got error
@@ -91,7 +91,7 @@ pub shown-at : (r : StepAnswer) (before line bytes : List ℕ) (s : Session) (p 
 shown-at r before line bytes s p q e h = rw e h
 
 -- where no read is wanted all stays where it is
-pub fronted-same : (s : State) (w o : Wants) → w ≡ wantsAt (s .gathered) (s .phase) → w ≡ o → (o ≡ Read → ⊥) → Within s → Fronted s s
+pub fronted-same : (s : State) (w o : Wants) → w ≡ wantsAt (s .gathered) (s .phase) → w ≡ o → (o ≡ Read → ⊥) → WithinBuffers s → Fronted s s
 fronted-same s w o e f n h =
     record { session = refl; gathered = refl; phase = refl; repeats = refl; within = h; len = refl; front = λ r. absurd (n (sym f ∙ e ∙ r)) }
 

@@ -12,7 +12,7 @@ use lib.Seq.{take-all, take-nil, take-length, drop-length, getD-take}
 use Rattle.refusals.specs.Refusals.{must}
 use Rattle.combinatorics.proofs.Cases.{by-bool, by-le, eqb-other}
 use Rattle.records.specs.Session.{Session, maxRecords}
-use Rattle.records.specs.Records.{headLen, letterOf, isMarked, recordLen, readable}
+use Rattle.records.specs.Records.{recordHeadLen, letterOf, isMarked, recordLen, readable}
 use Rattle.transfer.specs.Steps.{Step, stopped, stepOut}
 use Rattle.records.specs.Records.{reach, neededFor}
 use Rattle.transfer.specs.Program.{nextRecord, behind}
@@ -21,10 +21,10 @@ use Rattle.records.proofs.Lengths.{reaches, begun-unmarked, begun-marked, neede
 -- ---- How many bytes a record takes
 
 module _ (s : Session) (w : List ℕ) where
-  pub needed-unmarked : isMarked w ≡ false → neededFor s w ≡ headLen
+  pub needed-unmarked : isMarked w ≡ false → neededFor s w ≡ recordHeadLen
   needed-unmarked e = ap reach (begun-unmarked s w e)
 
-  pub needed-marked : headLen ≤ length w → isMarked w ≡ true → neededFor s w ≡ reach (recordLen s (letterOf w))
+  pub needed-marked : recordHeadLen ≤ length w → isMarked w ≡ true → neededFor s w ≡ reach (recordLen s (letterOf w))
   needed-marked h e = ap reach (begun-marked s w h e)
 
 -- ---- A part of a list
@@ -52,11 +52,11 @@ drop-least n w =
 -- ---- The step of the next record
 
 module _ (s : Session) (w : List ℕ) where
-  short-or-not : {P : Type 0} → (length w < headLen → P) → (headLen ≤ length w → P) → P
-  short-or-not {P} short long = by-le headLen (length w) (λ b. P) long short
+  short-or-not : {P : Type 0} → (length w < recordHeadLen → P) → (recordHeadLen ≤ length w → P) → P
+  short-or-not {P} short long = by-le recordHeadLen (length w) (λ b. P) long short
 
   -- bytes without the mark stop the program, however many of them are handed over
-  pub unmarked : (k : ℕ) → headLen ≤ k → headLen ≤ length w → isMarked w ≡ false → stepOut s (take k w) ≡ stopped s
+  pub unmarked : (k : ℕ) → recordHeadLen ≤ k → recordHeadLen ≤ length w → isMarked w ≡ false → stepOut s (take k w) ≡ stopped s
   unfolding stepOut readable
   unmarked k g h e =
       let n : length (take k w) ≢ 0 = λ z. omega (arith, length-take k w, z) in

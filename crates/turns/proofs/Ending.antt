@@ -15,7 +15,7 @@ use Rattle.turns.specs.declared.Phase.{Phase}
 use Rattle.turns.specs.declared.Phase.the-variants.{Open, Ended, Failed, Done}
 use Rattle.turns.specs.declared.Wants.the-variants.{Read, Write}
 use Rattle.turns.specs.View.{bufferLen, View, wantsNone, wantsAt, wantsOf, needs, readyAt, roomAt, isServable, stepAt, phaseAfter, servedOut, advanceOut}
-use Rattle.turns.specs.Trace.{Event, came, ended, interrupted, failed, written, unwritten, Answers, answered}
+use Rattle.turns.specs.Trace.{Event, came, ended, interrupted, failed, written, unwritten, Answers, afterEvent}
 use Rattle.turns.proofs.Serving.{advance-keeps, advance-rests, reads}
 
 -- the records that may still be served, and for each the reads that fill the buffer
@@ -88,33 +88,33 @@ write-some p g = go (eqb (length g) 0)
     go false e = refl
 
 module _ (v : View) (rests : isServable v ≡ false) (short : length (v .waiting) ≤ bufferLen) where
-  came-less : (bytes : List ℕ) → wantsOf v ≡ Read → 0 < length bytes → length (v .waiting ++ bytes) ≤ bufferLen → left (advanceOut (answered v (came bytes))) < left v
+  came-less : (bytes : List ℕ) → wantsOf v ≡ Read → 0 < length bytes → length (v .waiting ++ bytes) ≤ bufferLen → left (advanceOut (afterEvent v (came bytes))) < left v
   came-less bytes want some fits =
       let o = reads v rests want .open-still in
-      let b : baseOf (answered v (came bytes)) < baseOf v = rw o (omega (arith, length-append (v .waiting) bytes)) in
-      left-less-by v (answered v (came bytes)) (omega arith) (omega arith)
+      let b : baseOf (afterEvent v (came bytes)) < baseOf v = rw o (omega (arith, length-append (v .waiting) bytes)) in
+      left-less-by v (afterEvent v (came bytes)) (omega arith) (omega arith)
 
-  ended-less : wantsOf v ≡ Read → left (advanceOut (answered v ended)) < left v
+  ended-less : wantsOf v ≡ Read → left (advanceOut (afterEvent v ended)) < left v
   ended-less want =
       let o = reads v rests want .open-still in
-      let b : baseOf (answered v ended) < baseOf v = rw o (omega arith) in
-      left-less-by v (answered v ended) (omega arith) (omega arith)
+      let b : baseOf (afterEvent v ended) < baseOf v = rw o (omega arith) in
+      left-less-by v (afterEvent v ended) (omega arith) (omega arith)
 
-  failed-less : wantsOf v ≡ Read → left (advanceOut (answered v failed)) < left v
+  failed-less : wantsOf v ≡ Read → left (advanceOut (afterEvent v failed)) < left v
   failed-less want =
       let o = reads v rests want .open-still in
-      let b : baseOf (answered v failed) < baseOf v = rw o (omega arith) in
-      left-less-by v (answered v failed) (omega arith) (omega arith)
+      let b : baseOf (afterEvent v failed) < baseOf v = rw o (omega arith) in
+      left-less-by v (afterEvent v failed) (omega arith) (omega arith)
 
-  written-less : wantsOf v ≡ Write → left (advanceOut (answered v written)) < left v
-  written-less want = let g = write-some (v .phase) (v .gathered) want in left-less-by v (answered v written) (omega arith) (omega arith)
+  written-less : wantsOf v ≡ Write → left (advanceOut (afterEvent v written)) < left v
+  written-less want = let g = write-some (v .phase) (v .gathered) want in left-less-by v (afterEvent v written) (omega arith) (omega arith)
 
-  unwritten-less : wantsOf v ≡ Write → left (advanceOut (answered v unwritten)) < left v
-  unwritten-less want = let g = write-some (v .phase) (v .gathered) want in left-less-by v (answered v unwritten) (omega arith) (omega arith)
+  unwritten-less : wantsOf v ≡ Write → left (advanceOut (afterEvent v unwritten)) < left v
+  unwritten-less want = let g = write-some (v .phase) (v .gathered) want in left-less-by v (afterEvent v unwritten) (omega arith) (omega arith)
 
   -- a read that fits the buffer; where it was interrupted, all stays
-  pub read-less : (e : Event) → wantsOf v ≡ Read → Answers Read e → length (answered v e .waiting) ≤ bufferLen
-      → (left (advanceOut (answered v e)) < left v) ⊎ ((e ≡ interrupted) × (left (advanceOut (answered v e)) ≡ left v))
+  pub read-less : (e : Event) → wantsOf v ≡ Read → Answers Read e → length (afterEvent v e .waiting) ≤ bufferLen
+      → (left (advanceOut (afterEvent v e)) < left v) ⊎ ((e ≡ interrupted) × (left (advanceOut (afterEvent v e)) ≡ left v))
   read-less (came bytes) want a fits = inl (came-less bytes want a fits)
   read-less ended want a fits = inl (ended-less want)
   read-less interrupted want a fits = inr (refl, ap left (advance-rests v rests))
@@ -122,6 +122,6 @@ module _ (v : View) (rests : isServable v ≡ false) (short : length (v .waiting
   read-less written want a fits = absurd a
   read-less unwritten want a fits = absurd a
 
-  pub write-less : (b : Bool) → wantsOf v ≡ Write → left (advanceOut (answered v (cond b written unwritten))) < left v
+  pub write-less : (b : Bool) → wantsOf v ≡ Write → left (advanceOut (afterEvent v (cond b written unwritten))) < left v
   write-less true want = written-less want
   write-less false want = unwritten-less want

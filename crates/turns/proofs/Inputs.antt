@@ -12,7 +12,7 @@ use Rattle.turns.specs.declared.Phase.the-variants.{Open, Ended, Failed}
 use Rattle.turns.specs.declared.Wants.{Wants}
 use Rattle.turns.specs.declared.Wants.the-variants.{Read, Write, Stop}
 use Rattle.turns.specs.View.{View, wantsOf, servedOut, advanceOut}
-use Rattle.turns.specs.Trace.{Event, came, ended, failed, written, Answers, answered, viewAfter, IsTrace, brought, allTaken, MayCome, printedTo, Close, atEnd, broken, closing, printedBy, joined, TraceOver, begins, reading, closed, writing, AllSome, WholeTrace, InputPrints}
+use Rattle.turns.specs.Trace.{Event, came, ended, failed, written, Answers, afterEvent, viewAfter, IsTrace, brought, allTaken, MayCome, printedTo, Close, atEnd, broken, closing, printedBy, joined, TraceOver, begins, reading, closed, writing, AllSome, WholeTrace, InputPrints}
 use Rattle.turns.proofs.Serving.{advance-keeps, turnsAt, serves-less, reads}
 use Rattle.turns.proofs.Printing.{after-rests, phase-later, open-before, trace-prints}
 use Rattle.turns.proofs.Ending.{unwrittenYet, at-most, write-some}
@@ -30,10 +30,10 @@ advanced u =
     advance-keeps (λ (x : View). (x ≡ u) ⊎ (turns x < turns u))
     (λ x e h. let l = serves-less x e in inr (⊎-elim (λ s. subst (λ (y : View). turns (servedOut x) < turns y) s l) (λ g. omega arith) h)) u (inl refl)
 
-writes-less : (v : View) → wantsOf v ≡ Write → writes (advanceOut (answered v written)) < writes v
+writes-less : (v : View) → wantsOf v ≡ Write → writes (advanceOut (afterEvent v written)) < writes v
 writes-less v want =
     let g = write-some (v .phase) (v .gathered) want in
-    ⊎-elim (λ e. subst (λ (y : View). writes y < writes v) (sym e) (omega arith)) (λ l. omega (arith, at-most (advanceOut (answered v written) .gathered))) (advanced (answered v written))
+    ⊎-elim (λ e. subst (λ (y : View). writes y < writes v) (sym e) (omega arith)) (λ l. omega (arith, at-most (advanceOut (afterEvent v written) .gathered))) (advanced (afterEvent v written))
 
 -- by what is wanted
 by-wants : {P : Type 0} (w : Wants) → (w ≡ Read → P) → (w ≡ Write → P) → (w ≡ Stop → P) → P
@@ -64,7 +64,7 @@ module _ (close : Close) (all : List (List ℕ)) (out : List ℕ) where
   closing-trace (suc n) es ran p m t shut is l =
       by-wants (wantsOf (viewAfter es)) (λ w. absurd (shut (reads (viewAfter es) (after-rests es) w .open-still)))
       (λ w. closing-trace n (written ∷ es) (ran, answers-at (wantsOf (viewAfter es)) Write written w tt) (writing p) m t
-      (λ o. shut (open-before (viewAfter es .phase) (viewAfter (written ∷ es) .phase) (phase-later (answered (viewAfter es) written)) o))
+      (λ o. shut (open-before (viewAfter es .phase) (viewAfter (written ∷ es) .phase) (phase-later (afterEvent (viewAfter es) written)) o))
       (ap (λ (x : List ℕ). printedTo (lastLine close) (x ++ [])) (append-nil (brought es)) ∙ is)
       (omega (arith, writes-less (viewAfter es) w)))
       (λ w. record { events = es; left = []; trace = ran; over = p; stops = w; hands = trace-prints es ran [] (lastLine close) m .whole w t ∙ is })
@@ -102,10 +102,10 @@ close-taken broken es = refl
 
 close-shut : (close : Close) (es : List Event) → viewAfter (closing close ∷ es) .phase ≡ Open → ⊥
 close-shut atEnd es o =
-    let f : Ended ≡ Open = open-before Ended (viewAfter (ended ∷ es) .phase) (phase-later (answered (viewAfter es) ended)) o in
+    let f : Ended ≡ Open = open-before Ended (viewAfter (ended ∷ es) .phase) (phase-later (afterEvent (viewAfter es) ended)) o in
     let z : _≡_ {A = ℕ} 0 1 = cc in omega arith
 close-shut broken es o =
-    let f : Failed ≡ Open = open-before Failed (viewAfter (failed ∷ es) .phase) (phase-later (answered (viewAfter es) failed)) o in
+    let f : Failed ≡ Open = open-before Failed (viewAfter (failed ∷ es) .phase) (phase-later (afterEvent (viewAfter es) failed)) o in
     let z : _≡_ {A = ℕ} 0 1 = cc in omega arith
 
 traces : (close : Close) (all : List (List ℕ)) (out : List ℕ) (rs : List (List ℕ)) → AllSome rs → Traces close all out rs

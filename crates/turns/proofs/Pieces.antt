@@ -12,7 +12,7 @@ use lib.Seq.{take-all, take-append-le, drop-append-le}
 use Rattle.refusals.specs.Refusals.{must}
 use Rattle.combinatorics.proofs.Cases.{by-bool, eqb-other}
 use Rattle.records.specs.Session.{Session, maxRecords}
-use Rattle.records.specs.Records.{headLen, letterOf, isMarked, recordLen, isWhole, readable}
+use Rattle.records.specs.Records.{recordHeadLen, letterOf, isMarked, recordLen, isWhole, readable}
 use Rattle.transfer.specs.Steps.{Step, stopped, stepOut}
 use Rattle.records.specs.Records.{reach, begunLen, neededFor}
 use Rattle.transfer.specs.Program.{nextRecord, behind}
@@ -22,10 +22,10 @@ use Rattle.turns.proofs.Cut.{needed-marked, unmarked}
 -- ---- What is still to come changes nothing
 
 module _ (s : Session) (w rest : List ℕ) (h : neededFor s w ≤ length w) where
-  long : headLen ≤ length w
+  long : recordHeadLen ≤ length w
   long = omega (arith, needed-least s w)
 
-  same-at : (i : ℕ) → i < headLen → getD (w ++ rest) i 0 ≡ getD w i 0
+  same-at : (i : ℕ) → i < recordHeadLen → getD (w ++ rest) i 0 ≡ getD w i 0
   same-at i l = List·getD-append w rest 0 i (omega (arith, long))
 
   same-mark : isMarked (w ++ rest) ≡ isMarked w

@@ -23,7 +23,7 @@ use Rattle.turns.specs.declared.Phase.the-variants.{Open, Ended, Failed,
 use Rattle.turns.specs.declared.Wants.{Wants}
 use Rattle.turns.specs.declared.Wants.the-variants.{Read, Write, Stop}
 use Rattle.turns.specs.View.{View, wantsOf, needs, readyAt, roomAt, isServable, stepAt, stepFor, phaseAfter, advanceOut}
-use Rattle.turns.specs.Trace.{Event, came, ended, interrupted, failed, written, unwritten, Answers, answered, viewAfter, IsTrace, brought, handed, allTaken, MayCome, printedTo, TracePrints}
+use Rattle.turns.specs.Trace.{Event, came, ended, interrupted, failed, written, unwritten, Answers, afterEvent, viewAfter, IsTrace, brought, handed, allTaken, MayCome, printedTo, TracePrints}
 use Rattle.turns.proofs.Cut.{step-is-next, behind-is}
 use Rattle.turns.proofs.Pieces.{same-step, same-behind, cut-stops}
 use Rattle.turns.proofs.Serving.{done-rests, advance-keeps, advance-rests, advance-ends, begin-rests, Reading, reads, stops-written}
@@ -175,25 +175,25 @@ open-before p q h e = ⊎-elim (λ s. sym s ∙ e) (λ d. let z : _≡_ {A = ℕ
 -- while the input goes on anything may come
 open-any : (es : List Event) → viewAfter es .phase ≡ Open → (rest last : List ℕ) → MayCome es rest last
 open-any [] e rest last = tt
-open-any (came bytes ∷ es) e rest last = open-any es (open-before (viewAfter es .phase) _ (phase-later (answered (viewAfter es) (came bytes))) e) rest last
-open-any (ended ∷ es) e rest last = absurd (ended-open (open-before Ended _ (phase-later (answered (viewAfter es) ended)) e))
+open-any (came bytes ∷ es) e rest last = open-any es (open-before (viewAfter es .phase) _ (phase-later (afterEvent (viewAfter es) (came bytes))) e) rest last
+open-any (ended ∷ es) e rest last = absurd (ended-open (open-before Ended _ (phase-later (afterEvent (viewAfter es) ended)) e))
   where
     ended-open : Ended ≡ Open → ⊥
     ended-open f = let z : _≡_ {A = ℕ} 0 1 = cc in omega arith
-open-any (failed ∷ es) e rest last = absurd (failed-open (open-before Failed _ (phase-later (answered (viewAfter es) failed)) e))
+open-any (failed ∷ es) e rest last = absurd (failed-open (open-before Failed _ (phase-later (afterEvent (viewAfter es) failed)) e))
   where
     failed-open : Failed ≡ Open → ⊥
     failed-open f = let z : _≡_ {A = ℕ} 0 1 = cc in omega arith
 open-any (interrupted ∷ es) e rest last = open-any es (open-before (viewAfter es .phase) _ (phase-later (viewAfter es)) e) rest last
-open-any (written ∷ es) e rest last = open-any es (open-before (viewAfter es .phase) _ (phase-later (answered (viewAfter es) written)) e) rest last
-open-any (unwritten ∷ es) e rest last = absurd (done-open (open-before Done _ (phase-later (answered (viewAfter es) unwritten)) e))
+open-any (written ∷ es) e rest last = open-any es (open-before (viewAfter es .phase) _ (phase-later (afterEvent (viewAfter es) written)) e) rest last
+open-any (unwritten ∷ es) e rest last = absurd (done-open (open-before Done _ (phase-later (afterEvent (viewAfter es) unwritten)) e))
   where
     done-open : Done ≡ Open → ⊥
     done-open f = let z : _≡_ {A = ℕ} 0 1 = cc in omega arith
 
 pub after-rests : (es : List Event) → isServable (viewAfter es) ≡ false
 after-rests [] = begin-rests
-after-rests (e ∷ es) = advance-ends (answered (viewAfter es) e)
+after-rests (e ∷ es) = advance-ends (afterEvent (viewAfter es) e)
 
 -- ---- Every trace
 
@@ -267,7 +267,7 @@ module _ (es : List Event) (is-trace : IsTrace es) (so : (rest last : List ℕ) 
         let e : printedTo last ((brought es ++ bytes) ++ rest) ≡ (handed es ++ []) ++ printedOn last (viewAfter es .session) (viewAfter es .waiting ++ (bytes ++ rest)) =
         whole ∙ k .2 ∙ ap (λ (x : List ℕ). x ++ printedOn last (viewAfter es .session) (viewAfter es .waiting ++ (bytes ++ rest))) (sym (append-nil (handed es))) in
         going (k .0)
-        (keeps (printedTo last ((brought es ++ bytes) ++ rest)) (handed es ++ []) rest last (answered (viewAfter es) (came bytes))
+        (keeps (printedTo last ((brought es ++ bytes) ++ rest)) (handed es ++ []) rest last (afterEvent (viewAfter es) (came bytes))
         (came-kept (printedTo last ((brought es ++ bytes) ++ rest)) (handed es ++ []) bytes rest last (viewAfter es .session) (viewAfter es .waiting) (k .1, e) (viewAfter es .phase) (viewAfter es .gathered) (is .open-still) (is .written-all)))
 
     -- the same bytes, and nothing more
@@ -283,14 +283,14 @@ module _ (es : List Event) (is-trace : IsTrace es) (so : (rest last : List ℕ) 
     at-ended rest last m =
         let k = read-kept rest last in
         going (k .0)
-        (keeps (printedTo last ((brought es ++ []) ++ rest)) (handed es ++ []) rest last (answered (viewAfter es) ended)
+        (keeps (printedTo last ((brought es ++ []) ++ rest)) (handed es ++ []) rest last (afterEvent (viewAfter es) ended)
         ((k .1, m .0, m .1), shut (viewAfter es .gathered) (is .written-all) rest last (m .0)))
 
     at-failed : (rest last : List ℕ) → (rest ≡ []) × (last ≡ stopLine) → At (failed ∷ es) rest last
     at-failed rest last m =
         let k = read-kept rest last in
         going (k .0)
-        (keeps (printedTo last ((brought es ++ []) ++ rest)) (handed es ++ []) rest last (answered (viewAfter es) failed)
+        (keeps (printedTo last ((brought es ++ []) ++ rest)) (handed es ++ []) rest last (afterEvent (viewAfter es) failed)
         ((k .1, m .0, m .1, is .lacks), shut (viewAfter es .gathered) (is .written-all) rest last (m .0)))
 
   module _ (rest last : List ℕ) (m : MayCome es rest last) (n : wantsOf (viewAfter es) ≡ Stop → ⊥) where
@@ -311,14 +311,14 @@ module _ (es : List Event) (is-trace : IsTrace es) (so : (rest last : List ℕ) 
     at-written =
         let k = kept-of rest last m n in
         going (k .0)
-        (keeps (printedTo last ((brought es ++ []) ++ rest)) (handed es ++ viewAfter es .gathered) rest last (answered (viewAfter es) written)
+        (keeps (printedTo last ((brought es ++ []) ++ rest)) (handed es ++ viewAfter es .gathered) rest last (afterEvent (viewAfter es) written)
         (let w = written-kept (printedTo last (brought es ++ rest)) (handed es) rest last (viewAfter es .phase) (viewAfter es .session) (viewAfter es .waiting) (viewAfter es .gathered) (k .1) in
         (w .0, same-brought ∙ w .1)))
 
     at-unwritten : At (unwritten ∷ es) rest last
     at-unwritten =
         let k = kept-of rest last m n in
-        let v = answered (viewAfter es) unwritten in
+        let v = afterEvent (viewAfter es) unwritten in
         let stays : advanceOut v ≡ v = advance-rests v (done-rests v refl) in
         refused refl (ap wantsOf stays) (toCome rest last (viewAfter es .phase) (viewAfter es .session) (viewAfter es .waiting))
         (same-brought ∙ k .1 .1 ∙ sym (append-assoc (handed es) (viewAfter es .gathered) (toCome rest last (viewAfter es .phase) (viewAfter es .session) (viewAfter es .waiting))))

@@ -16,7 +16,7 @@ use Rattle.turns.specs.declared.Phase.{Phase}
 use Rattle.turns.specs.declared.Phase.the-variants.{Open, Ended, Failed, Done}
 use Rattle.turns.specs.declared.Wants.{Wants}
 use Rattle.turns.specs.declared.Wants.the-variants.{Read, Write, Stop}
-use Rattle.turns.specs.View.{View, atBegin, wantsAt, wantsOf, needs, readyAt, roomAt, isServable, stepAt, stepFor, servedOut, serveOut, advanceOut}
+use Rattle.turns.specs.View.{View, atBegin, wantsAt, wantsOf, needs, readyAt, roomAt, isServable, stepAt, stepFor, servedOut, servedView, advanceOut}
 
 -- ---- A record that is served and does not stop has a byte
 
@@ -50,8 +50,8 @@ done-rests v e = rw e (never (roomAt (length (v .gathered))))
     never true = refl
     never false = refl
 
-serve-rests : (most : ℕ) (v : View) → isServable v ≡ false → serveOut most v ≡ v
-unfolding serveOut
+serve-rests : (most : ℕ) (v : View) → isServable v ≡ false → servedView most v ≡ v
+unfolding servedView
 serve-rests zero v e = refl
 serve-rests (suc most) v e = rw e
 
@@ -59,8 +59,8 @@ stopped-done : (v : View) → stepFor v .stops ≡ true → servedOut v .phase �
 stopped-done v e = rw e
 
 -- as many as there are bytes, and one more, are enough
-serve-enough : (k j : ℕ) (v : View) → length (v .waiting) < k → length (v .waiting) < j → serveOut k v ≡ serveOut j v
-unfolding serveOut
+serve-enough : (k j : ℕ) (v : View) → length (v .waiting) < k → length (v .waiting) < j → servedView k v ≡ servedView j v
+unfolding servedView
 serve-enough zero j v h g = absurd (omega arith)
 serve-enough (suc k) zero v h g = absurd (omega arith)
 serve-enough (suc k) (suc j) v h g =
@@ -73,7 +73,7 @@ pub advance-rests : (v : View) → isServable v ≡ false → advanceOut v ≡ v
 advance-rests v e = serve-rests (suc (length (v .waiting))) v e
 
 pub advance-serves : (v : View) → isServable v ≡ true → advanceOut v ≡ advanceOut (servedOut v)
-unfolding serveOut
+unfolding servedView
 advance-serves v e =
     rw e
     (by-bool (stepFor v .stops)
@@ -83,25 +83,25 @@ advance-serves v e =
 -- ---- What holds then
 
 module _ (P : View → Type 0) (keep : (v : View) → isServable v ≡ true → P v → P (servedOut v)) where
-  serve-keeps : (most : ℕ) (v : View) → P v → P (serveOut most v)
-  unfolding serveOut
+  serve-keeps : (most : ℕ) (v : View) → P v → P (servedView most v)
+  unfolding servedView
   serve-keeps zero v p = p
   serve-keeps (suc most) v p = go (isServable v) (λ e. serve-keeps most (servedOut v) (keep v e p))
     where
-      go : (b : Bool) → (b ≡ true → P (serveOut most (servedOut v))) → P (cond b (serveOut most (servedOut v)) v)
+      go : (b : Bool) → (b ≡ true → P (servedView most (servedOut v))) → P (cond b (servedView most (servedOut v)) v)
       go true more = more refl
       go false more = p
 
   pub advance-keeps : (v : View) → P v → P (advanceOut v)
   advance-keeps v p = serve-keeps (suc (length (v .waiting))) v p
 
-serve-ends : (most : ℕ) (v : View) → length (v .waiting) < most → isServable (serveOut most v) ≡ false
-unfolding serveOut
+serve-ends : (most : ℕ) (v : View) → length (v .waiting) < most → isServable (servedView most v) ≡ false
+unfolding servedView
 serve-ends zero v h = absurd (omega arith)
 serve-ends (suc most) v h = go (isServable v) refl (λ s. let l = served-shorter v s in serve-ends most (servedOut v) (omega arith))
   where
-    go : (b : Bool) → isServable v ≡ b → (stepFor v .stops ≡ false → isServable (serveOut most (servedOut v)) ≡ false)
-        → isServable (cond b (serveOut most (servedOut v)) v) ≡ false
+    go : (b : Bool) → isServable v ≡ b → (stepFor v .stops ≡ false → isServable (servedView most (servedOut v)) ≡ false)
+        → isServable (cond b (servedView most (servedOut v)) v) ≡ false
     go true e more =
         by-bool (stepFor v .stops)
         (λ s. let rests = done-rests (servedOut v) (stopped-done v s) in subst (λ (x : View). isServable x ≡ false) (sym (serve-rests most (servedOut v) rests)) rests)

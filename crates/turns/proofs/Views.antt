@@ -26,8 +26,8 @@ use Rattle.turns.specs.declared.Phase.{Phase}
 use Rattle.turns.specs.declared.Phase.the-variants.{Ended, Failed}
 use Rattle.turns.specs.declared.Wants.the-variants.{Read, Write}
 use Rattle.turns.specs.View.{bufferLen, View, atBegin, wantsAt, wantsOf, roomAt, readyAt, isServable, stepAt, stepFor, phaseAfter, needs, servedOut, advanceOut}
-use Rattle.turns.specs.State.{Within, viewOf, waitingIn, Begun, WaitsInFront, Fronted, withMore, repeated, inPhase, isInterrupted, isRepeated, afterRead, afterWrite}
-use Rattle.turns.specs.Trace.{Event, came, ended, interrupted, failed, written, unwritten, Answers, answered}
+use Rattle.turns.specs.State.{WithinBuffers, viewOf, waitingIn, Begun, WaitsInFront, Fronted, withMore, repeated, inPhase, isInterrupted, isRepeated, afterRead, afterWrite}
+use Rattle.turns.specs.Trace.{Event, came, ended, interrupted, failed, written, unwritten, Answers, afterEvent}
 use Rattle.records.proofs.Lengths.{needed-most}
 use Rattle.turns.proofs.Cut.{drop-take, take-least, drop-least}
 use Rattle.turns.proofs.Serving.{advance-ends, reads}
@@ -46,7 +46,7 @@ text-fits text before line e = omega (arith, ap length e ∙ length-append text 
 pub shown-fits : {before line : List ℕ} {o : Step} (a : StepAnswer) → Shown a before line o → a .len ≤ length line
 shown-fits {before} {line} {o} a h = omega (arith, text-fits (o .line) before line (h .printed), h .len)
 
-module _ (s : State) (input : List ℕ) (h : Within s) (l : length input ≡ bufferLen) where
+module _ (s : State) (input : List ℕ) (h : WithinBuffers s) (l : length input ≡ bufferLen) where
   pub waiting-length : length (waitingIn s input) ≡ s .to - s .from
   waiting-length = length-take-le (s .to - s .from) (drop (s .from) input) (omega (arith, h .read, h .ordered, length-drop (s .from) input))
 
@@ -95,7 +95,7 @@ module _ (s : State) (input : List ℕ) (h : Within s) (l : length input ≡ buf
           (take gathered next) (take (s .gathered) output ++ stepFor (viewOf s input output) .line) phase (phaseAfter (s .phase) (stepFor (viewOf s input output) .stops))
           (is-step .next) left-over lines (ph ∙ ap (λ (b : Bool). phaseAfter (s .phase) b) (is-step .stops))
 
-      pub served-within : Within (record { session = a .next; from = s .from + n; to = s .to; gathered = gathered; phase = phase; repeats = s .repeats })
+      pub served-within : WithinBuffers (record { session = a .next; from = s .from + n; to = s .to; gathered = gathered; phase = phase; repeats = s .repeats })
       served-within =
           record {
             ordered = omega (arith, few, h .ordered);
@@ -103,14 +103,14 @@ module _ (s : State) (input : List ℕ) (h : Within s) (l : length input ≡ buf
             gathered = omega (arith, text-fits (stepFor (viewOf s input output) .line) line₀ line (is-step .printed), is-step .len);
           }
 
-pub gathered-length : (s : State) (output : List ℕ) → Within s → length output ≡ bufferLen → length (take (s .gathered) output) ≡ s .gathered
+pub gathered-length : (s : State) (output : List ℕ) → WithinBuffers s → length output ≡ bufferLen → length (take (s .gathered) output) ≡ s .gathered
 gathered-length s output h l = length-take-le (s .gathered) output (omega (arith, h .gathered))
 
 pub room-le : (g : ℕ) → roomAt g ≡ true → g + maxLine ≤ bufferLen
 room-le g = by-le g (bufferLen - maxLine) (λ b. b ≡ true → g + maxLine ≤ bufferLen) (λ h _. omega arith) (λ _ e. absurd (false≢true e))
 
 -- whether a record can be served, as the code tests it
-pub servable-is : (s : State) (input output : List ℕ) (needed : ℕ) (a b : Bool) → Within s → length input ≡ bufferLen → length output ≡ bufferLen
+pub servable-is : (s : State) (input output : List ℕ) (needed : ℕ) (a b : Bool) → WithinBuffers s → length input ≡ bufferLen → length output ≡ bufferLen
     → a ≡ roomAt (s .gathered) → needed ≡ neededFor (sessionOf (s .session)) (waitingIn s input) → b ≡ readyAt (s .phase) needed (s .to - s .from)
     → isServable (viewOf s input output) ≡ (a && b)
 servable-is s input output needed a b h li lo e n f =
@@ -130,7 +130,7 @@ both-true a b e f = rw (e, f)
 
 -- ---- What waits, at the front
 
-module _ (s : State) (input moved : List ℕ) (n : ℕ) (h : Within s) (l : length input ≡ bufferLen) where
+module _ (s : State) (input moved : List ℕ) (n : ℕ) (h : WithinBuffers s) (l : length input ≡ bufferLen) where
   pub front-waits : n ≡ s .to - s .from → moved ≡ overwrite 0 (waitingIn s input) input → take (n - 0) (drop 0 moved) ≡ waitingIn s input
   front-waits e m =
       let k : n - 0 ≡ length (waitingIn s input) = omega (arith, waiting-length s input h l) in
@@ -142,7 +142,7 @@ fronted-view s r input moved output f w =
     (ap sessionOf (f .session)) w (ap (λ (g : ℕ). take g output) (f .gathered)) (f .phase)
 
 -- a read that is wanted has room
-pub front-room : (s r : State) (input output : List ℕ) (v : View) → Fronted s r → Within s → length input ≡ bufferLen → length output ≡ bufferLen
+pub front-room : (s r : State) (input output : List ℕ) (v : View) → Fronted s r → WithinBuffers s → length input ≡ bufferLen → length output ≡ bufferLen
     → viewOf s input output ≡ advanceOut v → WaitsInFront r
 front-room s r input output v f h li lo e want =
     let wants : wantsAt (s .gathered) (s .phase) ≡ Read = sym (ap (λ (g : ℕ). wantsAt g (r .phase)) (f .gathered) ∙ ap (λ (p : Phase). wantsAt (s .gathered) p) (f .phase)) ∙ want in
@@ -158,14 +158,14 @@ view-begun s input output b =
     let k : s .to - s .from ≡ 0 = omega (arith, b .to) in
     rw (b .session, k, b .gathered, b .phase)
 
-pub begun-within : (s : State) → Begun s → Within s
+pub begun-within : (s : State) → Begun s → WithinBuffers s
 begun-within s b = record { ordered = omega (arith, b .from); read = omega (arith, b .to); gathered = omega (arith, b .gathered) }
 
 abbrev pub eventOf : State → ℤ → ℤ → List ℕ → Event
 eventOf s (pos count) error bytes = cond (eqb count 0) ended (came (take count bytes))
 eventOf s (negsuc _) error bytes = cond (isRepeated s error) interrupted failed
 
-module _ (s : State) (input output bytes : List ℕ) (k : ℕ) (h : Within s) (f : s .from ≡ 0) (l : length input ≡ bufferLen) (n : length bytes ≡ bufferLen - s .to) where
+module _ (s : State) (input output bytes : List ℕ) (k : ℕ) (h : WithinBuffers s) (f : s .from ≡ 0) (l : length input ≡ bufferLen) (n : length bytes ≡ bufferLen - s .to) where
   read-waits : (count : ℕ) → count ≤ bufferLen - s .to → take (s .to + count - s .from) (drop (s .from) (putMid (s .to) k input bytes)) ≡ waitingIn s input ++ take count bytes
   read-waits count fits =
       let front : length (take (s .to) input) ≡ s .to = length-take-le (s .to) input (omega (arith, h .read)) in
@@ -182,10 +182,10 @@ module _ (s : State) (input output bytes : List ℕ) (k : ℕ) (h : Within s) (f
       rw (j′, f) (take-at (take (s .to) input) (bytes ++ postOf (s .to) k input) (s .to) front)
 
   pub view-read : (got error : ℤ) → Moved (bufferLen - s .to) got
-      → viewOf (afterRead s got error) (putMid (s .to) k input bytes) output ≡ answered (viewOf s input output) (eventOf s got error bytes)
+      → viewOf (afterRead s got error) (putMid (s .to) k input bytes) output ≡ afterEvent (viewOf s input output) (eventOf s got error bytes)
   view-read (negsuc j) error m = go (isRepeated s error)
     where
-      go : (b : Bool) → viewOf (cond b (repeated s) (inPhase s Failed)) (putMid (s .to) k input bytes) output ≡ answered (viewOf s input output) (cond b interrupted failed)
+      go : (b : Bool) → viewOf (cond b (repeated s) (inPhase s Failed)) (putMid (s .to) k input bytes) output ≡ afterEvent (viewOf s input output) (cond b interrupted failed)
       go true = rw kept-waits
       go false = rw kept-waits
   view-read (pos zero) error m = rw kept-waits
@@ -200,15 +200,15 @@ module _ (s : State) (input output bytes : List ℕ) (k : ℕ) (h : Within s) (f
   event-fits (pos zero) error m = tt
   event-fits (pos (suc c)) error m = rw (eqb-other (suc c) 0 (λ e. omega arith)) (omega (arith, length-take-le (suc c) bytes (omega (arith, m))))
 
-  pub read-within : (got error : ℤ) → Moved (bufferLen - s .to) got → Within (afterRead s got error)
+  pub read-within : (got error : ℤ) → Moved (bufferLen - s .to) got → WithinBuffers (afterRead s got error)
   read-within (negsuc j) error m = go (isRepeated s error)
     where
-      go : (b : Bool) → Within (cond b (repeated s) (inPhase s Failed))
+      go : (b : Bool) → WithinBuffers (cond b (repeated s) (inPhase s Failed))
       go true = record { ordered = h .ordered; read = h .read; gathered = h .gathered }
       go false = record { ordered = h .ordered; read = h .read; gathered = h .gathered }
   read-within (pos count) error m = go (eqb count 0)
     where
-      go : (b : Bool) → Within (cond b (inPhase s Ended) (withMore s count))
+      go : (b : Bool) → WithinBuffers (cond b (inPhase s Ended) (withMore s count))
       go true = record { ordered = h .ordered; read = h .read; gathered = h .gathered }
       go false = record { ordered = omega (arith, h .ordered); read = omega (arith, m, h .read); gathered = h .gathered }
 
@@ -230,11 +230,11 @@ module _ (s : State) (bytes : List ℕ) where
       go true = (omega arith, λ f. let z : _≡_ {A = ℕ} 0 1 = cc in absurd (omega arith))
       go false = (omega arith, λ f. let z : _≡_ {A = ℕ} 0 1 = cc in absurd (omega arith))
 
-pub view-written : (s : State) (input output : List ℕ) (b : Bool) → viewOf (afterWrite s b) input output ≡ answered (viewOf s input output) (cond b written unwritten)
+pub view-written : (s : State) (input output : List ℕ) (b : Bool) → viewOf (afterWrite s b) input output ≡ afterEvent (viewOf s input output) (cond b written unwritten)
 view-written s input output true = refl
 view-written s input output false = refl
 
-pub write-within : (s : State) (b : Bool) → Within s → Within (afterWrite s b)
+pub write-within : (s : State) (b : Bool) → WithinBuffers s → WithinBuffers (afterWrite s b)
 write-within s b h = record { ordered = h .ordered; read = h .read; gathered = omega arith }
 
 pub written-fits : (b : Bool) → Answers Write (cond b written unwritten)

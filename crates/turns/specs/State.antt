@@ -19,14 +19,14 @@ abbrev pub Buffers : List ℕ → List ℕ → Type 0
 Buffers input output = (length input ≡ bufferLen) × (length output ≡ bufferLen)
 
 -- what waits lies in the input buffer, and what is gathered in the output buffer
-pub record Within (s : State) : Type 0 where
+pub record WithinBuffers (s : State) : Type 0 where
   pub ordered : s .from ≤ s .to
   pub read : s .to ≤ bufferLen
   pub gathered : s .gathered ≤ bufferLen
 
 -- .. and any line has room behind it
 pub record Roomy (s : State) : Type 0 where
-  pub within : Within s
+  pub within : WithinBuffers s
   pub room : s .gathered + maxLine ≤ bufferLen
 
 abbrev pub waitingIn : State → List ℕ → List ℕ
@@ -59,7 +59,7 @@ pub record Fronted (s r : State) : Type 0 where
   pub gathered : r .gathered ≡ s .gathered
   pub phase : r .phase ≡ s .phase
   pub repeats : r .repeats ≡ s .repeats
-  pub within : Within r
+  pub within : WithinBuffers r
   pub len : r .to - r .from ≡ s .to - s .from
   pub front : wantsAt (s .gathered) (s .phase) ≡ Read → r .from ≡ 0
 

@@ -40,19 +40,19 @@ Answers Write unwritten = Unit
 Answers Stop e = ⊥
 
 -- what it changes: nothing where a read was interrupted, so that it is made again
-abbrev pub answered : View → Event → View
-answered v (came bytes) = record { session = v .session; waiting = v .waiting ++ bytes; gathered = v .gathered; phase = v .phase }
-answered v ended = record { session = v .session; waiting = v .waiting; gathered = v .gathered; phase = Ended }
-answered v interrupted = v
-answered v failed = record { session = v .session; waiting = v .waiting; gathered = v .gathered; phase = Failed }
-answered v written = record { session = v .session; waiting = v .waiting; gathered = []; phase = v .phase }
-answered v unwritten = record { session = v .session; waiting = v .waiting; gathered = []; phase = Done }
+abbrev pub afterEvent : View → Event → View
+afterEvent v (came bytes) = record { session = v .session; waiting = v .waiting ++ bytes; gathered = v .gathered; phase = v .phase }
+afterEvent v ended = record { session = v .session; waiting = v .waiting; gathered = v .gathered; phase = Ended }
+afterEvent v interrupted = v
+afterEvent v failed = record { session = v .session; waiting = v .waiting; gathered = v .gathered; phase = Failed }
+afterEvent v written = record { session = v .session; waiting = v .waiting; gathered = []; phase = v .phase }
+afterEvent v unwritten = record { session = v .session; waiting = v .waiting; gathered = []; phase = Done }
 
 -- ---- A trace: its events, the newest first
 
 abbrev pub viewAfter : List Event → View
 viewAfter [] = atBegin
-viewAfter (e ∷ es) = advanceOut (answered (viewAfter es) e)
+viewAfter (e ∷ es) = advanceOut (afterEvent (viewAfter es) e)
 
 -- each answers what was wanted then
 abbrev pub IsTrace : List Event → Type 0

@@ -86,10 +86,10 @@ servedOut v =
     }
 
 -- so many records at most
-unfoldable pub serveOut : ℕ → View → View
-serveOut zero v = v
-serveOut (suc most) v = cond (isServable v) (serveOut most (servedOut v)) v
+unfoldable pub servedView : ℕ → View → View
+servedView zero v = v
+servedView (suc most) v = cond (isServable v) (servedView most (servedOut v)) v
 
 -- a record that does not stop has a byte, so that there are no more of them
 abbrev pub advanceOut : View → View
-advanceOut v = serveOut (suc (length (v .waiting))) v
+advanceOut v = servedView (suc (length (v .waiting))) v

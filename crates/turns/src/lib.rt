@@ -11,7 +11,7 @@ ghost use Rattle.transfer.specs.Bridge.{Shown};
 ghost use Rattle.records.specs.Records.{neededFor};
 ghost use Rattle.turns.specs.declared.Phase.the-variants.{Failed};
 ghost use Rattle.turns.specs.View.{bufferLen, wantsAt, stepAt, phaseAfter, roomAt, readyAt, servedOut, advanceOut};
-ghost use Rattle.turns.specs.State.{Buffers, Within, Roomy, viewOf, waitingIn, Begun, WaitsInFront, Fronted, repeated, inPhase, isRepeated, afterRead, afterWrite};
+ghost use Rattle.turns.specs.State.{Buffers, WithinBuffers, Roomy, viewOf, waitingIn, Begun, WaitsInFront, Fronted, repeated, inPhase, isRepeated, afterRead, afterWrite};
 use records::Session;
 use transfer::StepAnswer;
 
@@ -53,9 +53,9 @@ pub fn advance(
     output: &mut [u8],
     line: &mut [u8; Session::MAX_LINE],
 ) -> State
-    requires { ⌜ Buffers (now input) (now output) × Within state ⌝ }
+    requires { ⌜ Buffers (now input) (now output) × WithinBuffers state ⌝ }
     ensures view { λ r. ⌜ viewOf r (now (input .exit)) (now (output .exit)) ≡ advanceOut (viewOf state (now (input .entry)) (now (output .entry))) ⌝ }
-    ensures within { λ r. ⌜ Within r ⌝ }
+    ensures within { λ r. ⌜ WithinBuffers r ⌝ }
     ensures room { λ r. ⌜ WaitsInFront r ⌝ }
     ensures repeats { λ r. ⌜ r .repeats ≡ state .repeats ⌝ }
 {
@@ -189,7 +189,7 @@ impl State {
 
     // Any line has room behind what is gathered.
     fn has_room(self) -> bool
-        requires { ⌜ Within self ⌝ }
+        requires { ⌜ WithinBuffers self ⌝ }
         ensures { λ r. ⌜ r ≡ roomAt (self .gathered) ⌝ }
     {
         self.gathered <= BUFFER_LEN - Session::MAX_LINE
@@ -197,7 +197,7 @@ impl State {
 
     // The next record is there as a whole, or no more of it will come.
     fn is_ready(self, needed: usize) -> bool
-        requires { ⌜ Within self ⌝ }
+        requires { ⌜ WithinBuffers self ⌝ }
         ensures { λ r. ⌜ r ≡ readyAt (self .phase) needed (self .to - self .from) ⌝ }
     {
         let phase = self.phase;
@@ -211,7 +211,7 @@ impl State {
 
     // Where a read is wanted, what waits is moved to the front, so that the read has the room behind it.
     fn fronted(self, input: &mut [u8]) -> State
-        requires { ⌜ (length (now input) ≡ bufferLen) × Within self ⌝ }
+        requires { ⌜ (length (now input) ≡ bufferLen) × WithinBuffers self ⌝ }
         ensures waits { λ r. ⌜ waitingIn r (now (input .exit)) ≡ waitingIn self (now (input .entry)) ⌝ }
         ensures same { λ r. ⌜ Fronted self r ⌝ }
     {
@@ -244,9 +244,9 @@ fn serve_on(
     output: &mut [u8],
     line: &mut [u8; Session::MAX_LINE],
 ) -> State
-    requires { ⌜ Buffers (now input) (now output) × Within state ⌝ }
+    requires { ⌜ Buffers (now input) (now output) × WithinBuffers state ⌝ }
     ensures view { λ r. ⌜ viewOf r (now (input .entry)) (now (output .exit)) ≡ advanceOut (viewOf state (now (input .entry)) (now (output .entry))) ⌝ }
-    ensures within { λ r. ⌜ Within r ⌝ }
+    ensures within { λ r. ⌜ WithinBuffers r ⌝ }
     ensures repeats { λ r. ⌜ r .repeats ≡ state .repeats ⌝ }
 {
     let mut now = state;
@@ -273,7 +273,7 @@ fn serve(
 ) -> State
     requires { ⌜ Buffers (now input) (now output) × Roomy state × (needed ≡ neededFor (sessionOf (state .session)) (waitingIn state (now input))) ⌝ }
     ensures view { λ r. ⌜ viewOf r (now (input .entry)) (now (output .exit)) ≡ servedOut (viewOf state (now (input .entry)) (now (output .entry))) ⌝ }
-    ensures within { λ r. ⌜ Within r ⌝ }
+    ensures within { λ r. ⌜ WithinBuffers r ⌝ }
     ensures repeats { λ r. ⌜ r .repeats ≡ state .repeats ⌝ }
 {
     let session = state.session;

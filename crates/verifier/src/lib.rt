@@ -3,7 +3,7 @@ ghost use mathlib.Core.Path.{_≡_};
 ghost use Rattle.params.specs.Bridge.{given};
 ghost use Rattle.placements.specs.Bridge.{heldAs};
 ghost use Rattle.verifier.specs.Answer.{verdictAs};
-ghost use Rattle.verifier.specs.Given.{LaidFor, Expecting};
+ghost use Rattle.verifier.specs.Given.{LaidFor, ExpectedWord};
 ghost use Rattle.verifier.specs.Verify.{verifyOut};
 use params::Figures;
 use params::Layout;
@@ -59,7 +59,7 @@ fn verify_against(
     word: &[u8],
     expected: &mut [u8],
 ) -> VerifyAnswer
-    requires { ⌜ Expecting (given figures) layout (now word) (now expected) ⌝ }
+    requires { ⌜ ExpectedWord (given figures) layout (now word) (now expected) ⌝ }
     ensures { λ r. ⌜ verdictAs r ≡ verifyOut (given figures) (heldAs at) (now (message .entry)) (now (word .entry)) ⌝ }
 {
     let refusal = encoder::encode(Figures::Ranked(figures), at, message, expected);

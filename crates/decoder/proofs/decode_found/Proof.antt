@@ -17,13 +17,13 @@ use Rattle.cells.proofs.Erasures.{found-least, below-whole}
 use Rattle.construction_a.proofs.Found.{heads-below}
 use Rattle.construction_b.specs.DemandTwo as B
 use Rattle.construction_b.specs.Reading as B′
-use Rattle.params.specs.Given.{figuresOf, longOf, codingIn, Fitting, LongFitting, FittingWith}
+use Rattle.params.specs.Given.{figuresOf, longOf, codingIn, LayoutFits, LongLayoutFits, LayoutFitsWith}
 use Rattle.params.specs.declared.Layout.{Layout}
 use Rattle.params.specs.declared.Spells.{Spells}
 use Rattle.params.proofs.Fitting.{heads-are, written-is}
 use Rattle.params.proofs.LongFitting.{long-written-is}
 use Rattle.params.proofs.Shape.{bound, blocks-most}
-use Rattle.heads.specs.Written.{headsIn, writtenIn, Shown}
+use Rattle.heads.specs.Written.{headsIn, writtenIn, OpenHeads}
 use Rattle.heads.proofs.Listed.{index-none}
 use Rattle.heads.proofs.Looking.{shown}
 use Rattle.decoder.proofs.Calls.{index-some}
@@ -93,7 +93,7 @@ abbrev ks : tie.Else2 → List ℕ
 ks c = take (l (start c) .m) (index c)
 
 -- none of them looks fixed
-bare : (c : tie.Else2) → Shown (l (start c)) (start c .args .word .now) (index c)
+bare : (c : tie.Else2) → OpenHeads (l (start c)) (start c .args .word .now) (index c)
 bare c =
     let s = start c in
     let a = c .before .before .before .before .before .index-read in
@@ -110,8 +110,8 @@ enum-told : tie.Need-enum-told
 enum-told c = search needs
 
 -- figures of Construction A
-ranked : (c : tie.After-enum-told) → Fitting (l (start (c .before .before .before)))
-ranked c = subst (λ (s : Spells). FittingWith s (l (start (c .before .before .before)))) (c .enum-told .given .1) (start (c .before .before .before) .pre .0 .fitting)
+ranked : (c : tie.After-enum-told) → LayoutFits (l (start (c .before .before .before)))
+ranked c = subst (λ (s : Spells). LayoutFitsWith s (l (start (c .before .before .before)))) (c .enum-told .given .1) (start (c .before .before .before) .pre .0 .fitting)
 
 decode-rank-requires : tie.Need-decode-rank-requires
 decode-rank-requires c κs =
@@ -139,8 +139,8 @@ array-read-part : tie.Need-array-read-part
 array-read-part c = search needs
 
 -- figures of Construction B
-long-burst : (c : tie.After-enum-told2) → LongFitting (l (start (c .before .before .before)))
-long-burst c = subst (λ (s : Spells). FittingWith s (l (start (c .before .before .before)))) (c .enum-told2 .given .1) (start (c .before .before .before) .pre .0 .fitting)
+long-burst : (c : tie.After-enum-told2) → LongLayoutFits (l (start (c .before .before .before)))
+long-burst c = subst (λ (s : Spells). LayoutFitsWith s (l (start (c .before .before .before)))) (c .enum-told2 .given .1) (start (c .before .before .before) .pre .0 .fitting)
 
 cast-decode-offset : tie.Need-cast-decode-offset
 cast-decode-offset c =

@@ -8,7 +8,7 @@ use lib.Seq.{length-take-le}
 use Rattle.construction_a.specs.Figures.{maxWord}
 use Rattle.params.specs.Given.{shortWord, codingIn}
 use Rattle.jobs.specs.Slots.{entries}
-use Rattle.jobcodec.specs.Given.{Readable}
+use Rattle.jobcodec.specs.Given.{ReadableJob}
 use Rattle.jobcodec.proofs.Calls.{alphabet-few, bytes-are, message-short, room-is, ready, read-few, read-length}
 use Rattle.jobcodec.proofs.read_laid.Statement.{statement}
 use Rattle.jobcodec.proofs.read_laid.Tie as tie
@@ -34,7 +34,7 @@ returns-2 c =
 
 -- a message that is lent in an array with room for it
 readable : (c : tie.Else2) (room : ℕ) → (let a = c .before .before .before .before .before .args in a .layout .«message_len» ≤ room
-    → Readable (a .layout) (entries (a .table)) (take {A = ℕ} (a .layout .«message_len») (replicate room 0)) (a .payload .now))
+    → ReadableJob (a .layout) (entries (a .table)) (take {A = ℕ} (a .layout .«message_len») (replicate room 0)) (a .payload .now))
 readable c room le =
     let s = c .before .before .before .before .before in
     let l = s .args .layout in

@@ -9,8 +9,8 @@ use Rattle.larsson.proofs.Exact.{larsson-exact}
 use Rattle.params.specs.Bridge.{given}
 use Rattle.decoder.proofs.Calls.{decode-unfit}
 use Rattle.decoder.proofs.DemandTwo.{decodes-exactly-under, by-outcome-under}
-use Rattle.larsson_params.specs.Answer.{figuredAs}
-use Rattle.larsson_params.specs.Given.{figuresOf, Fitting}
+use Rattle.larsson_params.specs.Answer.{larssonFiguredAs}
+use Rattle.larsson_params.specs.Given.{larssonFiguresOf, LarssonLayoutFits}
 use Rattle.larsson_params.proofs.Answered.{fit-learnt}
 use Rattle.larsson_decoder.proofs.decode.Statement.{statement}
 use Rattle.larsson_decoder.proofs.decode.Tie as tie
@@ -19,7 +19,7 @@ abbrev f : tie.Start → Params
 f s = given (s .args .figures)
 
 -- the layout that was answered
-learnt : (c : tie.After-answer2) → (let l = c .answer2 .given .0 .0 in (figuresOf l ≡ f (c .before .before .before .before .before)) × Fitting l)
+learnt : (c : tie.After-answer2) → (let l = c .answer2 .given .0 .0 in (larssonFiguresOf l ≡ f (c .before .before .before .before .before)) × LarssonLayoutFits l)
 learnt c =
     let r = c .before .before .figures in
     fit-learnt (f (c .before .before .before .before .before)) (r .result) (c .answer2 .given .0 .0) (c .answer2 .given .1) (r .ensures .0) (r .ensures .1)
@@ -47,7 +47,7 @@ returns c =
     let out = s .args .message .now in
     let g = f s in
     by-outcome-under (coding g) (Listed g) w out (decodes-exactly-under (coding g) (Listed g) (larsson-exact g) w out) (c .unread .result) out
-    (c .unread .ensures out ∙ sym (decode-unfit (coding g) w out (t .answer .given .0 .0) (sym (t .before .before .figures .ensures .0) ∙ ap figuredAs (t .answer .given .1))))
+    (c .unread .ensures out ∙ sym (decode-unfit (coding g) w out (t .answer .given .0 .0) (sym (t .before .before .figures .ensures .0) ∙ ap larssonFiguredAs (t .answer .given .1))))
 
 same-length : tie.Need-same-length
 same-length c = search needs

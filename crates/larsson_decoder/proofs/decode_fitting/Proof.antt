@@ -17,7 +17,7 @@ use Rattle.larsson.specs.Reading.{read}
 use Rattle.decoder.specs.Answer.{decodedAs}
 use Rattle.decoder.proofs.Calls.{decode-short, decode-room, decode-symbol, decode-read}
 use Rattle.larsson_params.specs.declared.LarssonLayout.{LarssonLayout}
-use Rattle.larsson_params.specs.Given.{figuresOf}
+use Rattle.larsson_params.specs.Given.{larssonFiguresOf}
 use Rattle.larsson_params.proofs.Shape.{bound}
 use Rattle.larsson_decoder.proofs.Reading.{found-by, no-message, all-read}
 use Rattle.larsson_decoder.proofs.decode_fitting.Statement.{statement}
@@ -27,7 +27,7 @@ abbrev l : tie.Start → LarssonLayout
 l s = s .args .layout
 
 abbrev d : tie.Start → Coding
-d s = coding (figuresOf (s .args .layout))
+d s = coding (larssonFiguresOf (s .args .layout))
 
 -- whether the word has no value above q
 tested : (c : tie.After-all-below)
@@ -78,7 +78,7 @@ returns-3 c =
 
 -- what is read where nothing is refused so far
 reads : (c : tie.Else3) → (let s = c .before .before .before .before .before .before .before .before .before in
-    decodeUnder (d s) (s .args .word .now) (s .args .message .now) ≡ decodedFrom (l s .b) (s .args .message .now) (read (figuresOf (l s)) (s .args .word .now)))
+    decodeUnder (d s) (s .args .word .now) (s .args .message .now) ≡ decodedFrom (l s .b) (s .args .message .now) (read (larssonFiguresOf (l s)) (s .args .word .now)))
 reads c =
     let t = c .before in
     let s = t .before .before .before .before .before .before .before .before in
@@ -97,7 +97,7 @@ returns-4 c =
     let s = t .before .before .before .before .before .before .before .before in
     let out = s .args .message .now in
     let none : out ≡ [] = no-message (l s) (s .pre) (c .before .if4 .taken) out (t .before .before .if2 .left) in
-    let ss = placementOf (figuresOf (l s)) 0 in
+    let ss = placementOf (larssonFiguresOf (l s)) 0 in
     ap (decodedAs (c .only-placement .result)) none ∙ c .only-placement .ensures
     ∙ ap (λ (o : List ℕ). decodedFrom (l s .b) o (accepted ss [])) (sym none)
     ∙ sym (reads e ∙ ap (decodedFrom (l s .b) out) (all-read (l s) (s .pre) (c .before .if4 .taken) (s .args .word .now)))

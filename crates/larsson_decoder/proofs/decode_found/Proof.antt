@@ -2,7 +2,7 @@
 use mathlib.Core.Path.{_≡_, sym, ap, subst, _∙_}
 use borrow.Author.Needs.{needs}
 use Rattle.cells.specs.Outcomes.{decodedFrom}
-use Rattle.larsson_params.specs.Given.{figuresOf}
+use Rattle.larsson_params.specs.Given.{larssonFiguresOf}
 use Rattle.larsson_decoder.specs.Located.{LocatedAs}
 use Rattle.larsson_decoder.proofs.decode_found.Statement.{statement}
 use Rattle.larsson_decoder.proofs.decode_found.Tie as tie
@@ -27,7 +27,7 @@ decode-placed-requires c κs =
     let r = t .before .before .before .before in
     let s = r .before .before .before in
     let a = s .args in
-    (s .pre .0, s .pre .1, subst (LocatedAs (figuresOf (a .layout)) (a .word .now) (r .locate .result .placement) (r .locate .result .kinds)) (t .answer2 .given .1) (r .locate .ensures))
+    (s .pre .0, s .pre .1, subst (LocatedAs (larssonFiguresOf (a .layout)) (a .word .now) (r .locate .result .placement) (r .locate .result .kinds)) (t .answer2 .given .1) (r .locate .ensures))
 
 returns : tie.Need-returns
 returns c =
@@ -37,7 +37,7 @@ returns c =
     let a = s .args in
     c .unread .ensures (a .message .now)
     ∙ sym (ap (decodedFrom (a .layout .b) (a .message .now))
-    (subst (LocatedAs (figuresOf (a .layout)) (a .word .now) (r .locate .result .placement) (r .locate .result .kinds)) (t .answer .given .1) (r .locate .ensures)))
+    (subst (LocatedAs (larssonFiguresOf (a .layout)) (a .word .now) (r .locate .result .placement) (r .locate .result .kinds)) (t .answer .given .1) (r .locate .ensures)))
 
 same-length : tie.Need-same-length
 same-length c = search needs

@@ -19,7 +19,7 @@ use Rattle.stretches.specs.declared.Walk.{Walk}
 use Rattle.placements.specs.Bridge.{heldAs, startsIn}
 use Rattle.larsson_words.specs.Walked as Words
 use Rattle.larsson_params.specs.declared.LarssonLayout.{LarssonLayout}
-use Rattle.larsson_params.specs.Given.{figuresOf, Fitting}
+use Rattle.larsson_params.specs.Given.{larssonFiguresOf, LarssonLayoutFits}
 use Rattle.larsson_params.proofs.Shape.{bound, long}
 use Rattle.larsson_decoder.proofs.Reading.{whole-is, reads-erased, reads-whole, read-whole}
 use Rattle.larsson_decoder.proofs.decode_placed.Statement.{statement}
@@ -29,12 +29,12 @@ abbrev l : tie.Start → LarssonLayout
 l s = s .args .layout
 
 abbrev f : tie.Start → Params
-f s = figuresOf (s .args .layout)
+f s = larssonFiguresOf (s .args .layout)
 
 abbrev ss : tie.Start → List ℕ
 ss s = startsIn (s .args .placement)
 
-fit : (s : tie.Start) → Fitting (l s)
+fit : (s : tie.Start) → LarssonLayoutFits (l s)
 fit s = s .pre .0 .finding .layout
 
 -- the placement's message in the word
@@ -114,8 +114,8 @@ returns-2 c =
     let t = w .before .before in
     let s = t .before .before .before .before in
     let a = s .args in
-    let as-walked : pick messageCell (plan (Words.figuresOf (w .walk-of .result) (l s .q)) (ss s)) (a .word .now) ≡ taken s =
-    ap (λ (y : Walk). pick messageCell (plan (Words.figuresOf y (l s .q)) (ss s)) (a .word .now)) (w .walk-of .ensures) in
+    let as-walked : pick messageCell (plan (Words.figuresWalked (w .walk-of .result) (l s .q)) (ss s)) (a .word .now) ≡ taken s =
+    ap (λ (y : Walk). pick messageCell (plan (Words.figuresWalked y (l s .q)) (ss s)) (a .word .now)) (w .walk-of .ensures) in
     read-whole (l s .b) (a .rank) (heldAs (a .placement)) (ss s) (k .take-message .last .1 .1 .1 .1 .1 .1 .0) (taken s) (a .message .now) (s .pre .2 .ranked) (s .pre .2 .is-held)
     (k .take-message .ensures ∙ as-walked)
     ∙ sym (ap (decodedFrom (l s .b) (a .message .now))

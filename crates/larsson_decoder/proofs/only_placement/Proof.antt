@@ -8,7 +8,7 @@ use Rattle.construction_a.specs.Writing.{placementOf}
 use Rattle.larsson.proofs.Walking.{count-some}
 use Rattle.placements.specs.Bridge.{heldAs}
 use Rattle.larsson_params.specs.declared.LarssonLayout.{LarssonLayout}
-use Rattle.larsson_params.specs.Given.{figuresOf}
+use Rattle.larsson_params.specs.Given.{larssonFiguresOf}
 use Rattle.larsson_params.proofs.Shape.{served, bound, long}
 use Rattle.sub_blocks.proofs.Room.{room-of}
 use Rattle.larsson_decoder.proofs.Reading.{read-whole}
@@ -33,14 +33,14 @@ unrank-requires : tie.Need-unrank-requires
 unrank-requires c κs =
     let s = c .before .before .before in
     let ok = served (l s) (s .pre .0) in
-    (room-of (l s) (s .pre .0), ok .counted, count-some (figuresOf (l s)) (ok .total))
+    (room-of (l s) (s .pre .0), ok .counted, count-some (larssonFiguresOf (l s)) (ok .total))
 
 returns : tie.Need-returns
 returns c =
     let s = c .before .before .before .before in
     let ok = served (l s) (s .pre .0) in
-    let r = rank-of-starts (l s .n) (l s .m) (l s .b) (ok .range .b-least) (ok .total) 0 (count-some (figuresOf (l s)) (ok .total)) in
-    read-whole (l s .b) 0 (heldAs (c .unrank .result)) (placementOf (figuresOf (l s)) 0) [] [] [] (sym (r .rank)) (c .unrank .ensures) refl
+    let r = rank-of-starts (l s .n) (l s .m) (l s .b) (ok .range .b-least) (ok .total) 0 (count-some (larssonFiguresOf (l s)) (ok .total)) in
+    read-whole (l s .b) 0 (heldAs (c .unrank .result)) (placementOf (larssonFiguresOf (l s)) 0) [] [] [] (sym (r .rank)) (c .unrank .ensures) refl
 
 pub only-placement-spec : {M : Type 1} → statement M
 only-placement-spec =

@@ -5,7 +5,7 @@ use Rattle.cells.specs.Outcomes.{coverUnder}
 use Rattle.construction_a.specs.Figures.{Params}
 use Rattle.larsson.specs.Outcomes.{coding}
 use Rattle.params.specs.Bridge.{given}
-use Rattle.larsson_params.specs.Answer.{figuredAs}
+use Rattle.larsson_params.specs.Answer.{larssonFiguredAs}
 use Rattle.larsson_params.proofs.Answered.{fit-learnt}
 use Rattle.placements.proofs.Calls.{cover-unfit}
 use Rattle.larsson_encoder.proofs.cover.Statement.{statement}
@@ -35,7 +35,7 @@ returns c =
     let s = c .before .before .before .before .before .before in
     let figures = c .before .before .before .before .figures in
     let number = c .before .before .answer .given in
-    c .unplaced .ensures ∙ sym (cover-unfit (coding (given (s .args .figures))) (s .args .map .now) (number .0 .0) (sym (figures .ensures .0) ∙ ap figuredAs (number .1)))
+    c .unplaced .ensures ∙ sym (cover-unfit (coding (given (s .args .figures))) (s .args .map .now) (number .0 .0) (sym (figures .ensures .0) ∙ ap larssonFiguredAs (number .1)))
 
 returns-2 : tie.Need-returns-2
 returns-2 c =

@@ -5,7 +5,7 @@ use Rattle.cells.specs.Outcomes.{Encoded, encodeUnder}
 use Rattle.construction_a.specs.Figures.{Params}
 use Rattle.larsson.specs.Outcomes.{coding}
 use Rattle.params.specs.Bridge.{given}
-use Rattle.larsson_params.specs.Answer.{figuredAs}
+use Rattle.larsson_params.specs.Answer.{larssonFiguredAs}
 use Rattle.larsson_params.proofs.Answered.{fit-learnt}
 use Rattle.placements.specs.Bridge.{heldAs}
 use Rattle.encoder.proofs.Outcomes.{told, encode-unfit}
@@ -34,7 +34,7 @@ returns c =
     let figures = c .before .before .before .figures in
     let number = c .before .answer .given in
     told _ _ (encode-unfit (coding (given (s .args .figures))) (heldAs (s .args .at)) (s .args .message .now) (s .args .word .now) (number .0 .0)
-    (sym (figures .ensures .0) ∙ ap figuredAs (number .1)))
+    (sym (figures .ensures .0) ∙ ap larssonFiguredAs (number .1)))
 
 same-length : tie.Need-same-length
 same-length c = search needs

@@ -6,7 +6,7 @@ use lib.ListN.{length}
 use Rattle.refusals.specs.Refusals.{served}
 use Rattle.cells.specs.Outcomes.{maxBursts}
 use Rattle.larsson.specs.Outcomes.{coding}
-use Rattle.larsson_params.specs.Given.{figuresOf}
+use Rattle.larsson_params.specs.Given.{larssonFiguresOf}
 use Rattle.larsson_params.proofs.Shape.{long}
 use Rattle.placements.specs.Bridge.{heldAs}
 use Rattle.sub_blocks.proofs.Room.{room-of}
@@ -20,7 +20,7 @@ use Rattle.larsson_encoder.proofs.encode_fitting.Tie as tie
 -- the tests go by the layout's numbers, which are those that its figures give
 number-in : (s : tie.Start) → (r : ℕ)
     → r ≡ writeNumber (s .args .layout .n) (s .args .layout .m) (s .args .layout .b) (s .args .layout .q) (s .args .layout .«message_len») (heldAs (s .args .at)) (s .args .message .now) (length (s .args .word .now))
-    → r ≡ numberUnder (coding (figuresOf (s .args .layout))) (heldAs (s .args .at)) (s .args .message .now) (s .args .word .now) (s .pre .range) (s .pre .fit)
+    → r ≡ numberUnder (coding (larssonFiguresOf (s .args .layout))) (heldAs (s .args .at)) (s .args .message .now) (s .args .word .now) (s .pre .range) (s .pre .fit)
 number-in s r e = e ∙ number-same (heldAs (s .args .at)) (s .args .message .now) (length (s .args .word .now)) refl refl refl refl (s .pre .laid .len-is)
 
 may-write-requires : tie.Need-may-write-requires
@@ -31,7 +31,7 @@ may-write-requires c κs =
 returns : tie.Need-returns
 returns c =
     let s = c .before .before .before .before in
-    told _ _ (encode-refused (coding (figuresOf (s .args .layout))) (heldAs (s .args .at)) (s .args .message .now) (s .args .word .now) (s .pre .range) (s .pre .fit) (c .before .may-write .result)
+    told _ _ (encode-refused (coding (larssonFiguresOf (s .args .layout))) (heldAs (s .args .at)) (s .args .message .now) (s .args .word .now) (s .pre .range) (s .pre .fit) (c .before .may-write .result)
     (number-in s (c .before .may-write .result) (c .before .may-write .ensures)) (c .if1 .taken))
 
 fill-requires : tie.Need-fill-requires
@@ -50,7 +50,7 @@ returns-2 c =
     let s = c .before .before .before .before .before .before .before .before in
     let m = c .before .before .before .before .before .may-write in
     let e =
-    encode-unrefused (coding (figuresOf (s .args .layout))) (heldAs (s .args .at)) (s .args .message .now) (s .args .word .now) (s .pre .range) (s .pre .fit)
+    encode-unrefused (coding (larssonFiguresOf (s .args .layout))) (heldAs (s .args .at)) (s .args .message .now) (s .args .word .now) (s .pre .range) (s .pre .fit)
     (sym (number-in s (m .result) (m .ensures)) ∙ c .before .before .before .before .if1 .left) in
     (told _ _ e .0, c .before .before .fill .ensures ∙ told _ _ e .1)
 

@@ -4,7 +4,7 @@ use borrow.Author.Needs.{needs}
 use Rattle.construction_a.specs.Figures.{Params}
 use Rattle.larsson.specs.Outcomes.{coding}
 use Rattle.params.specs.Bridge.{given}
-use Rattle.larsson_params.specs.Answer.{figuredAs}
+use Rattle.larsson_params.specs.Answer.{larssonFiguredAs}
 use Rattle.larsson_params.proofs.Answered.{fit-learnt}
 use Rattle.lent.specs.Covering.{coverBytesUnder}
 use Rattle.lent.proofs.Covering.{cover-bytes-unfit}
@@ -33,7 +33,7 @@ returns c =
     let figures = c .before .before .before .figures in
     let number = c .before .answer .given in
     sym (cover-bytes-unfit (coding (given (s .args .figures))) (s .args .map .now) (s .args .bytes .now) (number .0 .0)
-    (sym (figures .ensures .0) ∙ ap figuredAs (number .1)))
+    (sym (figures .ensures .0) ∙ ap larssonFiguredAs (number .1)))
 
 same-length : tie.Need-same-length
 same-length c = search needs

@@ -5,7 +5,7 @@ use borrow.Author.Needs.{needs}
 use Rattle.larsson.specs.Outcomes.{coding}
 use Rattle.placements.specs.Bridge.{coveredAs}
 use Rattle.larsson_params.specs.declared.LarssonLayout.{LarssonLayout}
-use Rattle.larsson_params.specs.Given.{figuresOf}
+use Rattle.larsson_params.specs.Given.{larssonFiguresOf}
 use Rattle.sub_blocks.proofs.Room.{room-of}
 use Rattle.larsson_encoder.proofs.Covering.{covers-within}
 use Rattle.lent.proofs.Covering.{cover-bytes-length, cover-bytes-put, cover-fits}
@@ -21,7 +21,7 @@ mul-if1 c = let s = c .before .before .before in omega (arith, room-of (l s) (s 
 returns : tie.Need-returns
 returns c =
     let s = c .before .before .before .before in
-    sym (cover-bytes-length (coding (figuresOf (l s))) (s .args .map .now) (s .args .bytes .now) (s .pre .range) (s .pre .fit) (c .if1 .taken))
+    sym (cover-bytes-length (coding (larssonFiguresOf (l s))) (s .args .map .now) (s .args .bytes .now) (s .pre .range) (s .pre .fit) (c .if1 .taken))
 
 cover-fitting-requires : tie.Need-cover-fitting-requires
 cover-fitting-requires c κs = search needs
@@ -41,7 +41,7 @@ returns-2 c =
     let s = c .before .before .before .before .before .before .before .before .before in
     let call = c .before .before .before .before .cover-fitting in
     let put = c .before .before .put-covered in
-    cover-bytes-put (coding (figuresOf (l s))) (s .args .map .now) (s .args .bytes .now) (s .pre .range) (s .pre .fit)
+    cover-bytes-put (coding (larssonFiguresOf (l s))) (s .args .map .now) (s .args .bytes .now) (s .pre .range) (s .pre .fit)
     (c .before .before .before .before .before .if1 .left) (coveredAs (call .result)) (call .ensures) (put .result) (put .last .1 .0) (put .ensures)
 
 pub cover-laid-spec : {M : Type 1} → statement M

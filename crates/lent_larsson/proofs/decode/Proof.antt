@@ -4,8 +4,8 @@ use borrow.Author.Needs.{needs}
 use Rattle.construction_a.specs.Figures.{Params}
 use Rattle.larsson.specs.Outcomes.{coding}
 use Rattle.params.specs.Bridge.{given}
-use Rattle.larsson_params.specs.Answer.{figuredAs}
-use Rattle.larsson_params.specs.Given.{figuresOf, Fitting}
+use Rattle.larsson_params.specs.Answer.{larssonFiguredAs}
+use Rattle.larsson_params.specs.Given.{larssonFiguresOf, LarssonLayoutFits}
 use Rattle.larsson_params.proofs.Answered.{fit-learnt}
 use Rattle.decoder.specs.Exported.{exportedUnder}
 use Rattle.decoder.proofs.Bytes.{exported-unfit}
@@ -16,7 +16,7 @@ abbrev f : tie.Start → Params
 f s = given (s .args .figures)
 
 -- the layout that was answered
-learnt : (c : tie.After-answer2) → (figuresOf (c .answer2 .given .0 .0) ≡ f (c .before .before .before .before .before .before)) × Fitting (c .answer2 .given .0 .0)
+learnt : (c : tie.After-answer2) → (larssonFiguresOf (c .answer2 .given .0 .0) ≡ f (c .before .before .before .before .before .before)) × LarssonLayoutFits (c .answer2 .given .0 .0)
 learnt c =
     let r = c .before .before .figures in
     fit-learnt (f (c .before .before .before .before .before .before)) (r .result) (c .answer2 .given .0 .0) (c .answer2 .given .1) (r .ensures .0) (r .ensures .1)
@@ -38,7 +38,7 @@ returns c =
     let s = c .before .before .before .before .before .before .before in
     let told = c .before .answer .given in
     let r = c .before .before .before .figures in
-    sym (exported-unfit (coding (f s)) (s .args .word .now) (s .args .message .now) (s .args .starts .now) (told .0 .0) (sym (r .ensures .0) ∙ ap figuredAs (told .1)))
+    sym (exported-unfit (coding (f s)) (s .args .word .now) (s .args .message .now) (s .args .starts .now) (told .0 .0) (sym (r .ensures .0) ∙ ap larssonFiguredAs (told .1)))
 
 same-length : tie.Need-same-length
 same-length c = search needs

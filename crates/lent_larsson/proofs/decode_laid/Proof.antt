@@ -7,7 +7,7 @@ use Rattle.larsson.specs.Codec.{Listed}
 use Rattle.larsson.specs.Outcomes.{coding}
 use Rattle.larsson.proofs.Exact.{larsson-exact}
 use Rattle.larsson_params.specs.declared.LarssonLayout.{LarssonLayout}
-use Rattle.larsson_params.specs.Given.{figuresOf}
+use Rattle.larsson_params.specs.Given.{larssonFiguresOf}
 use Rattle.larsson_params.proofs.Shape.{bound}
 use Rattle.decoder.proofs.Bytes.{exported-length, exported-put, starts-fit}
 use Rattle.decoder.proofs.Calls.{counts-under}
@@ -23,7 +23,7 @@ mul-if1 c = let s = c .before .before .before .before in omega (arith, bound (l 
 returns : tie.Need-returns
 returns c =
     let s = c .before .before .before .before .before in
-    sym (exported-length (coding (figuresOf (l s))) (s .args .word .now) (s .args .message .now) (s .args .starts .now) (s .pre .range) (s .pre .fit) (c .if1 .taken))
+    sym (exported-length (coding (larssonFiguresOf (l s))) (s .args .word .now) (s .args .message .now) (s .args .starts .now) (s .pre .range) (s .pre .fit) (c .if1 .taken))
 
 decode-fitting-requires : tie.Need-decode-fitting-requires
 decode-fitting-requires c κs = search needs
@@ -32,7 +32,7 @@ put-decoded-requires : tie.Need-put-decoded-requires
 put-decoded-requires c κs =
     let s = c .before .before .before .before .before .before .before .before .before .before in
     let call = c .before .before .before .decode-fitting in
-    let f = figuresOf (l s) in
+    let f = larssonFiguresOf (l s) in
     let w = s .args .word .now in
     let out = s .args .message .now in
     starts-fit (coding f) w out (s .args .starts .now) (l s .m)
@@ -50,7 +50,7 @@ returns-2 c =
     let s = c .before .before .before .before .before .before .before .before .before .before .before .before .before in
     let call = c .before .before .before .before .before .before .decode-fitting in
     let put = c .before .before .put-decoded in
-    exported-put (coding (figuresOf (l s))) (s .args .word .now) (s .args .message .now) (s .args .starts .now) (s .pre .range) (s .pre .fit)
+    exported-put (coding (larssonFiguresOf (l s))) (s .args .word .now) (s .args .message .now) (s .args .starts .now) (s .pre .range) (s .pre .fit)
     (c .before .before .before .before .before .before .before .before .if1 .left) (call .result) (call .last .1 .1 .0) (call .ensures) (put .result) (put .last .1 .0) (put .ensures (call .last .1 .1 .0))
 
 pub decode-laid-spec : {M : Type 1} → statement M

@@ -3,7 +3,7 @@ use mathlib.Core.Path.{sym, ap, _∙_}
 use native.Mathlib.Omega.{arith}
 use borrow.Author.Needs.{needs}
 use Rattle.params.specs.Bridge.{given}
-use Rattle.larsson_params.specs.Answer.{figuredAs}
+use Rattle.larsson_params.specs.Answer.{larssonFiguredAs}
 use Rattle.larsson_params.proofs.Answered.{fit-learnt}
 use Rattle.decoder.specs.Exported.{lengthIn}
 use Rattle.lent.specs.Words.{messageLenUnder}
@@ -29,12 +29,12 @@ cast-result c =
 
 returns : tie.Need-returns
 unfolding messageLenUnder
-returns c = sym (ap lengthIn (sym (c .before .before .figures .ensures .0) ∙ ap figuredAs (c .enum-told .given .1)))
+returns c = sym (ap lengthIn (sym (c .before .before .figures .ensures .0) ∙ ap larssonFiguredAs (c .enum-told .given .1)))
 
 returns-2 : tie.Need-returns-2
 unfolding messageLenUnder
 returns-2 c =
-    sym (ap lengthIn (sym (c .before .before .before .before .figures .ensures .0) ∙ ap figuredAs (c .before .before .answer .given .1)))
+    sym (ap lengthIn (sym (c .before .before .before .before .figures .ensures .0) ∙ ap larssonFiguredAs (c .before .before .answer .given .1)))
 
 pub message-len-spec : {M : Type 1} → statement M
 message-len-spec =

@@ -6,8 +6,8 @@ use borrow.Author.Needs.{needs}
 use Rattle.cells.specs.Bytes.{payloadLen}
 use Rattle.construction_a.specs.Figures.{Params}
 use Rattle.params.specs.Bridge.{given}
-use Rattle.larsson_params.specs.Answer.{figuredAs}
-use Rattle.larsson_params.specs.Given.{figuresOf, Fitting}
+use Rattle.larsson_params.specs.Answer.{larssonFiguredAs}
+use Rattle.larsson_params.specs.Given.{larssonFiguresOf, LarssonLayoutFits}
 use Rattle.larsson_params.proofs.Answered.{fit-learnt}
 use Rattle.larsson_params.proofs.Shape.{bound}
 use Rattle.lent.specs.Words.{payloadLenIn, payloadLenUnder}
@@ -20,7 +20,7 @@ abbrev f : tie.Start → Params
 f s = given (s .args .figures)
 
 -- the layout that was answered
-learnt : (c : tie.After-known-told) → (figuresOf (c .before .answer .given .0 .0) ≡ f (c .before .before .before .before)) × Fitting (c .before .answer .given .0 .0)
+learnt : (c : tie.After-known-told) → (larssonFiguresOf (c .before .answer .given .0 .0) ≡ f (c .before .before .before .before)) × LarssonLayoutFits (c .before .answer .given .0 .0)
 learnt c =
     let r = c .before .before .before .figures in
     let told = c .before .answer .given in
@@ -46,7 +46,7 @@ cast-result c =
 returns : tie.Need-returns
 unfolding payloadLenUnder
 returns c =
-    sym (ap (payloadLenIn (f (c .before .before .before) .q)) (sym (c .before .before .figures .ensures .0) ∙ ap figuredAs (c .enum-told .given .1)))
+    sym (ap (payloadLenIn (f (c .before .before .before) .q)) (sym (c .before .before .figures .ensures .0) ∙ ap larssonFiguredAs (c .enum-told .given .1)))
 
 returns-2 : tie.Need-returns-2
 unfolding payloadLenUnder
@@ -54,7 +54,7 @@ returns-2 c =
     let g = f (c .before .before .before .before .before) in
     let l = c .before .before .answer .given .0 .0 in
     c .payload-len .ensures ∙ ap (λ (p : Params). payloadLen (p .q) (l .«message_len»)) (learnt (c .before) .0)
-    ∙ sym (ap (payloadLenIn (g .q)) (sym (c .before .before .before .before .figures .ensures .0) ∙ ap figuredAs (c .before .before .answer .given .1)))
+    ∙ sym (ap (payloadLenIn (g .q)) (sym (c .before .before .before .before .figures .ensures .0) ∙ ap larssonFiguredAs (c .before .before .answer .given .1)))
 
 pub payload-len-spec : {M : Type 1} → statement M
 payload-len-spec =

@@ -7,12 +7,12 @@ use lib.ListN.{getD}
 use Rattle.combinatorics.proofs.Cases.{eqb-same, eqb-other}
 use Rattle.combinatorics.specs.Stretch.{lastEnd}
 use Rattle.combinatorics.proofs.Scan.{last-none, last-here, last-before}
-use Rattle.construction_a.specs.Outcomes.{worn}
+use Rattle.construction_a.specs.Outcomes.{defectAt}
 use Rattle.placements.proofs.last_end.Statement.{statement}
 use Rattle.placements.proofs.last_end.Tie as tie
 
 abbrev Inv-loop : tie.InvT-loop
-Inv-loop map below end₀ end = (end ≤ below) × (lastEnd (worn map) end ≡ lastEnd (worn map) below)
+Inv-loop map below end₀ end = (end ≤ below) × (lastEnd (defectAt map) end ≡ lastEnd (defectAt map) below)
 
 abbrev μ-loop : tie.MeasureT-loop
 μ-loop map below end₀ end = end
@@ -30,7 +30,7 @@ returns : tie.Need-returns Inv-loop μ-loop
 returns c =
     let s = c .before .before .before in
     let map = s .before .args .map .now in
-    sym (last-here (worn map) (s .loop .end) (omega arith) (eqb-same (getD map (s .loop .end - 1) 0) 1 (search needs))) ∙ s .loop .inv .1
+    sym (last-here (defectAt map) (s .loop .end) (omega arith) (eqb-same (getD map (s .loop .end - 1) 0) 1 (search needs))) ∙ s .loop .inv .1
 
 loop-less : tie.Need-loop-less Inv-loop μ-loop
 loop-less c = search needs
@@ -39,14 +39,14 @@ loop-again : tie.Need-loop-again Inv-loop μ-loop
 loop-again c =
     let s = c .before .before .before in
     let map = s .before .args .map .now in
-    (omega arith, sym (last-before (worn map) (s .loop .end) (eqb-other (getD map (s .loop .end - 1) 0) 1 (search needs))) ∙ s .loop .inv .1)
+    (omega arith, sym (last-before (defectAt map) (s .loop .end) (eqb-other (getD map (s .loop .end - 1) 0) 1 (search needs))) ∙ s .loop .inv .1)
 
 returns-2 : tie.Need-returns-2 Inv-loop μ-loop
 returns-2 c =
     let s = c .before in
     let map = s .before .args .map .now in
     let e : s .loop .end ≡ 0 = omega arith in
-    sym (last-none (worn map)) ∙ ap (lastEnd (worn map)) (sym e) ∙ s .loop .inv .1
+    sym (last-none (defectAt map)) ∙ ap (lastEnd (defectAt map)) (sym e) ∙ s .loop .inv .1
 
 pub last-end-spec : {M : Type 1} → statement M
 last-end-spec =

@@ -7,13 +7,13 @@ use Rattle.combinatorics.specs.Bursts.{placements, coverRank}
 use Rattle.combinatorics.proofs.Cases.{leb-holds, leb-fails}
 use Rattle.combinatorics.proofs.Scan.{burstStart, burst-room, last-stays, scan-covers, scan-fails}
 use Rattle.construction_a.specs.Figures.{maxWord}
-use Rattle.construction_a.specs.Outcomes.{worn}
+use Rattle.construction_a.specs.Outcomes.{defectAt}
 use Rattle.placements.proofs.Scanning.{Scanning, scan-first, start-is, scan-turn, end-is, found-is}
 use Rattle.placements.proofs.least_cover.Statement.{statement}
 use Rattle.placements.proofs.least_cover.Tie as tie
 
 abbrev Inv-loop : tie.InvT-loop
-Inv-loop n m b map count found₀ start₀ end₀ i₀ found start end i = Scanning n m b (worn map) i start end found
+Inv-loop n m b map count found₀ start₀ end₀ i₀ found start end i = Scanning n m b (defectAt map) i start end found
 
 abbrev μ-loop : tie.MeasureT-loop
 μ-loop n m b map count found₀ start₀ end₀ i₀ found start end i = i
@@ -27,7 +27,7 @@ last-end-requires c κs = search needs
 loop-holds : tie.Need-loop-holds Inv-loop μ-loop
 loop-holds c =
     let a = c .before .before .args in
-    rw (c .last-end .ensures) (scan-first (a .n) (a .m) (a .b) (worn (a .map .now)) (omega arith))
+    rw (c .last-end .ensures) (scan-first (a .n) (a .m) (a .b) (defectAt (a .map .now)) (omega arith))
 
 sub-i : tie.Need-sub-i Inv-loop μ-loop
 sub-i c = search needs
@@ -50,7 +50,7 @@ burst-start-requires c κs = fits c
 -- the start that is found
 is : (c : tie.After-burst-start Inv-loop μ-loop)
     → c .burst-start .result
-    ≡ burstStart (worn (c .before .before .before .before .before .args .map .now)) (c .before .before .before .before .before .args .b)
+    ≡ burstStart (defectAt (c .before .before .before .before .before .args .map .now)) (c .before .before .before .before .before .args .b)
     (c .before .before .loop .i) (c .before .before .loop .start)
 is c = c .burst-start .ensures ∙ start-is (c .before .before .loop .inv) (omega arith)
 
@@ -58,7 +58,7 @@ within : (c : tie.After-burst-start Inv-loop μ-loop) → c .burst-start .result
 within c =
     let a = c .before .before .before .before .before .args in
     let l = c .before .before .loop in
-    omega (arith, is c, burst-room (worn (a .map .now)) (a .b) (l .i) (l .start) (omega arith) (l .inv .room) .1)
+    omega (arith, is c, burst-room (defectAt (a .map .now)) (a .b) (l .i) (l .start) (omega arith) (l .inv .room) .1)
 
 cast-found : tie.Need-cast-found Inv-loop μ-loop
 cast-found c = omega (arith, within c)
@@ -87,7 +87,7 @@ loop-again-2 : tie.Need-loop-again-2 Inv-loop μ-loop
 loop-again-2 c =
     let s = c .before .before .before in
     let a = s .before .before .before .args in
-    let stays = last-stays (worn (a .map .now)) (c .before .burst-start .result) (s .loop .start) (within (c .before)) (omega (arith, s .loop .inv .last)) in
+    let stays = last-stays (defectAt (a .map .now)) (c .before .burst-start .result) (s .loop .start) (within (c .before)) (omega (arith, s .loop .inv .last)) in
     scan-turn (s .loop .inv) (omega arith) (omega arith) (is (c .before)) (s .loop .inv .last ∙ sym stays)
 
 none-requires : tie.Need-none-requires Inv-loop μ-loop
@@ -96,7 +96,7 @@ none-requires c κs = search needs
 -- the scan is over
 over : (c : tie.After-loop Inv-loop μ-loop)
     → Scanning (c .before .before .before .before .args .n) (c .before .before .before .before .args .m) (c .before .before .before .before .args .b)
-    (worn (c .before .before .before .before .args .map .now)) 0 (c .before .loop .start) (c .before .loop .end) (c .before .loop .found)
+    (defectAt (c .before .before .before .before .args .map .now)) 0 (c .before .loop .start) (c .before .loop .end) (c .before .loop .found)
 over c =
     let e : c .before .loop .i ≡ 0 = omega arith in
     rw e at (c .before .loop .inv)
@@ -106,7 +106,7 @@ returns c =
     let s = c .before .before in
     let a = s .before .before .before .args in
     let h = s .before .before .before .pre .0 in
-    let w = worn (a .map .now) in
+    let w = defectAt (a .map .now) in
     let f = over (c .before) in
     let l = scan-covers (a .n) (a .m) (a .b) w (h .some) (h .within) (sym (end-is f) ∙ c .if2 .taken) in
     let t = leb-holds (suc (coverRank (a .n) (a .m) (a .b) w)) (placements (a .n) (a .m) (a .b)) l in
@@ -117,7 +117,7 @@ returns-2 c =
     let s = c .before .before .before in
     let a = s .before .before .before .args in
     let h = s .before .before .before .pre .0 in
-    let w = worn (a .map .now) in
+    let w = defectAt (a .map .now) in
     let f = over (c .before .before) in
     let l = scan-fails (a .n) (a .m) (a .b) w (h .some) (h .within) (λ e. c .before .if2 .left (end-is f ∙ e)) in
     let t = leb-fails (suc (coverRank (a .n) (a .m) (a .b) w)) (placements (a .n) (a .m) (a .b)) (omega arith) in

@@ -6,7 +6,7 @@ use Rattle.cells.proofs.Walk.{rest-is}
 use Rattle.jobs.specs.Jobs.{needsOpen}
 use Rattle.jobs.specs.Slots.{entries}
 use Rattle.jobs.specs.Table.{standing, lookup}
-use Rattle.prescription.specs.Outcomes.{answered, prescriptionAnswered, readOut}
+use Rattle.prescription.specs.Outcomes.{answered, prescriptionAnswered, readTextOut}
 use Rattle.prescriptioncodec.specs.PrescriptionWrite.{numberLen}
 use Rattle.prescriptioncodec.specs.PrescriptionRead.{ofPayload}
 use Rattle.prescriptioncodec.proofs.Reading.{no-prescription, not-open, handed}
@@ -47,7 +47,7 @@ returns c =
     let y = c .before .before .before .before .before .before .before .unspell .last .1 .1 .1 .0 in
     let text = c .before .before .read-text in
     let told = c .enum-told .given in
-    no-prescription es y (told .0 .0) (ap prescriptionAnswered (sym (told .1)) ∙ text .ensures ∙ ap readOut (rest-is numberLen y)) ∙ ap (ofPayload es) (c .before .before .before .before .before .before .before .unspell .ensures)
+    no-prescription es y (told .0 .0) (ap prescriptionAnswered (sym (told .1)) ∙ text .ensures ∙ ap readTextOut (rest-is numberLen y)) ∙ ap (ofPayload es) (c .before .before .before .before .before .before .before .unspell .ensures)
 
 job-number-requires : tie.Need-job-number-requires
 job-number-requires c κs = search needs
@@ -65,7 +65,7 @@ returns-2 c =
     let y = c .before .before .before .before .before .before .before .before .before .before .before .before .unspell .last .1 .1 .1 .0 in
     let text = c .before .before .before .before .before .before .before .read-text in
     let told = c .before .before .before .before .before .answer .given in
-    not-open es y (told .0 .0) (ap prescriptionAnswered (sym (told .1)) ∙ text .ensures ∙ ap readOut (rest-is numberLen y)) (c .before .needs-open .result)
+    not-open es y (told .0 .0) (ap prescriptionAnswered (sym (told .1)) ∙ text .ensures ∙ ap readTextOut (rest-is numberLen y)) (c .before .needs-open .result)
     (c .before .needs-open .ensures ∙ ap (λ (n : ℕ). needsOpen (standing (lookup es n))) (c .before .before .job-number .ensures)) (c .if1 .taken)
     ∙ ap (ofPayload es) (c .before .before .before .before .before .before .before .before .before .before .before .before .unspell .ensures)
 
@@ -81,7 +81,7 @@ returns-3 c =
     let told = c .before .before .before .before .before .answer .given in
     let number = c .before .before .job-number in
     ap (λ (n : ℕ). answered (record { number = n; prescription = told .0 .0 })) (number .ensures)
-    ∙ handed es y (told .0 .0) (ap prescriptionAnswered (sym (told .1)) ∙ text .ensures ∙ ap readOut (rest-is numberLen y))
+    ∙ handed es y (told .0 .0) (ap prescriptionAnswered (sym (told .1)) ∙ text .ensures ∙ ap readTextOut (rest-is numberLen y))
     (ap (λ (n : ℕ). needsOpen (standing (lookup es n))) (sym (number .ensures)) ∙ sym (c .before .needs-open .ensures) ∙ c .if1 .left)
     ∙ ap (ofPayload es) (c .before .before .before .before .before .before .before .before .before .before .before .before .unspell .ensures)
 

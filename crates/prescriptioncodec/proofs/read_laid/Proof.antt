@@ -9,7 +9,7 @@ use Rattle.construction_a.specs.Figures.{maxWord}
 use Rattle.params.specs.Given.{codingIn}
 use Rattle.params.specs.Given.{shortWord}
 use Rattle.jobs.specs.Slots.{entries}
-use Rattle.jobcodec.specs.Given.{Readable}
+use Rattle.jobcodec.specs.Given.{ReadableJob}
 use Rattle.jobcodec.proofs.Calls.{alphabet-few, bytes-are, message-short, room-is, ready}
 use Rattle.prescriptioncodec.proofs.Payload.{payload-within, lent-is}
 use Rattle.prescriptioncodec.proofs.Reading.{read-few}
@@ -25,7 +25,7 @@ within s count e room le = omega (arith, payload-within (s .args .layout) count 
 
 -- message and payload, lent in arrays with room for them
 readable : (c : tie.Else1) (room : ℕ) → (let a = c .before .before .before .args in a .layout .«message_len» ≤ room
-    → Readable (a .layout) (entries (a .table)) (take {A = ℕ} (a .layout .«message_len») (replicate room 0)) (take {A = ℕ} (c .before .payload-len .result) (replicate room 0)))
+    → ReadableJob (a .layout) (entries (a .table)) (take {A = ℕ} (a .layout .«message_len») (replicate room 0)) (take {A = ℕ} (c .before .payload-len .result) (replicate room 0)))
 readable c room le =
     let s = c .before .before .before in
     let l = s .args .layout in

@@ -12,7 +12,7 @@ use Rattle.construction_a.specs.Figures.{maxWord}
 use Rattle.params.specs.Bridge.{codingOf}
 use Rattle.params.specs.Given.{shortWord}
 use Rattle.jobcodec.specs.JobRead.{jobReadUnder}
-use Rattle.records.specs.Records.{headLen, payloadLenOf}
+use Rattle.records.specs.Records.{recordHeadLen, payloadLenOf}
 use Rattle.transfer.specs.Steps.{readStep, readOut}
 use Rattle.records.specs.Bridge.{sessionOf}
 use Rattle.transfer.specs.Bridge.{Shown}
@@ -39,7 +39,7 @@ module _ (c : tie.After-payload-len) (room : ℕ) (le : c .payload-len .result �
 
   line-is : (r : StepAnswer) (line : List ℕ)
       → (let a = c .before .before .before .args in let bytes = a .received .now in let s = sessionOf (a .session) in
-      Shown r (a .line .now) line (readStep s (jobReadUnder (codingOf (a .figures)) (s .table) (take (length bytes - headLen) (drop headLen bytes)) (take {A = ℕ} (c .payload-len .result) (replicate room 0))))
+      Shown r (a .line .now) line (readStep s (jobReadUnder (codingOf (a .figures)) (s .table) (take (length bytes - recordHeadLen) (drop recordHeadLen bytes)) (take {A = ℕ} (c .payload-len .result) (replicate room 0))))
       → Shown r (a .line .now) line (readOut s bytes (some (a .figures))))
   line-is r line =
       let s = c .before .before .before in
@@ -48,8 +48,8 @@ module _ (c : tie.After-payload-len) (room : ℕ) (le : c .payload-len .result �
       let bytes = a .received .now in
       let count = c .payload-len in
       let is = s .pre .numbers in
-      shown-read r (a .line .now) line (sessionOf (a .session)) (codingOf (a .figures)) (take (length bytes - headLen) (drop headLen bytes)) (drop headLen bytes)
-      (take {A = ℕ} (count .result) (replicate room 0)) (replicate {A = ℕ} (payloadLenOf (a .figures)) 0) (rest-all headLen bytes)
+      shown-read r (a .line .now) line (sessionOf (a .session)) (codingOf (a .figures)) (take (length bytes - recordHeadLen) (drop recordHeadLen bytes)) (drop recordHeadLen bytes)
+      (take {A = ℕ} (count .result) (replicate room 0)) (replicate {A = ℕ} (payloadLenOf (a .figures)) 0) (rest-all recordHeadLen bytes)
       (zeros (count .result) room le ∙ ap (λ (k : ℕ). replicate {A = ℕ} k 0) (count .ensures ∙ ap₂ payloadLen (is .alphabet-is) (is .len-is)))
 
 sub-read-payload : tie.Need-sub-read-payload

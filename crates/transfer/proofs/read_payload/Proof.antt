@@ -9,7 +9,7 @@ use Rattle.params.specs.Bridge.{codingOf}
 use Rattle.jobs.specs.Slots.{entries}
 use Rattle.jobcodec.specs.JobRead.{jobReadUnder}
 use Rattle.text.specs.Text.{hex}
-use Rattle.records.specs.Session.{after}
+use Rattle.records.specs.Session.{nextSession}
 use Rattle.lines.specs.Lines.{refusalLine, servedLine, letterR}
 use Rattle.records.specs.Bridge.{sessionOf}
 use Rattle.transfer.proofs.Serving.{shown-goes, shown-refused, shown-served, read-number}
@@ -40,7 +40,7 @@ returns c =
     let line = a .line .now in
     let out = jobReadUnder (codingOf (a .figures)) (s .table) (a .word .now) (a .payload .now) in
     shown-refused (c .counted .result) line (put .last .0) s letterR (job .result) (out .answer) (hex (take 4 (out .payload)) ∷ hex (drop 4 (out .payload)) ∷ []) (job .ensures .0) (c .before .before .before .before .before .if1 .taken)
-    (shown-goes (c .counted .result) line (put .last .0) (after s (s .figures) (s .table)) (refusalLine letterR (job .result)) (put .result) (c .counted .ensures) (put .ensures))
+    (shown-goes (c .counted .result) line (put .last .0) (nextSession s (s .figures) (s .table)) (refusalLine letterR (job .result)) (put .result) (c .counted .ensures) (put .ensures))
 
 put-payload-requires : tie.Need-put-payload-requires
 put-payload-requires c κs =
@@ -71,7 +71,7 @@ returns-2 c =
     shown-served (c .counted2 .result) line (put .last .0) s letterR (job .result) (out .answer) (hex (take 4 payload) ∷ hex (drop 4 payload) ∷ [])
     (hex (take 4 (out .payload)) ∷ hex (drop 4 (out .payload)) ∷ []) (job .ensures .0) (c .before .before .before .before .before .before .if1 .left)
     (ap (λ (x : List ℕ). hex (take 4 x) ∷ hex (drop 4 x) ∷ []) (job .ensures .1))
-    (shown-goes (c .counted2 .result) line (put .last .0) (after s (s .figures) (s .table)) (servedLine letterR (hex (take 4 payload) ∷ hex (drop 4 payload) ∷ [])) (put .result) (c .counted2 .ensures) (put .ensures))
+    (shown-goes (c .counted2 .result) line (put .last .0) (nextSession s (s .figures) (s .table)) (servedLine letterR (hex (take 4 payload) ∷ hex (drop 4 payload) ∷ [])) (put .result) (c .counted2 .ensures) (put .ensures))
 
 pub read-payload-spec : {M : Type 1} → statement M
 read-payload-spec =

@@ -10,7 +10,7 @@ use Rattle.params.specs.Bridge.{codingOf}
 use Rattle.params.specs.declared.Figures.{Figures}
 use Rattle.jobs.specs.Letters.{kindOf, callBy}
 use Rattle.payloads.specs.Payload.{jobNumber}
-use Rattle.records.specs.Records.{headLen, letterOf, recordLen, isWhole}
+use Rattle.records.specs.Records.{recordHeadLen, letterOf, recordLen, isWhole}
 use Rattle.transfer.specs.Steps.{Step, figuresStep, callStep}
 use Rattle.records.specs.Bridge.{sessionOf}
 use Rattle.transfer.specs.Bridge.{Shown}
@@ -77,7 +77,7 @@ job-number-requires c κs =
     let from = sessionOf (s .args .session) in
     let other = c .before .match .rest in
     let is = len-call from (letterOf bytes) bytes (other .0 .0 .0 .1) (other .0 .0 .1) (other .0 .1) (other .1) (s .pre .whole) in
-    omega (arith, whole-len bytes (recordLen from (letterOf bytes)) 7 (is .0) (s .pre .whole), ap (λ (x : List ℕ). length x) (rest-all headLen bytes), length-drop headLen bytes)
+    omega (arith, whole-len bytes (recordLen from (letterOf bytes)) 7 (is .0) (s .pre .whole), ap (λ (x : List ℕ). length x) (rest-all recordHeadLen bytes), length-drop recordHeadLen bytes)
 
 serve-call-requires : tie.Need-serve-call-requires
 serve-call-requires c κs = search needs
@@ -141,7 +141,7 @@ returns-5 c =
     let is = len-call from letter bytes (other .0 .0 .0 .1) (other .0 .0 .1) (other .0 .1) (other .1) (s .pre .whole) in
     subst (λ (o : Step). Shown (done .result) (a .line .now) (done .last .1 .1 .1 .0) o) (sym (serve-call-is from letter bytes (other .0 .0 .0 .1) (other .0 .0 .1) (is .1)))
     (subst (λ (n : ℕ). Shown (done .result) (a .line .now) (done .last .1 .1 .1 .0) (callStep from letter (callBy (kindOf letter) (from .table) n)))
-    (c .before .before .before .before .job-number .ensures ∙ ap jobNumber (rest-all headLen bytes)) (done .ensures))
+    (c .before .before .before .before .job-number .ensures ∙ ap jobNumber (rest-all recordHeadLen bytes)) (done .ensures))
 
 pub serve-spec : {M : Type 1} → statement M
 serve-spec =

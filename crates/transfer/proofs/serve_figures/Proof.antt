@@ -7,7 +7,7 @@ use Rattle.cells.specs.Outcomes.{FiguresOut, figured, figuresUnder}
 use Rattle.params.specs.Answer.{figuredAs}
 use Rattle.params.specs.Bridge.{codingOf}
 use Rattle.text.specs.Text.{decimal}
-use Rattle.records.specs.Session.{after}
+use Rattle.records.specs.Session.{nextSession}
 use Rattle.lines.specs.Lines.{refusalLine, servedLine}
 use Rattle.transfer.specs.Steps.{figuresStep}
 use Rattle.records.specs.Bridge.{sessionOf}
@@ -50,7 +50,7 @@ returns c =
     let line = a .line .now in
     let e = sym (c .before .before .before .before .before .before .before .before .layout .ensures .0) ∙ ap figuredAs (told .1) in
     subst (λ (o : FiguresOut). Shown (c .counted .result) line (put .last .0) (figuresStep s (a .letter) f o)) (sym e)
-    (shown-goes (c .counted .result) line (put .last .0) (after s (s .figures) (s .table)) (refusalLine (a .letter) (told .0 .0)) (put .result) (c .counted .ensures) (put .ensures))
+    (shown-goes (c .counted .result) line (put .last .0) (nextSession s (s .figures) (s .table)) (refusalLine (a .letter) (told .0 .0)) (put .result) (c .counted .ensures) (put .ensures))
 
 same-length-2 : tie.Need-same-length-2
 same-length-2 c = search needs
@@ -66,7 +66,7 @@ returns-2 c =
     let line = a .line .now in
     let e : figured (l .«placement_count») (l .«index_tail») (l .«message_len») ≡ figuresUnder (codingOf f) = sym (ap figuredAs (told .1)) ∙ c .before .before .before .before .before .before .before .before .before .layout .ensures .0 in
     subst (λ (o : FiguresOut). Shown (c .after .result) line (put .last .0) (figuresStep s (a .letter) f o)) e
-    (shown-goes (c .after .result) line (put .last .0) (after s (some f) (s .table))
+    (shown-goes (c .after .result) line (put .last .0) (nextSession s (some f) (s .table))
     (servedLine (a .letter) (decimal (l .«placement_count») ∷ decimal (l .«index_tail») ∷ decimal (l .«message_len») ∷ [])) (put .result) (c .after .ensures) (put .ensures))
 
 pub serve-figures-spec : {M : Type 1} → statement M

@@ -14,7 +14,7 @@ use Rattle.params.specs.Bridge.{codingOf}
 use Rattle.params.specs.Given.{shortWord}
 use Rattle.placements.specs.Bridge.{heldAs}
 use Rattle.jobcodec.specs.JobWrite.{jobWriteUnder}
-use Rattle.records.specs.Records.{headLen, twoBytes, startsIn, payloadOf}
+use Rattle.records.specs.Records.{recordHeadLen, twoBytes, recordStarts, payloadOf}
 use Rattle.transfer.specs.Steps.{writeStep, writeOut}
 use Rattle.records.specs.Bridge.{sessionOf}
 use Rattle.transfer.specs.Bridge.{Shown}
@@ -45,7 +45,7 @@ module _ (c : tie.After-placement-in) (room : ℕ) (le : c .before .before .befo
   lent-is = length-take-le {A = ℕ} (c .before .before .before .args .layout .n) (replicate room 0) (omega (arith, length-replicate {A = ℕ} room 0))
 
   line-is : (r : StepAnswer) (line : List ℕ)
-      → (let a = c .before .before .before .args in let from = headLen + 2 * a .layout .m in let bytes = a .received .now in let s = sessionOf (a .session) in
+      → (let a = c .before .before .before .args in let from = recordHeadLen + 2 * a .layout .m in let bytes = a .received .now in let s = sessionOf (a .session) in
       Shown r (a .line .now) line (writeStep s (jobWriteUnder (codingOf (a .figures)) (s .table) (heldAs (c .placement-in .result)) (take (length bytes - from) (drop from bytes)) (take {A = ℕ} (a .layout .n) (replicate room 0))))
       → Shown r (a .line .now) line (writeOut s bytes (some (a .figures))))
   line-is r line =
@@ -53,12 +53,12 @@ module _ (c : tie.After-placement-in) (room : ℕ) (le : c .before .before .befo
       let a = s .args in
       let l = a .layout in
       let bytes = a .received .now in
-      let from = headLen + 2 * l .m in
+      let from = recordHeadLen + 2 * l .m in
       let m = s .pre .numbers .bursts-is in
-      shown-write r (a .line .now) line (sessionOf (a .session)) (codingOf (a .figures)) (heldAs (c .placement-in .result)) (startsIn (a .figures) bytes)
+      shown-write r (a .line .now) line (sessionOf (a .session)) (codingOf (a .figures)) (heldAs (c .placement-in .result)) (recordStarts (a .figures) bytes)
       (take (length bytes - from) (drop from bytes)) (payloadOf (a .figures) bytes) (take {A = ℕ} (l .n) (replicate room 0)) (replicate {A = ℕ} (codingOf (a .figures) .codec .wordLen) 0)
-      (c .placement-in .ensures ∙ ap (λ (k : ℕ). held (tabulate k 0 (λ i. twoBytes bytes (headLen + 2 * i)))) m)
-      (rest-all from bytes ∙ ap (λ (k : ℕ). drop (headLen + 2 * k) bytes) m) (zeros (l .n) room le ∙ ap (λ (k : ℕ). replicate {A = ℕ} k 0) (s .pre .numbers .word-is))
+      (c .placement-in .ensures ∙ ap (λ (k : ℕ). held (tabulate k 0 (λ i. twoBytes bytes (recordHeadLen + 2 * i)))) m)
+      (rest-all from bytes ∙ ap (λ (k : ℕ). drop (recordHeadLen + 2 * k) bytes) m) (zeros (l .n) room le ∙ ap (λ (k : ℕ). replicate {A = ℕ} k 0) (s .pre .numbers .word-is))
 
 sub-write-word : tie.Need-sub-write-word
 sub-write-word c = search needs

@@ -7,7 +7,7 @@ use Rattle.params.specs.Bridge.{codingOf}
 use Rattle.placements.specs.Bridge.{heldAs}
 use Rattle.jobcodec.specs.JobWrite.{jobWriteUnder}
 use Rattle.text.specs.Text.{hex}
-use Rattle.records.specs.Session.{after}
+use Rattle.records.specs.Session.{nextSession}
 use Rattle.lines.specs.Lines.{refusalLine, servedLine, letterW}
 use Rattle.records.specs.Bridge.{sessionOf}
 use Rattle.transfer.proofs.Serving.{shown-goes, shown-refused, shown-served}
@@ -38,7 +38,7 @@ returns c =
     let line = a .line .now in
     let out = jobWriteUnder (codingOf (a .figures)) (s .table) (heldAs (a .at)) (a .payload .now) (a .word .now) in
     shown-refused (c .counted .result) line (put .last .0) s letterW (job .result) (out .answer) (hex (out .word) ∷ []) (job .ensures .0) (c .before .before .before .before .before .if1 .taken)
-    (shown-goes (c .counted .result) line (put .last .0) (after s (s .figures) (s .table)) (refusalLine letterW (job .result)) (put .result) (c .counted .ensures) (put .ensures))
+    (shown-goes (c .counted .result) line (put .last .0) (nextSession s (s .figures) (s .table)) (refusalLine letterW (job .result)) (put .result) (c .counted .ensures) (put .ensures))
 
 put-word-requires : tie.Need-put-word-requires
 put-word-requires c κs = search needs
@@ -63,7 +63,7 @@ returns-2 c =
     let out = jobWriteUnder (codingOf (a .figures)) (s .table) (heldAs (a .at)) (a .payload .now) (a .word .now) in
     shown-served (c .counted2 .result) line (put .last .0) s letterW (job .result) (out .answer) (hex word ∷ []) (hex (out .word) ∷ []) (job .ensures .0) (c .before .before .before .before .before .before .if1 .left)
     (ap (λ (x : List ℕ). hex x ∷ []) (job .ensures .1))
-    (shown-goes (c .counted2 .result) line (put .last .0) (after s (s .figures) (s .table)) (servedLine letterW (hex word ∷ [])) (put .result) (c .counted2 .ensures) (put .ensures))
+    (shown-goes (c .counted2 .result) line (put .last .0) (nextSession s (s .figures) (s .table)) (servedLine letterW (hex word ∷ [])) (put .result) (c .counted2 .ensures) (put .ensures))
 
 pub write-word-spec : {M : Type 1} → statement M
 write-word-spec =

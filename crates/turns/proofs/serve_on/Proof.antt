@@ -6,7 +6,7 @@ use lib.ListN.{length}
 use Rattle.records.specs.Records.{neededFor}
 use Rattle.records.specs.Bridge.{sessionOf}
 use Rattle.turns.specs.View.{bufferLen, View, readyAt, isServable, advanceOut}
-use Rattle.turns.specs.State.{Within, viewOf, waitingIn}
+use Rattle.turns.specs.State.{WithinBuffers, viewOf, waitingIn}
 use Rattle.turns.proofs.Serving.{advance-rests, advance-serves, turnsAt, serves-less}
 use Rattle.turns.proofs.Views.{room-le, servable-is, cut-ready, cut-room, both-true}
 use borrow.Author.Needs.{needs}
@@ -16,7 +16,7 @@ use Rattle.turns.proofs.serve_on.Tie as tie
 
 abbrev Inv-loop : tie.InvT-loop
 Inv-loop input output₀ line₀ now₀ output line now =
-    Within now × (length output ≡ bufferLen) × (advanceOut (viewOf now input output) ≡ advanceOut (viewOf now₀ input output₀)) × (now .repeats ≡ now₀ .repeats)
+    WithinBuffers now × (length output ≡ bufferLen) × (advanceOut (viewOf now input output) ≡ advanceOut (viewOf now₀ input output₀)) × (now .repeats ≡ now₀ .repeats)
 
 abbrev μ-loop : tie.MeasureT-loop
 μ-loop input output₀ line₀ now₀ output line now = turnsAt (now .phase) (length (waitingIn now input))

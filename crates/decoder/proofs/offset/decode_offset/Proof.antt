@@ -8,7 +8,7 @@ use Rattle.cells.specs.Outcomes.{decodedFrom}
 use Rattle.construction_b.specs.Figures.{LongParams, parts, headOf, partLen}
 use Rattle.construction_b.specs.Reading.{before, written, endAt, readPart}
 use Rattle.construction_b.proofs.Figures.{rank-is}
-use Rattle.params.specs.Given.{figuresOf, longOf, LongFitting}
+use Rattle.params.specs.Given.{figuresOf, longOf, LongLayoutFits}
 use Rattle.params.specs.declared.Layout.{Layout}
 use Rattle.params.proofs.LongFitting.{long-shaped}
 use Rattle.params.proofs.Shape.{bound, long}
@@ -24,7 +24,7 @@ l s = s .args .layout
 abbrev f : tie.Start → LongParams
 f s = longOf (figuresOf (s .args .layout))
 
-abbrev g : (s : tie.Start) → LongFitting (l s)
+abbrev g : (s : tie.Start) → LongLayoutFits (l s)
 g s = s .pre .0 .fitting
 
 -- the part that has the burst's end

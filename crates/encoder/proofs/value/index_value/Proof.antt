@@ -4,7 +4,7 @@ use native.Mathlib.Omega.{arith}
 use borrow.Author.Needs.{needs}
 use Rattle.combinatorics.proofs.Bursts.{of-placed}
 use Rattle.construction_a.proofs.Ranking.{rank-bijection}
-use Rattle.params.specs.Given.{figuresOf, Fitting, LongFitting, FittingWith, spelledWith}
+use Rattle.params.specs.Given.{figuresOf, LayoutFits, LongLayoutFits, LayoutFitsWith, spelledWith}
 use Rattle.params.specs.declared.Layout.{Layout}
 use Rattle.params.specs.declared.Spells.{Spells}
 use Rattle.params.proofs.Fitting.{served, bound, long}
@@ -21,8 +21,8 @@ enum-told : tie.Need-enum-told
 enum-told c = search needs
 
 -- figures of Construction A
-ranked : (c : tie.After-enum-told) → Fitting (l (c .before .before))
-ranked c = subst (λ (s : Spells). FittingWith s (l (c .before .before))) (c .enum-told .given .1) (c .before .before .pre .0)
+ranked : (c : tie.After-enum-told) → LayoutFits (l (c .before .before))
+ranked c = subst (λ (s : Spells). LayoutFitsWith s (l (c .before .before))) (c .enum-told .given .1) (c .before .before .pre .0)
 
 cast-rank : tie.Need-cast-rank
 cast-rank c = let s = c .before .before .before in omega (arith, long (l s) (ranked (c .before)), bound (l s) (ranked (c .before)) .n-most)
@@ -39,8 +39,8 @@ enum-told-2 : tie.Need-enum-told-2
 enum-told-2 c = search needs
 
 -- figures of Construction B
-long-burst : (c : tie.After-enum-told2) → LongFitting (l (c .before .before))
-long-burst c = subst (λ (s : Spells). FittingWith s (l (c .before .before))) (c .enum-told2 .given .1) (c .before .before .pre .0)
+long-burst : (c : tie.After-enum-told2) → LongLayoutFits (l (c .before .before))
+long-burst c = subst (λ (s : Spells). LayoutFitsWith s (l (c .before .before))) (c .enum-told2 .given .1) (c .before .before .pre .0)
 
 end-offset-requires : tie.Need-end-offset-requires
 end-offset-requires c κs = (long-burst c, c .before .before .pre .1)

@@ -4,7 +4,7 @@ use Prim.Native.Nat.{ℕ, _+_, _*_, _-_, _≤_, _<_}
 use native.Mathlib.Omega.{arith}
 use borrow.Author.Needs.{needs}
 use lib.ListN.{length, getD, length-set}
-use Rattle.combinatorics.specs.Stretch.{stretch}
+use Rattle.combinatorics.specs.Stretch.{consecutive}
 use Rattle.combinatorics.proofs.Stretch.{take-is, filled-on}
 use Rattle.construction_a.specs.Figures.{maxBursts}
 use Rattle.heads.proofs.Listed.{index-some}
@@ -48,7 +48,7 @@ returns : tie.Need-returns Inv-loop μ-loop
 returns c =
     let t = c .before .loop in
     let a = c .before .before .args in
-    index-some (a .m) (t .blocks) (stretch (a .m) (a .part * a .m)) (take-is (a .m) (a .part * a .m) (t .blocks) (λ x. x) (omega arith) (λ x l. t .inv .3 x (omega arith)))
+    index-some (a .m) (t .blocks) (consecutive (a .m) (a .part * a .m)) (take-is (a .m) (a .part * a .m) (t .blocks) (λ x. x) (omega arith) (λ x l. t .inv .3 x (omega arith)))
 
 pub whole-part-spec : {M : Type 1} → statement M
 whole-part-spec =

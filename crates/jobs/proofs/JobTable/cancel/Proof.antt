@@ -3,14 +3,15 @@ use mathlib.Core.Path.{refl, _∙_}
 use borrow.Author.Needs.{needs}
 use borrow.Author.Tests.{not-true, not-false}
 use Rattle.jobs.specs.declared.Entry.the-variants.{Cancelled}
-use Rattle.jobs.specs.declared.Before.the-variants.{WasOpen, WasOnHold}
-use Rattle.jobs.specs.Table.{cancelAt}
+use Rattle.jobs.specs.declared.Before.the-variants.{WasAbsent, WasOpen, WasOnHold}
+use Rattle.jobs.specs.Table.{cancelAt, add}
 use Rattle.jobs.specs.Slots.{entries}
-use Rattle.jobs.proofs.Decisions.{Decided, twice-refused, entry-decides, zero-not-cancelled, job-cancelled, put-held}
+use Rattle.jobs.proofs.Decisions.{Decided, twice-refused, entry-decides, zero-refused, job-passes}
 use Rattle.jobs.proofs.JobTable.cancel.Statement.{statement}
 use Rattle.jobs.proofs.JobTable.cancel.Tie as tie
 
-decided : (l : tie.After-lookup) → Decided cancelAt (entries (l .before .before .before .args .self)) (l .before .before .before .args .number) (l .lookup .result)
+decided : (l : tie.After-lookup)
+    → Decided cancelAt (entries (l .before .before .before .args .self)) (l .before .before .before .args .number) (l .lookup .result)
 decided l =
     let a = l .before .before .before .args in
     entry-decides cancelAt (entries (a .self)) (a .number) (l .before .before .twice .ensures) (l .before .if1 .left) (l .lookup .ensures)
@@ -61,40 +62,34 @@ returns-2 c =
     let l = c .before .before .before .before .before in
     let a = l .before .before .before .args in
     c .refuse3 .ensures
-    ∙ zero-not-cancelled (entries (a .self)) (a .number) (l .before .before .twice .ensures) (l .before .if1 .left) (c .before .before .is-job .ensures)
-    (not-true _ (c .before .if2 .taken)) (l .lookup .ensures)
-    (c .before .before .before .enum-told4 .given .1)
+    ∙ zero-refused (entries (a .self)) (a .number) (add (Cancelled (a .number) WasAbsent) (entries (a .self))) (c .before .before .is-job .ensures)
+    (not-true _ (c .before .if2 .taken))
+    ∙ decided l .gives _ (c .before .before .before .enum-told4 .given .1)
 
 put-requires-3 : tie.Need-put-requires-3
 put-requires-3 c κs = search needs
 
 returns-3 : tie.Need-returns-3
-returns-3 c = c .refuse2 .ensures ∙ decided (c .before .before .before) _ (c .before .enum-told .given .1)
+returns-3 c = c .refuse2 .ensures ∙ decided (c .before .before .before) .gives _ (c .before .enum-told .given .1)
 
 returns-4 : tie.Need-returns-4
 returns-4 c =
     let l = c .before .before .before in
-    let a = l .before .before .before .args in
-    c .put .ensures
-    ∙ put-held (entries (a .self)) (a .number) (Cancelled (a .number) WasOpen) (l .lookup .ensures) (c .before .enum-told2 .given .1) refl
-    ∙ decided l _ (c .before .enum-told2 .given .1)
+    c .put .ensures ∙ decided l .stores (Cancelled (l .before .before .before .args .number) WasOpen) _ (c .before .enum-told2 .given .1) refl refl
 
 returns-5 : tie.Need-returns-5
 returns-5 c =
     let l = c .before .before .before in
-    let a = l .before .before .before .args in
-    c .put2 .ensures
-    ∙ put-held (entries (a .self)) (a .number) (Cancelled (a .number) WasOnHold) (l .lookup .ensures) (c .before .enum-told3 .given .1) refl
-    ∙ decided l _ (c .before .enum-told3 .given .1)
+    c .put2 .ensures ∙ decided l .stores (Cancelled (l .before .before .before .args .number) WasOnHold) _ (c .before .enum-told3 .given .1) refl refl
 
 returns-6 : tie.Need-returns-6
 returns-6 c =
     let l = c .before .before .before .before .before in
     let a = l .before .before .before .args in
     c .put3 .ensures
-    ∙ job-cancelled (entries (a .self)) (a .number) (l .before .before .twice .ensures) (l .before .if1 .left) (c .before .before .is-job .ensures)
-    (not-false _ (c .before .if2 .left)) (l .lookup .ensures)
-    (c .before .before .before .enum-told4 .given .1)
+    ∙ job-passes (entries (a .self)) (a .number) (add (Cancelled (a .number) WasAbsent) (entries (a .self))) (c .before .before .is-job .ensures)
+    (not-false _ (c .before .if2 .left))
+    ∙ decided l .gives _ (c .before .before .before .enum-told4 .given .1)
 
 pub cancel-spec : {M : Type 1} → statement M
 cancel-spec =

@@ -1,90 +1,16 @@
 -- `JobTable::finish` meets its contract. Assumes nothing.
-use mathlib.Core.Path.{refl, _∙_}
+use mathlib.Core.Path.{_∙_}
 use borrow.Author.Needs.{needs}
-use Rattle.jobs.specs.declared.Entry.the-variants.{Free}
-use Rattle.jobs.specs.Table.{finishAt}
 use Rattle.jobs.specs.Slots.{entries}
-use Rattle.jobs.proofs.Decisions.{Decided, twice-refused, entry-decides, put-held}
+use Rattle.jobs.proofs.Decisions.{finish-out}
 use Rattle.jobs.proofs.JobTable.finish.Statement.{statement}
 use Rattle.jobs.proofs.JobTable.finish.Tie as tie
 
-decided : (l : tie.After-lookup) → Decided finishAt (entries (l .before .before .before .args .self)) (l .before .before .before .args .number) (l .lookup .result)
-decided l =
-    let a = l .before .before .before .args in
-    entry-decides finishAt (entries (a .self)) (a .number) (l .before .before .twice .ensures) (l .before .if1 .left) (l .lookup .ensures)
-
-twice-requires : tie.Need-twice-requires
-twice-requires c κs = search needs
-
-refuse-requires : tie.Need-refuse-requires
-refuse-requires c κs = search needs
+turn-open-requires : tie.Need-turn-open-requires
+turn-open-requires c κs = search needs
 
 returns : tie.Need-returns
-returns c =
-    let a = c .before .before .before .args in
-    c .refuse .ensures ∙ twice-refused finishAt (entries (a .self)) (a .number) (c .before .before .twice .ensures) (c .before .if1 .taken)
-
-lookup-requires : tie.Need-lookup-requires
-lookup-requires c κs = search needs
-
-enum-told : tie.Need-enum-told
-enum-told c = search needs
-
-refuse-requires-2 : tie.Need-refuse-requires-2
-refuse-requires-2 c κs = search needs
-
-enum-told-2 : tie.Need-enum-told-2
-enum-told-2 c = search needs
-
-refuse-requires-3 : tie.Need-refuse-requires-3
-refuse-requires-3 c κs = search needs
-
-enum-told-3 : tie.Need-enum-told-3
-enum-told-3 c = search needs
-
-put-requires : tie.Need-put-requires
-put-requires c κs = search needs
-
-enum-told-4 : tie.Need-enum-told-4
-enum-told-4 c = search needs
-
-refuse-requires-4 : tie.Need-refuse-requires-4
-refuse-requires-4 c κs = search needs
-
-returns-2 : tie.Need-returns-2
-returns-2 c = c .refuse2 .ensures ∙ decided (c .before .before .before) _ (c .before .enum-told .given .1)
-
-returns-3 : tie.Need-returns-3
-returns-3 c = c .refuse3 .ensures ∙ decided (c .before .before .before) _ (c .before .enum-told2 .given .1)
-
-returns-4 : tie.Need-returns-4
-returns-4 c =
-    let l = c .before .before .before in
-    let a = l .before .before .before .args in
-    c .put .ensures
-    ∙ put-held (entries (a .self)) (a .number) Free (l .lookup .ensures) (c .before .enum-told3 .given .1) refl
-    ∙ decided l _ (c .before .enum-told3 .given .1)
-
-returns-5 : tie.Need-returns-5
-returns-5 c = c .refuse4 .ensures ∙ decided (c .before .before .before) _ (c .before .enum-told4 .given .1)
+returns c = c .turn-open .ensures ∙ finish-out (entries (c .before .args .self)) (c .before .args .number)
 
 pub finish-spec : {M : Type 1} → statement M
-finish-spec =
-    tie.close
-    (tie.spec
-    twice-requires
-    refuse-requires
-    returns
-    lookup-requires
-    enum-told
-    refuse-requires-2
-    enum-told-2
-    refuse-requires-3
-    enum-told-3
-    put-requires
-    enum-told-4
-    refuse-requires-4
-    returns-2
-    returns-3
-    returns-4
-    returns-5)
+finish-spec = tie.close (tie.spec turn-open-requires returns)

@@ -1,11 +1,11 @@
 -- `JobTable::open` meets its contract. Assumes nothing.
-use mathlib.Core.Path.{_≡_, _∙_}
+use mathlib.Core.Path.{_≡_, refl, _∙_}
 use borrow.Author.Needs.{needs}
 use borrow.Author.Tests.{not-true, not-false}
 use Rattle.jobs.specs.declared.Entry.{Entry}
-use Rattle.jobs.specs.Table.{openJob, openAt, decide}
+use Rattle.jobs.specs.Table.{lookup, openJob, openAt, decide}
 use Rattle.jobs.specs.Slots.{entries}
-use Rattle.jobs.proofs.Decisions.{twice-refused, zero-not-opened, job-decides}
+use Rattle.jobs.proofs.Decisions.{twice-refused, entry-decides, zero-refused, job-passes}
 use Rattle.jobs.proofs.JobTable.open.Statement.{statement}
 use Rattle.jobs.proofs.JobTable.open.Tie as tie
 
@@ -13,11 +13,12 @@ use Rattle.jobs.proofs.JobTable.open.Tie as tie
 decided : (l : tie.After-lookup) (f : Entry) → l .lookup .result ≡ f
     → let a = l .before .before .before .before .before .args in
     openJob f (a .number) (entries (a .self)) ≡ decide openAt (entries (a .self)) (a .number)
-decided l =
-    let a = l .before .before .before .before .before .args in
-    job-decides (entries (a .self)) (a .number) (l .before .before .before .before .twice .ensures) (l .before .before .before .if1 .left)
-    (l .before .before .is-job .ensures)
-    (not-false _ (l .before .if2 .left)) (l .lookup .ensures)
+decided l f g =
+    let t = l .before .before .before in
+    let a = t .before .before .args in
+    let es = entries (a .self) in
+    job-passes es (a .number) (openJob f (a .number) es) (l .before .before .is-job .ensures) (not-false _ (l .before .if2 .left))
+    ∙ entry-decides openAt es (a .number) (t .before .twice .ensures) (t .if1 .left) (l .lookup .ensures) .gives f g
 
 twice-requires : tie.Need-twice-requires
 twice-requires c κs = search needs
@@ -40,9 +41,11 @@ returns-2 : tie.Need-returns-2
 returns-2 c =
     let t = c .before .before .before in
     let a = t .before .before .args in
+    let es = entries (a .self) in
+    let e = lookup es (a .number) in
     c .refuse2 .ensures
-    ∙ zero-not-opened (entries (a .self)) (a .number) (t .before .twice .ensures) (t .if1 .left) (c .before .before .is-job .ensures)
-    (not-true _ (c .before .if2 .taken))
+    ∙ zero-refused es (a .number) (openJob e (a .number) es) (c .before .before .is-job .ensures) (not-true _ (c .before .if2 .taken))
+    ∙ entry-decides openAt es (a .number) (t .before .twice .ensures) (t .if1 .left) refl .gives e refl
 
 lookup-requires : tie.Need-lookup-requires
 lookup-requires c κs = search needs

@@ -1,10 +1,9 @@
 -- `JobTable::reinstate` meets its contract. Assumes nothing.
-use mathlib.Core.Path.{refl, sym, ap, _∙_}
+use mathlib.Core.Path.{refl, _∙_}
 use borrow.Author.Needs.{needs}
-use Rattle.jobs.specs.declared.Entry.{Entry}
-use Rattle.jobs.specs.Table.{holds, reinstateAt, put, restored}
+use Rattle.jobs.specs.Table.{reinstateAt}
 use Rattle.jobs.specs.Slots.{entries}
-use Rattle.jobs.proofs.Decisions.{Decided, twice-refused, entry-decides, put-held}
+use Rattle.jobs.proofs.Decisions.{Decided, twice-refused, entry-decides}
 use Rattle.jobs.proofs.JobTable.reinstate.Statement.{statement}
 use Rattle.jobs.proofs.JobTable.reinstate.Tie as tie
 
@@ -57,23 +56,18 @@ refuse-requires-4 c κs = search needs
 
 returns-2 : tie.Need-returns-2
 returns-2 c =
-    let l = c .before .before .before .before .before in
-    let a = l .before .before .before .args in
-    let told = c .before .before .before .entry .given in
-    let e = told .1 in
     c .put .ensures
-    ∙ ap (λ (x : Entry). put (holds (a .number)) x (entries (a .self))) (c .before .restored .ensures)
-    ∙ put-held (entries (a .self)) (a .number) (restored (told .0 .1 .0) (a .number)) (l .lookup .ensures) e refl
-    ∙ decided l _ e
+    ∙ decided (c .before .before .before .before .before) .stores (c .before .restored .result) _ (c .before .before .before .entry .given .1) refl
+    (rw (c .before .restored .ensures))
 
 returns-3 : tie.Need-returns-3
-returns-3 c = c .refuse2 .ensures ∙ decided (c .before .before .before) _ (c .before .enum-told .given .1)
+returns-3 c = c .refuse2 .ensures ∙ decided (c .before .before .before) .gives _ (c .before .enum-told .given .1)
 
 returns-4 : tie.Need-returns-4
-returns-4 c = c .refuse3 .ensures ∙ decided (c .before .before .before) _ (c .before .enum-told2 .given .1)
+returns-4 c = c .refuse3 .ensures ∙ decided (c .before .before .before) .gives _ (c .before .enum-told2 .given .1)
 
 returns-5 : tie.Need-returns-5
-returns-5 c = c .refuse4 .ensures ∙ decided (c .before .before .before) _ (c .before .enum-told3 .given .1)
+returns-5 c = c .refuse4 .ensures ∙ decided (c .before .before .before) .gives _ (c .before .enum-told3 .given .1)
 
 pub reinstate-spec : {M : Type 1} → statement M
 reinstate-spec =

@@ -4,7 +4,7 @@ use borrow.Author.Needs.{needs}
 use Rattle.jobs.specs.declared.Entry.the-variants.{Open}
 use Rattle.jobs.specs.Table.{releaseAt}
 use Rattle.jobs.specs.Slots.{entries}
-use Rattle.jobs.proofs.Decisions.{Decided, twice-refused, entry-decides, put-held}
+use Rattle.jobs.proofs.Decisions.{Decided, twice-refused, entry-decides}
 use Rattle.jobs.proofs.JobTable.release.Statement.{statement}
 use Rattle.jobs.proofs.JobTable.release.Tie as tie
 
@@ -53,21 +53,18 @@ refuse-requires-4 : tie.Need-refuse-requires-4
 refuse-requires-4 c κs = search needs
 
 returns-2 : tie.Need-returns-2
-returns-2 c = c .refuse2 .ensures ∙ decided (c .before .before .before) _ (c .before .enum-told .given .1)
+returns-2 c = c .refuse2 .ensures ∙ decided (c .before .before .before) .gives _ (c .before .enum-told .given .1)
 
 returns-3 : tie.Need-returns-3
 returns-3 c =
     let l = c .before .before .before in
-    let a = l .before .before .before .args in
-    c .put .ensures
-    ∙ put-held (entries (a .self)) (a .number) (Open (a .number)) (l .lookup .ensures) (c .before .enum-told2 .given .1) refl
-    ∙ decided l _ (c .before .enum-told2 .given .1)
+    c .put .ensures ∙ decided l .stores (Open (l .before .before .before .args .number)) _ (c .before .enum-told2 .given .1) refl refl
 
 returns-4 : tie.Need-returns-4
-returns-4 c = c .refuse3 .ensures ∙ decided (c .before .before .before) _ (c .before .enum-told3 .given .1)
+returns-4 c = c .refuse3 .ensures ∙ decided (c .before .before .before) .gives _ (c .before .enum-told3 .given .1)
 
 returns-5 : tie.Need-returns-5
-returns-5 c = c .refuse4 .ensures ∙ decided (c .before .before .before) _ (c .before .enum-told4 .given .1)
+returns-5 c = c .refuse4 .ensures ∙ decided (c .before .before .before) .gives _ (c .before .enum-told4 .given .1)
 
 pub release-spec : {M : Type 1} → statement M
 release-spec =

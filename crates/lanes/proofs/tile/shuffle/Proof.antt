@@ -4,13 +4,13 @@ use Prim.Native.Nat.{_*_, _-_, _≤_}
 use native.Mathlib.Omega.{arith}
 use borrow.Author.Needs.{needs}
 use lib.ListN.{length, take, length-set}
-use Rattle.lanes.specs.Interleaving.{transposed}
+use Rattle.lanes.specs.Interleaving.{transposedTable}
 use Rattle.lanes.proofs.TileLaws.{shuffle-turn, shuffle-done}
 use Rattle.lanes.proofs.tile.shuffle.Statement.{statement}
 use Rattle.lanes.proofs.tile.shuffle.Tie as tie
 
 abbrev Inv-loop : tie.InvT-loop
-Inv-loop from to₀ i₀ to i = (i ≤ 128) × (length to ≡ 256) × (take (2 * i) to ≡ take (2 * i) (transposed 2 128 from))
+Inv-loop from to₀ i₀ to i = (i ≤ 128) × (length to ≡ 256) × (take (2 * i) to ≡ take (2 * i) (transposedTable 2 128 from))
 
 abbrev μ-loop : tie.MeasureT-loop
 μ-loop from to₀ i₀ to i = 128 - i

@@ -3,7 +3,7 @@ use mathlib.Core.Path.{ap, _∙_}
 use mathlib.Core.List.{List}
 use Prim.Native.Nat.{ℕ}
 use borrow.Author.Needs.{needs}
-use Rattle.lanes.specs.Interleaving.{transposed}
+use Rattle.lanes.specs.Interleaving.{transposedTable}
 use Rattle.lanes.proofs.tile.shuffle_twice.Statement.{statement}
 use Rattle.lanes.proofs.tile.shuffle_twice.Tie as tie
 
@@ -20,7 +20,7 @@ same-length-2 : tie.Need-same-length-2
 same-length-2 c = search needs
 
 returns : tie.Need-returns
-returns c = c .before .before .shuffle2 .ensures ∙ ap (transposed 2 128) (c .before .before .before .before .before .before .before .shuffle .ensures)
+returns c = c .before .before .shuffle2 .ensures ∙ ap (transposedTable 2 128) (c .before .before .before .before .before .before .before .shuffle .ensures)
 
 pub shuffle-twice-spec : {M : Type 1} → statement M
 shuffle-twice-spec =

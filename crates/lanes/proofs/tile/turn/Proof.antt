@@ -3,7 +3,7 @@ use mathlib.Core.Path.{ap, _∙_}
 use mathlib.Core.List.{List}
 use Prim.Native.Nat.{ℕ}
 use borrow.Author.Needs.{needs}
-use Rattle.lanes.specs.Interleaving.{transposed}
+use Rattle.lanes.specs.Interleaving.{transposedTable}
 use Rattle.lanes.proofs.TileLaws.{four-shuffles}
 use Rattle.lanes.proofs.tile.turn.Statement.{statement}
 use Rattle.lanes.proofs.tile.turn.Tie as tie
@@ -23,7 +23,7 @@ same-length-2 c = search needs
 returns : tie.Need-returns
 returns c =
     let first = c .before .before .before .before .before .before .before .before .before .before .before .shuffle-twice in
-    c .before .before .before .before .shuffle-twice2 .ensures ∙ ap (λ (x : List ℕ). transposed 2 128 (transposed 2 128 x))
+    c .before .before .before .before .shuffle-twice2 .ensures ∙ ap (λ (x : List ℕ). transposedTable 2 128 (transposedTable 2 128 x))
     (first .ensures) ∙ four-shuffles
     (c .before .before .before .before .before .before .before .before .before .before .before .before .before .before .before .before .args .cells .now)
 

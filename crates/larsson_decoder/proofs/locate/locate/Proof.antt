@@ -6,7 +6,7 @@ use native.Mathlib.Omega.{arith}
 use borrow.Author.Needs.{needs}
 use Rattle.refusals.specs.Refusals.{noMajority, valueTooLarge}
 use Rattle.larsson.specs.Figures.{subBlocks}
-use Rattle.larsson_params.specs.Given.{figuresOf}
+use Rattle.larsson_params.specs.Given.{larssonFiguresOf}
 use Rattle.larsson_params.proofs.Shape.{bound}
 use Rattle.sub_blocks.specs.Found.{spelledAt}
 use Rattle.larsson_decoder.proofs.Locating.{no-majority, too-large, refused-in}
@@ -24,14 +24,14 @@ mul-if1 c =
 nowhere-requires : tie.Need-nowhere-requires
 nowhere-requires c κs = search needs
 
-within : (c : tie.Else1) → c .before .before .majority-block .result < subBlocks (figuresOf (c .before .before .before .before .args .layout))
+within : (c : tie.Else1) → c .before .before .majority-block .result < subBlocks (larssonFiguresOf (c .before .before .before .before .args .layout))
 within c = omega (arith, c .if1 .left)
 
 returns : tie.Need-returns
 returns c =
     let m = c .before .before .before in
     let s = m .before .before in
-    let f = figuresOf (s .args .layout) in
+    let f = larssonFiguresOf (s .args .layout) in
     let w = s .args .word .now in
     refused-in f w (c .nowhere .result) noMajority (c .nowhere .ensures) (no-majority f w (m .majority-block .ensures .nowhere (omega (arith, c .before .if1 .taken))))
 
@@ -48,7 +48,7 @@ returns-2 c =
     let v = c .before .before .before in
     let m = v .before .before .before in
     let s = m .before .before in
-    let f = figuresOf (s .args .layout) in
+    let f = larssonFiguresOf (s .args .layout) in
     let w = s .args .word .now in
     let i = m .majority-block .result in
     refused-in f w (c .nowhere2 .result) valueTooLarge (c .nowhere2 .ensures)
@@ -59,7 +59,7 @@ locate-rank-requires c κs =
     let v = c .before .before in
     let m = v .before .before .before in
     let s = m .before .before in
-    let f = figuresOf (s .args .layout) in
+    let f = larssonFiguresOf (s .args .layout) in
     let i = m .majority-block .result in
     let laid = s .pre .0 .layout .laid .count-is in
     let is : v .value-of .result ≡ spelledAt f (s .args .word .now) i = omega (arith, v .value-of .ensures, c .if2 .left) in (

@@ -10,7 +10,7 @@ use Rattle.construction_a.specs.Figures.{Params}
 use Rattle.construction_a.specs.Writing.{placementOf}
 use Rattle.larsson.specs.Reading.{agrees}
 use Rattle.larsson_params.specs.declared.LarssonLayout.{LarssonLayout}
-use Rattle.larsson_params.specs.Given.{figuresOf, Fitting}
+use Rattle.larsson_params.specs.Given.{larssonFiguresOf, LarssonLayoutFits}
 use Rattle.larsson_params.proofs.Shape.{served, bound, long}
 use Rattle.sub_blocks.specs.Given.{BearersOf}
 use Rattle.sub_blocks.proofs.Room.{room-of}
@@ -22,9 +22,9 @@ abbrev l : tie.Start → LarssonLayout
 l s = s .args .layout
 
 abbrev f : tie.Start → Params
-f s = figuresOf (s .args .layout)
+f s = larssonFiguresOf (s .args .layout)
 
-fit : (s : tie.Start) → Fitting (l s)
+fit : (s : tie.Start) → LarssonLayoutFits (l s)
 fit s = s .pre .0 .finding .layout
 
 -- the rank's placement

@@ -9,9 +9,9 @@ use Rattle.larsson.specs.Writing.{rankDigits}
 use Rattle.larsson.proofs.Complete.{length-rank}
 use Rattle.placements.specs.Bridge.{startsIn}
 use Rattle.larsson_params.specs.declared.LarssonLayout.{LarssonLayout}
-use Rattle.larsson_params.specs.Given.{figuresOf}
+use Rattle.larsson_params.specs.Given.{larssonFiguresOf}
 use Rattle.larsson_params.proofs.Shape.{bound, long}
-use Rattle.sub_blocks.specs.Given.{Bearing}
+use Rattle.sub_blocks.specs.Given.{BurstsOfLayout}
 use Rattle.larsson_encoder.proofs.Spelling.{can-rank, few, can-spell, behind-lead}
 use Rattle.larsson_encoder.proofs.fill.fill_borne.Statement.{statement}
 use Rattle.larsson_encoder.proofs.fill.fill_borne.Tie as tie
@@ -19,7 +19,7 @@ use Rattle.larsson_encoder.proofs.fill.fill_borne.Tie as tie
 abbrev l : tie.Start → LarssonLayout
 l s = s .args .layout
 
-borne : (s : tie.Start) → Bearing (l s) (s .args .at)
+borne : (s : tie.Start) → BurstsOfLayout (l s) (s .args .at)
 borne s = record { layout = s .pre .0 .layout; count = s .pre .0 .count; some = s .pre .1 }
 
 abbrev start : tie.After-spelled → tie.Start
@@ -27,7 +27,7 @@ start c = c .before .before .before .before .before
 
 -- the digits that were spelled
 digits-are : (c : tie.After-spelled)
-    → (let s = start c in take (l s .«sub_len» + 1) (c .spelled .result) ≡ 1 ∷ rankDigits (figuresOf (l s)) (startsIn (s .args .at)))
+    → (let s = start c in take (l s .«sub_len» + 1) (c .spelled .result) ≡ 1 ∷ rankDigits (larssonFiguresOf (l s)) (startsIn (s .args .at)))
 digits-are c =
     let s = start c in
     let r = c .before .rank in
@@ -68,7 +68,7 @@ slice-aggregate-fill-digits : tie.Need-slice-aggregate-fill-digits
 slice-aggregate-fill-digits c =
     let d = c .before .before .before .before .before .before .before in
     let s = start d in
-    omega (arith, ap length (digits-are d), length-rank (figuresOf (l s)) (startsIn (s .args .at)), s .pre .0 .layout .laid .sub-is)
+    omega (arith, ap length (digits-are d), length-rank (larssonFiguresOf (l s)) (startsIn (s .args .at)), s .pre .0 .layout .laid .sub-is)
 
 fill-digits-requires : tie.Need-fill-digits-requires
 fill-digits-requires c κs =

@@ -62,7 +62,7 @@ returns c =
     let k = c .before .before in
     let w = k .before .before .before in
     let s = w .before .before .before .before in
-    k .fill .ensures ∙ ap (λ (y : Walk). word (Words.figuresOf y (l s .q)) (startsIn (s .args .at)) (s .args .message .now)) (w .walk-of .ensures)
+    k .fill .ensures ∙ ap (λ (y : Walk). word (Words.figuresWalked y (l s .q)) (startsIn (s .args .at)) (s .args .message .now)) (w .walk-of .ensures)
 
 pub fill-digits-spec : {M : Type 1} → statement M
 fill-digits-spec =

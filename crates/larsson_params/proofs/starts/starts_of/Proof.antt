@@ -10,14 +10,14 @@ use Rattle.combinatorics.proofs.Stretch.{filled-on}
 use Rattle.larsson.specs.Figures.{subBlocks, subStart}
 use Rattle.construction_a.proofs.Figures.{Ranged}
 use Rattle.params.specs.Given.{maxBlocks}
-use Rattle.larsson_params.specs.Given.{figuresOf}
+use Rattle.larsson_params.specs.Given.{larssonFiguresOf}
 use Rattle.larsson_params.proofs.Shape.{bound, start-is, sub-room}
 use Rattle.larsson_params.proofs.starts.starts_of.Statement.{statement}
 use Rattle.larsson_params.proofs.starts.starts_of.Tie as tie
 
 abbrev Inv-loop : tie.InvT-loop
 Inv-loop layout gaps starts₀ i₀ starts i =
-    (i ≤ gaps + 1) × (length starts ≡ suc maxBlocks) × ((x : ℕ) → x < i → getD starts x 0 ≡ subStart (figuresOf layout) x)
+    (i ≤ gaps + 1) × (length starts ≡ suc maxBlocks) × ((x : ℕ) → x < i → getD starts x 0 ≡ subStart (larssonFiguresOf layout) x)
 
 abbrev μ-loop : tie.MeasureT-loop
 μ-loop layout gaps starts₀ i₀ starts i = gaps + 1 - i
@@ -25,13 +25,13 @@ abbrev μ-loop : tie.MeasureT-loop
 abbrev Start : Type 0
 Start = tie.Start Inv-loop μ-loop
 
-limits : (s : Start) → Ranged (figuresOf (s .args .layout))
+limits : (s : Start) → Ranged (larssonFiguresOf (s .args .layout))
 limits s = bound (s .args .layout) (s .pre)
 
 -- the entry of sub-block i
 entry : (c : tie.After-piece-start Inv-loop μ-loop)
     → (let s = c .before .before .before in let l = s .before .before .args .layout in
-    s .loop .i * l .«sub_len» + c .piece-start .result ≡ subStart (figuresOf l) (s .loop .i))
+    s .loop .i * l .«sub_len» + c .piece-start .result ≡ subStart (larssonFiguresOf l) (s .loop .i))
 entry c =
     let s = c .before .before .before in
     let l = s .before .before .args .layout in
@@ -87,7 +87,7 @@ loop-again c =
     let n = s .loop .inv .1 in (
       omega (arith, c .before .before .loop-test .taken),
       simp length-set n,
-      filled-on (λ x v. v ≡ subStart (figuresOf l) x) (s .loop .starts) (s .loop .i) (s .loop .i * l .«sub_len» + c .piece-start .result)
+      filled-on (λ x v. v ≡ subStart (larssonFiguresOf l) x) (s .loop .starts) (s .loop .i) (s .loop .i * l .«sub_len» + c .piece-start .result)
           (omega (arith, n, c .before .before .loop-test .taken, limits (s .before .before))) (s .loop .inv .2) (entry c),
     )
 

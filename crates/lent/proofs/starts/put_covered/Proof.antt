@@ -3,7 +3,7 @@ use mathlib.Core.Path.{ap, _∙_}
 use borrow.Author.Needs.{needs}
 use Rattle.refusals.specs.Refusals.{served}
 use Rattle.placements.specs.Bridge.{coveredAs}
-use Rattle.lent.specs.Covering.{covers}
+use Rattle.lent.specs.Covering.{coverLent}
 use Rattle.lent.proofs.Covering.{covered-refused, covered-served}
 use Rattle.lent.proofs.starts.put_covered.Statement.{statement}
 use Rattle.lent.proofs.starts.put_covered.Tie as tie
@@ -24,7 +24,7 @@ same-length c = search needs
 returns-2 : tie.Need-returns-2
 returns-2 c =
     let s = c .before .before .before .before .before .before .before in
-    ap (covers served) (c .before .before .put-starts .ensures)
+    ap (coverLent served) (c .before .before .put-starts .ensures)
     ∙ covered-served (s .args .bytes .now) (coveredAs (s .args .found)) (c .before .before .before .before .if1 .left)
 
 pub put-covered-spec : {M : Type 1} → statement M

@@ -6,8 +6,8 @@ use Rattle.construction_a.specs.Figures.{Params}
 use Rattle.construction_a.specs.Outcomes.{coding}
 use Rattle.params.specs.Bridge.{given}
 use Rattle.params.proofs.Either.{in-order}
-use Rattle.larsson_params.specs.Answer.{figuredAs}
-use Rattle.larsson_params.specs.Given.{figuresOf, Fitting}
+use Rattle.larsson_params.specs.Answer.{larssonFiguredAs}
+use Rattle.larsson_params.specs.Given.{larssonFiguresOf, LarssonLayoutFits}
 use Rattle.larsson_params.proofs.Answered.{fit-learnt}
 use Rattle.moving.specs.Both.{BothIn}
 use Rattle.moving.proofs.FitBoth.{older-refuses}
@@ -15,7 +15,7 @@ use Rattle.moving.proofs.both.older_fits.Statement.{statement}
 use Rattle.moving.proofs.both.older_fits.Tie as tie
 
 -- the layout that was answered
-learnt : (c : tie.After-answer2) → (let l = c .answer2 .given .0 .0 in (figuresOf l ≡ given (c .before .before .before .args .figures)) × Fitting l)
+learnt : (c : tie.After-answer2) → (let l = c .answer2 .given .0 .0 in (larssonFiguresOf l ≡ given (c .before .before .before .args .figures)) × LarssonLayoutFits l)
 learnt c =
     let r = c .before .before .figures in
     fit-learnt (given (c .before .before .before .args .figures)) (r .result) (c .answer2 .given .0 .0) (c .answer2 .given .1) (r .ensures .0) (r .ensures .1)
@@ -41,7 +41,7 @@ returns c =
     let told = c .before .answer .given in
     λ refuse rest. older-refuses (given (s .args .figures)) (s .args .strip) (s .args .moved) (told .0 .0) refuse rest
     (sym (ap (λ (d : Coding). d .fits) (s .pre .1)) ∙ in-order (s .args .newer) (s .pre .0) .1)
-    (sym (c .before .before .before .figures .ensures .0) ∙ ap figuredAs (told .1))
+    (sym (c .before .before .before .figures .ensures .0) ∙ ap larssonFiguredAs (told .1))
 
 returns-2 : tie.Need-returns-2
 returns-2 c =

@@ -6,7 +6,7 @@ use lib.Dec.{eqb}
 use borrow.Author.Tests.{not-true, not-false}
 use Rattle.combinatorics.proofs.Cases.{eqb-same, eqb-other}
 use Rattle.prescription.specs.Fractions.{countOf}
-use Rattle.prescription.specs.Lens.{inRange}
+use Rattle.prescription.specs.Lens.{inPowerRange}
 use Rattle.prescription.specs.Eyes.{lensOf}
 use Rattle.prescription.specs.Stored.{countIn, fields}
 use Rattle.prescription.specs.Counts.{countAs, bitsIn}
@@ -38,8 +38,8 @@ returns-2 c =
     let e : some u ≡ bitsIn (countOf 8 (a .power)) = sym (ap countAs (c .before .before .count .given .1))
     ∙ c .before .before .before .before .count-of .ensures in
     sym (sphere-stored (countOf 8 (a .power)) u e
-    ∙ must-not (inRange (countIn u) && not (eqb u 0)) none (some (fields 1 u 0 0))
-    (no-second (inRange (countIn u)) (not (eqb u 0)) (ap not (eqb-same u 0 (c .if1 .taken)))))
+    ∙ must-not (inPowerRange (countIn u) && not (eqb u 0)) none (some (fields 1 u 0 0))
+    (no-second (inPowerRange (countIn u)) (not (eqb u 0)) (ap not (eqb-same u 0 (c .if1 .taken)))))
 
 in-range-requires : tie.Need-in-range-requires
 in-range-requires c κs = search needs
@@ -52,7 +52,7 @@ returns-3 c =
     let e : some u ≡ bitsIn (countOf 8 (a .power)) = sym (ap countAs (c .before .before .before .before .count .given .1))
     ∙ c .before .before .before .before .before .before .count-of .ensures in
     sym (sphere-stored (countOf 8 (a .power)) u e
-    ∙ must-not (inRange (countIn u) && not (eqb u 0)) none (some (fields 1 u 0 0))
+    ∙ must-not (inPowerRange (countIn u) && not (eqb u 0)) none (some (fields 1 u 0 0))
     (ap (λ (t : Bool). t && not (eqb u 0)) (sym (c .before .in-range .ensures) ∙ not-true _ (c .if2 .taken))))
 
 returns-4 : tie.Need-returns-4
@@ -62,7 +62,7 @@ returns-4 c =
     let u = c .before .before .before .before .count .given .0 .0 in
     let e : some u ≡ bitsIn (countOf 8 (a .power)) = sym (ap countAs (c .before .before .before .before .count .given .1))
     ∙ c .before .before .before .before .before .before .count-of .ensures in
-    sym (sphere-stored (countOf 8 (a .power)) u e ∙ must-be (inRange (countIn u) && not (eqb u 0)) none (some (fields 1 u 0 0))
+    sym (sphere-stored (countOf 8 (a .power)) u e ∙ must-be (inPowerRange (countIn u) && not (eqb u 0)) none (some (fields 1 u 0 0))
     (ap (λ (t : Bool). t && not (eqb u 0)) (sym (c .before .in-range .ensures) ∙ not-false _ (c .if2 .left))
     ∙ ap not (eqb-other u 0 (c .before .before .if1 .left))))
 

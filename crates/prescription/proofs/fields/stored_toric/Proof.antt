@@ -1,16 +1,44 @@
 -- `stored_toric` meets its contract: the three counts decide. Assumes nothing.
 use mathlib.Core.Path.{_≡_, sym, ap, _∙_}
+use mathlib.Core.Bool.{Bool, true, false}
 use mathlib.Core.Option.{none, some}
-use lib.Ieee.{binary64, add}
 use borrow.Author.Tests.{not-true, not-false}
+use Rattle.refusals.specs.Refusals.{must}
 use Rattle.prescription.specs.Fractions.{countOf}
-use Rattle.prescription.specs.Eyes.{lensOf}
+use Rattle.prescription.specs.Eyes.{toricOf, lensOf}
 use Rattle.prescription.specs.Stored.{fields}
-use Rattle.prescription.specs.Counts.{countAs, bitsIn, toricKeeps}
-use Rattle.prescription.proofs.Storing.{eighths, toric-out-sphere, toric-out-cylinder, toric-out-sum, toric-stored, must-not, must-be}
+use Rattle.prescription.specs.Counts.{countAs, bitsIn, storedOf}
+use Rattle.prescription.proofs.Storing.{eighths, toric-out-sphere, toric-out-cylinder, toric-out-sum, toric-stored}
 use borrow.Author.Needs.{needs}
 use Rattle.prescription.proofs.fields.stored_toric.Statement.{statement}
 use Rattle.prescription.proofs.fields.stored_toric.Tie as tie
+
+-- the bits of both powers, where their sum is counted
+sphere-bits : (p : tie.After-count-of3)
+    → some (p .before .before .before .before .before .before .sphere-count .given .0 .0)
+    ≡ bitsIn (countOf 8 (p .before .before .before .before .before .before .before .before .before .args .sphere))
+sphere-bits p = let s = p .before .before .before .before .before .before in sym (ap countAs (s .sphere-count .given .1)) ∙ s .before .before .count-of .ensures
+
+cylinder-bits : (p : tie.After-count-of3)
+    → some (p .before .before .cylinder-count .given .0 .0)
+    ≡ bitsIn (countOf 8 (p .before .before .before .before .before .before .before .before .before .args .cylinder))
+cylinder-bits p = let s = p .before .before in sym (ap countAs (s .cylinder-count .given .1)) ∙ s .before .before .count-of2 .ensures
+
+-- past the three counts the rules decide
+decided : (k : tie.After-toric-keeps) (b : Bool) → k .toric-keeps .result ≡ b
+    → let p = k .before .before .before .before in
+    let a = p .before .before .before .before .before .before .before .before .before .args in
+    let s = p .before .before .before .before .before .before .sphere-count .given in
+    must b none (some (fields 2 (s .0 .0) (p .before .before .cylinder-count .given .0 .0) (a .axis)))
+    ≡ storedOf (toricOf (countOf 8 (a .sphere)) (countOf 8 (a .cylinder)) (a .axis))
+decided k b is =
+    let p = k .before .before .before .before in
+    let a = p .before .before .before .before .before .before .before .before .before .args in
+    let u = p .before .before .before .before .before .before .sphere-count .given .0 .0 in
+    let v = p .before .before .cylinder-count .given .0 .0 in
+    let w = k .before .before .sum-count .given in
+    sym (toric-stored (a .sphere) (a .cylinder) u v (w .0 .0) (a .axis) (sphere-bits p) (cylinder-bits p) (sym (ap countAs (w .1)) ∙ p .count-of3 .ensures)
+    ∙ ap (λ (t : Bool). must t none (some (fields 2 u v (a .axis)))) (sym (k .toric-keeps .ensures) ∙ is))
 
 count-of-requires : tie.Need-count-of-requires
 count-of-requires c κs = eighths
@@ -56,52 +84,20 @@ enum-told-3 c = search needs
 returns-3 : tie.Need-returns-3
 unfolding lensOf
 returns-3 c =
-    let a = c .before .before .before .before .before .before .before .before .before .before .before .args in
-    let u = c .before .before .before .before .before .before .before .before .sphere-count .given .0 .0 in
-    let e : some u ≡ bitsIn (countOf 8 (a .sphere)) = sym
-    (ap countAs (c .before .before .before .before .before .before .before .before .sphere-count .given .1))
-    ∙ c .before .before .before .before .before .before .before .before .before .before .count-of .ensures in
-    let v = c .before .before .before .before .cylinder-count .given .0 .0 in
-    let f : some v ≡ bitsIn (countOf 8 (a .cylinder)) = sym (ap countAs (c .before .before .before .before .cylinder-count .given .1))
-    ∙ c .before .before .before .before .before .before .count-of2 .ensures in
-    toric-out-sum (a .sphere) (a .cylinder) u v (a .axis) e f (sym (ap countAs (c .enum-told3 .given .1)) ∙ c .before .before .count-of3 .ensures)
+    let p = c .before .before in
+    let a = p .before .before .before .before .before .before .before .before .before .args in
+    toric-out-sum (a .sphere) (a .cylinder) _ _ (a .axis) (sphere-bits p) (cylinder-bits p) (sym (ap countAs (c .enum-told3 .given .1)) ∙ p .count-of3 .ensures)
 
 toric-keeps-requires : tie.Need-toric-keeps-requires
 toric-keeps-requires c κs = search needs
 
 returns-4 : tie.Need-returns-4
 unfolding lensOf
-returns-4 c =
-    let a = c .before .before .before .before .before .before .before .before .before .before .before .before .before .before .args in
-    let u = c .before .before .before .before .before .before .before .before .before .before .before .sphere-count .given .0 .0 in
-    let e : some u ≡ bitsIn (countOf 8 (a .sphere)) = sym
-    (ap countAs (c .before .before .before .before .before .before .before .before .before .before .before .sphere-count .given .1))
-    ∙ c .before .before .before .before .before .before .before .before .before .before .before .before .before .count-of .ensures in
-    let v = c .before .before .before .before .before .before .before .cylinder-count .given .0 .0 in
-    let f : some v ≡ bitsIn (countOf 8 (a .cylinder)) = sym (ap countAs (c .before .before .before .before .before .before .before .cylinder-count .given .1))
-    ∙ c .before .before .before .before .before .before .before .before .before .count-of2 .ensures in
-    let w = c .before .before .before .sum-count .given .0 .0 in
-    let g : some w ≡ bitsIn (countOf 8 (add binary64 (a .sphere) (a .cylinder))) = sym (ap countAs (c .before .before .before .sum-count .given .1))
-    ∙ c .before .before .before .before .before .count-of3 .ensures in
-    sym (toric-stored (a .sphere) (a .cylinder) u v w (a .axis) e f g
-    ∙ must-not (toricKeeps u w v (a .axis)) none (some (fields 2 u v (a .axis))) (sym (c .before .toric-keeps .ensures) ∙ not-true _ (c .if1 .taken)))
+returns-4 c = decided (c .before) false (not-true _ (c .if1 .taken))
 
 returns-5 : tie.Need-returns-5
 unfolding lensOf
-returns-5 c =
-    let a = c .before .before .before .before .before .before .before .before .before .before .before .before .before .before .args in
-    let u = c .before .before .before .before .before .before .before .before .before .before .before .sphere-count .given .0 .0 in
-    let e : some u ≡ bitsIn (countOf 8 (a .sphere)) = sym
-    (ap countAs (c .before .before .before .before .before .before .before .before .before .before .before .sphere-count .given .1))
-    ∙ c .before .before .before .before .before .before .before .before .before .before .before .before .before .count-of .ensures in
-    let v = c .before .before .before .before .before .before .before .cylinder-count .given .0 .0 in
-    let f : some v ≡ bitsIn (countOf 8 (a .cylinder)) = sym (ap countAs (c .before .before .before .before .before .before .before .cylinder-count .given .1))
-    ∙ c .before .before .before .before .before .before .before .before .before .count-of2 .ensures in
-    let w = c .before .before .before .sum-count .given .0 .0 in
-    let g : some w ≡ bitsIn (countOf 8 (add binary64 (a .sphere) (a .cylinder))) = sym (ap countAs (c .before .before .before .sum-count .given .1))
-    ∙ c .before .before .before .before .before .count-of3 .ensures in
-    sym (toric-stored (a .sphere) (a .cylinder) u v w (a .axis) e f g
-    ∙ must-be (toricKeeps u w v (a .axis)) none (some (fields 2 u v (a .axis))) (sym (c .before .toric-keeps .ensures) ∙ not-false _ (c .if1 .left)))
+returns-5 c = decided (c .before) true (not-false _ (c .if1 .left))
 
 pub stored-toric-spec : {M : Type 1} → statement M
 stored-toric-spec =

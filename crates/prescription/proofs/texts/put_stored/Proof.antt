@@ -9,6 +9,16 @@ use borrow.Author.Needs.{needs}
 use Rattle.prescription.proofs.texts.put_stored.Statement.{statement}
 use Rattle.prescription.proofs.texts.put_stored.Tie as tie
 
+-- both eyes, over zeros
+eyes : (p : tie.After-put-eye2)
+    → let a = p .before .before .before .before .before .before .before .before .before .before .before .args in
+    p .put-eye2 .last .0 ≡ withEye (withEye (replicate (length (a .text .now)) 0) 0 (a .right)) 6 (a .left)
+eyes p =
+    let a = p .before .before .before .before .before .before .before .before .before .before .before .args in
+    let zeros = p .before .before .before .before .before .before .before .before .clear .ensures in
+    p .put-eye2 .ensures
+    ∙ ap (λ (t : List ℕ). withEye t 6 (a .left)) (p .before .before .before .before .put-eye .ensures ∙ ap (λ (t : List ℕ). withEye t 0 (a .right)) zeros)
+
 clear-requires : tie.Need-clear-requires
 clear-requires c κs = search needs
 
@@ -23,34 +33,17 @@ slice-write-text c = search needs
 
 same-length : tie.Need-same-length
 same-length c =
-    let a = c .before .before .before .before .before .before .before .before .before .before .before .before .before .args in
-    let n = length (a .text .now) in
-    let cleared : c .before .before .before .before .before .before .before .before .before .before .clear .last .0 ≡ replicate n 0 =
-    c .before .before .before .before .before .before .before .before .before .before .clear .ensures in
-    let first : c .before .before .before .before .before .before .put-eye .last .0 ≡ withEye
-    (c .before .before .before .before .before .before .before .before .before .before .clear .last .0) 0 (a .right) =
-    c .before .before .before .before .before .before .put-eye .ensures in
-    let second : c .before .before .put-eye2 .last .0 ≡ withEye (c .before .before .before .before .before .before .put-eye .last .0) 6
-    (a .left) = c .before .before .put-eye2 .ensures in
-    length-set (c .before .before .put-eye2 .last .0) 12 (a .halves) ∙ ap length second
-    ∙ eye-length (c .before .before .before .before .before .before .put-eye .last .0) 6 (a .left) ∙ ap length first
-    ∙ eye-length (c .before .before .before .before .before .before .before .before .before .before .clear .last .0) 0 (a .right) ∙ ap length cleared
-    ∙ length-replicate n 0
+    let p = c .before .before in
+    let a = p .before .before .before .before .before .before .before .before .before .before .before .args in
+    let zeros : List ℕ = replicate (length (a .text .now)) 0 in
+    length-set (p .put-eye2 .last .0) 12 (a .halves) ∙ ap length (eyes p) ∙ eye-length (withEye zeros 0 (a .right)) 6 (a .left) ∙ eye-length zeros 0 (a .right)
+    ∙ length-replicate (length (a .text .now)) 0
 
 returns : tie.Need-returns
 returns c =
-    let a = c .before .before .before .before .before .before .before .before .before .before .before .before .before .args in
-    let n = length (a .text .now) in
-    let cleared : c .before .before .before .before .before .before .before .before .before .before .clear .last .0 ≡ replicate n 0 =
-    c .before .before .before .before .before .before .before .before .before .before .clear .ensures in
-    let first : c .before .before .before .before .before .before .put-eye .last .0 ≡ withEye
-    (c .before .before .before .before .before .before .before .before .before .before .clear .last .0) 0 (a .right) =
-    c .before .before .before .before .before .before .put-eye .ensures in
-    let second : c .before .before .put-eye2 .last .0 ≡ withEye (c .before .before .before .before .before .before .put-eye .last .0) 6
-    (a .left) = c .before .before .put-eye2 .ensures in
-    ap (λ (t : List ℕ). set t 12 (a .halves))
-    (second ∙ ap (λ (t : List ℕ). withEye t 6 (a .left)) (first ∙ ap (λ (t : List ℕ). withEye t 0 (a .right)) cleared))
-    ∙ laid n (a .right) (a .left) (a .halves) (c .before .before .before .before .before .before .before .before .before .before .before .before .before .pre)
+    let s = c .before .before .before .before .before .before .before .before .before .before .before .before .before in
+    let a = s .args in
+    ap (λ (t : List ℕ). set t 12 (a .halves)) (eyes (c .before .before)) ∙ laid (length (a .text .now)) (a .right) (a .left) (a .halves) (s .pre)
 
 pub put-stored-spec : {M : Type 1} → statement M
 put-stored-spec =

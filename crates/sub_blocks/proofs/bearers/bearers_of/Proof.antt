@@ -13,7 +13,7 @@ use Rattle.larsson.specs.Writing.{untouched, bears}
 use Rattle.params.specs.Given.{maxBlocks}
 use Rattle.placements.specs.Bridge.{startsIn}
 use Rattle.blocks.specs.Blocks.{burstKind, indexKind}
-use Rattle.larsson_params.specs.Given.{figuresOf}
+use Rattle.larsson_params.specs.Given.{larssonFiguresOf}
 use Rattle.larsson_params.proofs.Shape.{bound}
 use Rattle.sub_blocks.proofs.Bearing.{bears-now}
 use Rattle.sub_blocks.proofs.bearers.bearers_of.Statement.{statement}
@@ -21,8 +21,8 @@ use Rattle.sub_blocks.proofs.bearers.bearers_of.Tie as tie
 
 abbrev Inv-loop : tie.InvT-loop
 Inv-loop layout starts at blocks kinds₀ met₀ i₀ kinds met i =
-    (i ≤ blocks) × (length kinds ≡ maxBlocks) × (met ≡ count i 0 (untouched (figuresOf layout) (startsIn at)))
-    × ((x : ℕ) → x < i → getD kinds x 0 ≡ cond (bears (figuresOf layout) (startsIn at) x) indexKind burstKind)
+    (i ≤ blocks) × (length kinds ≡ maxBlocks) × (met ≡ count i 0 (untouched (larssonFiguresOf layout) (startsIn at)))
+    × ((x : ℕ) → x < i → getD kinds x 0 ≡ cond (bears (larssonFiguresOf layout) (startsIn at) x) indexKind burstKind)
 
 abbrev μ-loop : tie.MeasureT-loop
 μ-loop layout starts at blocks kinds₀ met₀ i₀ kinds met i = blocks - i
@@ -30,12 +30,12 @@ abbrev μ-loop : tie.MeasureT-loop
 abbrev Start : Type 0
 Start = tie.Start Inv-loop μ-loop
 
-limits : (s : Start) → Ranged (figuresOf (s .args .layout))
+limits : (s : Start) → Ranged (larssonFiguresOf (s .args .layout))
 limits s = bound (s .args .layout) (s .pre .0 .layout)
 
 -- the untouched sub-blocks
 abbrev Free : Start → ℕ → Bool
-Free s = untouched (figuresOf (s .args .layout)) (startsIn (s .args .at))
+Free s = untouched (larssonFiguresOf (s .args .layout)) (startsIn (s .args .at))
 
 mul-blocks : tie.Need-mul-blocks Inv-loop μ-loop
 mul-blocks c = omega (arith, limits (c .before))
@@ -73,11 +73,11 @@ loop-less c = search needs
 -- the kinds with that of sub-block i
 kinds-on : (c : tie.After-kind-of Inv-loop μ-loop) → (let t = c .before .before .before in let s = t .before .before in
     (x : ℕ) → x < t .loop .i + 1 → getD (set (t .loop .kinds) (t .loop .i) (c .kind-of .result)) x 0
-    ≡ cond (bears (figuresOf (s .args .layout)) (startsIn (s .args .at)) x) indexKind burstKind)
+    ≡ cond (bears (larssonFiguresOf (s .args .layout)) (startsIn (s .args .at)) x) indexKind burstKind)
 kinds-on c =
     let t = c .before .before .before in
     let s = t .before .before in
-    let f = figuresOf (s .args .layout) in
+    let f = larssonFiguresOf (s .args .layout) in
     let ss = startsIn (s .args .at) in
     filled-on (λ x v. v ≡ cond (bears f ss x) indexKind burstKind) (t .loop .kinds) (t .loop .i) (c .kind-of .result)
     (omega (arith, limits s, t .loop .inv .1, c .before .before .loop-test .taken)) (t .loop .inv .3)

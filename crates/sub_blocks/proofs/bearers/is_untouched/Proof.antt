@@ -13,7 +13,7 @@ use Rattle.combinatorics.proofs.Loops.{left-next, left-none}
 use Rattle.construction_a.specs.Figures.{maxBursts}
 use Rattle.larsson.specs.Writing.{untouched}
 use Rattle.placements.specs.Bridge.{startsIn}
-use Rattle.larsson_params.specs.Given.{figuresOf}
+use Rattle.larsson_params.specs.Given.{larssonFiguresOf}
 use Rattle.larsson_params.proofs.Shape.{bound, long, starts-room}
 use Rattle.sub_blocks.proofs.Bearing.{touched, any-here, any-on, any-none, untouched-is}
 use Rattle.sub_blocks.proofs.bearers.is_untouched.Statement.{statement}
@@ -76,7 +76,7 @@ next c =
     ∙ c .before .loop .inv .1
 
 -- what the bursts say of the sub-block
-says : (s : Start) → not (any (met s) (startsIn (s .args .t3))) ≡ untouched (figuresOf (s .args .layout)) (startsIn (s .args .t3)) (s .args .i)
+says : (s : Start) → not (any (met s) (startsIn (s .args .t3))) ≡ untouched (larssonFiguresOf (s .args .layout)) (startsIn (s .args .t3)) (s .args .i)
 says s = untouched-is (s .args .layout) (s .args .t3) (s .pre .0) (startsIn (s .args .t3)) (s .args .i) _ _ (s .pre .1 .0 (s .args .i) (s .pre .2)) refl
 
 touches-requires : tie.Need-touches-requires Inv-loop μ-loop

@@ -14,7 +14,7 @@ use Rattle.combinatorics.proofs.Stretch.{has-start, has-here, has-on, has-over}
 use Rattle.construction_a.proofs.Figures.{Ranged}
 use Rattle.larsson.specs.Figures.{subBlocks}
 use Rattle.blocks.specs.Blocks.{indexKind}
-use Rattle.larsson_params.specs.Given.{figuresOf}
+use Rattle.larsson_params.specs.Given.{larssonFiguresOf}
 use Rattle.larsson_params.proofs.Shape.{bound}
 use Rattle.sub_blocks.proofs.Holding.{Other, agrees-by}
 use Rattle.sub_blocks.proofs.held.agrees.Statement.{statement}
@@ -30,7 +30,7 @@ abbrev μ-loop : tie.MeasureT-loop
 abbrev Start : Type 0
 Start = tie.Start Inv-loop μ-loop
 
-limits : (s : Start) → Ranged (figuresOf (s .args .layout))
+limits : (s : Start) → Ranged (larssonFiguresOf (s .args .layout))
 limits s = bound (s .args .layout) (s .pre .0 .layout)
 
 -- the bearers with other symbols
@@ -38,7 +38,7 @@ abbrev Off : Start → ℕ → Bool
 Off s = Other (s .args .layout) (s .args .word .now) (s .args .i) (s .args .kinds .now)
 
 -- the loop's number of sub-blocks is the definition's
-by-blocks : (s : Start) → has (2 * s .args .layout .m + 1) 0 (Off s) ≡ has (subBlocks (figuresOf (s .args .layout))) 0 (Off s)
+by-blocks : (s : Start) → has (2 * s .args .layout .m + 1) 0 (Off s) ≡ has (subBlocks (larssonFiguresOf (s .args .layout))) 0 (Off s)
 by-blocks s = ap (λ (n : ℕ). has n 0 (Off s)) (add-one (2 * s .args .layout .m))
 
 mul-blocks : tie.Need-mul-blocks Inv-loop μ-loop

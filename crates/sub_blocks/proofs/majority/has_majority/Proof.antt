@@ -10,7 +10,7 @@ use Rattle.combinatorics.specs.Lists.{allBelow}
 use Rattle.combinatorics.specs.Majority.{hasCommon}
 use Rattle.larsson.specs.Figures.{subBlocks}
 use Rattle.larsson.specs.Reading.{subSymbols, subValue}
-use Rattle.larsson_params.specs.Given.{figuresOf}
+use Rattle.larsson_params.specs.Given.{larssonFiguresOf}
 use Rattle.larsson_params.proofs.Shape.{bound, starts-room}
 use Rattle.sub_blocks.proofs.Voting.{part-is, no-value, voted}
 use Rattle.sub_blocks.proofs.majority.has_majority.Statement.{statement}
@@ -21,7 +21,7 @@ room s = starts-room (s .args .layout) (s .pre .0 .layout) (s .args .starts .now
 
 -- what the test of the part says
 tested : (c : tie.After-all-below)
-    → (let a = c .before .before .before .before .before .args in c .all-below .result ≡ allBelow (a .layout .q) (subSymbols (figuresOf (a .layout)) (a .word .now) (a .i)))
+    → (let a = c .before .before .before .before .before .args in c .all-below .result ≡ allBelow (a .layout .q) (subSymbols (larssonFiguresOf (a .layout)) (a .word .now) (a .i)))
 tested c =
     let s = c .before .before .before .before .before in
     let a = s .args in
@@ -62,7 +62,7 @@ returns : tie.Need-returns
 returns c =
     let s = c .before .before .before .before .before .before in
     let a = s .args in
-    let f = figuresOf (a .layout) in
+    let f = larssonFiguresOf (a .layout) in
     sym (ap (hasCommon (subBlocks f) (suc (a .layout .m)) (subValue f (a .word .now)))
     (no-value (a .layout) (a .word .now) (s .pre .0) (a .i) (sym (tested (c .before)) ∙ not-true _ (c .if1 .taken))))
 

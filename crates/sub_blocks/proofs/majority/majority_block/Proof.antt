@@ -8,7 +8,7 @@ use borrow.Author.Needs.{needs}
 use Rattle.combinatorics.specs.Majority.{hasCommon}
 use Rattle.larsson.specs.Figures.{subBlocks}
 use Rattle.larsson.specs.Reading.{subValue}
-use Rattle.larsson_params.specs.Given.{figuresOf}
+use Rattle.larsson_params.specs.Given.{larssonFiguresOf}
 use Rattle.larsson_params.proofs.Shape.{bound}
 use Rattle.sub_blocks.proofs.Voting.{majority-here, majority-none}
 use Rattle.sub_blocks.proofs.majority.majority_block.Statement.{statement}
@@ -16,7 +16,7 @@ use Rattle.sub_blocks.proofs.majority.majority_block.Tie as tie
 
 abbrev Inv-loop : tie.InvT-loop
 Inv-loop layout starts word m i₀ i =
-    (i ≤ suc m) × ((x : ℕ) → x < i → hasCommon (subBlocks (figuresOf layout)) (suc (layout .m)) (subValue (figuresOf layout) word) (subValue (figuresOf layout) word x) ≡ false)
+    (i ≤ suc m) × ((x : ℕ) → x < i → hasCommon (subBlocks (larssonFiguresOf layout)) (suc (layout .m)) (subValue (larssonFiguresOf layout) word) (subValue (larssonFiguresOf layout) word x) ≡ false)
 
 abbrev μ-loop : tie.MeasureT-loop
 μ-loop layout starts word m i₀ i = suc m - i

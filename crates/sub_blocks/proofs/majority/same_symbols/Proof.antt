@@ -5,13 +5,13 @@ use native.Mathlib.Omega.{arith}
 use lib.ListN.{length, getD}
 use Rattle.combinatorics.specs.Lists.{sameList}
 use Rattle.larsson.specs.Figures.{subBlocks}
-use Rattle.larsson_params.specs.Given.{figuresOf}
+use Rattle.larsson_params.specs.Given.{larssonFiguresOf}
 use Rattle.larsson_params.proofs.Shape.{bound, starts-room}
 use Rattle.sub_blocks.proofs.Voting.{symbols-from}
 use Rattle.sub_blocks.proofs.majority.same_symbols.Statement.{statement}
 use Rattle.sub_blocks.proofs.majority.same_symbols.Tie as tie
 
-room : (s : tie.Start) (k : ℕ) → k < subBlocks (figuresOf (s .args .layout)) → getD (s .args .starts .now) k 0 + s .args .layout .«sub_len» ≤ s .args .layout .n
+room : (s : tie.Start) (k : ℕ) → k < subBlocks (larssonFiguresOf (s .args .layout)) → getD (s .args .starts .now) k 0 + s .args .layout .«sub_len» ≤ s .args .layout .n
 room s = starts-room (s .args .layout) (s .pre .0 .layout) (s .args .starts .now) (s .pre .1)
 
 mul-same-stretches : tie.Need-mul-same-stretches

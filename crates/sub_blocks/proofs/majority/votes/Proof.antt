@@ -10,14 +10,14 @@ use Rattle.combinatorics.specs.Stretch.{bit, sum, count}
 use Rattle.combinatorics.proofs.Stretch.{count-le, count-on}
 use Rattle.construction_a.proofs.Figures.{Ranged}
 use Rattle.larsson.specs.Reading.{subSymbols}
-use Rattle.larsson_params.specs.Given.{figuresOf}
+use Rattle.larsson_params.specs.Given.{larssonFiguresOf}
 use Rattle.larsson_params.proofs.Shape.{bound}
 use Rattle.sub_blocks.proofs.majority.votes.Statement.{statement}
 use Rattle.sub_blocks.proofs.majority.votes.Tie as tie
 
 abbrev Inv-loop : tie.InvT-loop
 Inv-loop layout starts word i blocks met₀ j₀ met j =
-    (j ≤ blocks) × (met ≡ count j 0 (λ x. sameList (subSymbols (figuresOf layout) word x) (subSymbols (figuresOf layout) word i)))
+    (j ≤ blocks) × (met ≡ count j 0 (λ x. sameList (subSymbols (larssonFiguresOf layout) word x) (subSymbols (larssonFiguresOf layout) word i)))
 
 abbrev μ-loop : tie.MeasureT-loop
 μ-loop layout starts word i blocks met₀ j₀ met j = blocks - j
@@ -25,12 +25,12 @@ abbrev μ-loop : tie.MeasureT-loop
 abbrev Start : Type 0
 Start = tie.Start Inv-loop μ-loop
 
-limits : (s : Start) → Ranged (figuresOf (s .args .layout))
+limits : (s : Start) → Ranged (larssonFiguresOf (s .args .layout))
 limits s = bound (s .args .layout) (s .pre .0 .layout)
 
 -- the sub-blocks with the symbols
 abbrev Alike : Start → ℕ → Bool
-Alike s = λ x. sameList (subSymbols (figuresOf (s .args .layout)) (s .args .word .now) x) (subSymbols (figuresOf (s .args .layout)) (s .args .word .now) (s .args .i))
+Alike s = λ x. sameList (subSymbols (larssonFiguresOf (s .args .layout)) (s .args .word .now) x) (subSymbols (larssonFiguresOf (s .args .layout)) (s .args .word .now) (s .args .i))
 
 mul-blocks : tie.Need-mul-blocks Inv-loop μ-loop
 mul-blocks c = omega (arith, limits (c .before .before))

@@ -1,14 +1,13 @@
 -- `Eye::spherical_equivalent` meets its contract: half the cylinder and the sum are exact. Assumes nothing.
-use mathlib.Core.Path.{_≡_, refl, sym, ap, _∙_}
+use mathlib.Core.Path.{refl, sym, ap, _∙_}
 use lib.Ieee.{round, size, units, odd, ofBits}
-use Rattle.prescription.specs.declared.eyes.Eye.{Eye}
-use Rattle.prescription.specs.declared.eyes.Eye.the-variants.{Plano, Sphere, Toric}
+use Rattle.prescription.specs.declared.eyes.Eye.the-variants.{Plano}
 use Rattle.prescription.specs.Fractions.{fraction}
 use Rattle.prescription.specs.Lens.{plano, equivalent}
 use Rattle.prescription.specs.Eyes.{lensOf}
-use Rattle.prescription.specs.Counts.{storedAs, storedOf}
+use Rattle.prescription.specs.Counts.{storedAs}
 use Rattle.prescription.specs.Outcomes.{equivalentOut}
-use Rattle.prescription.proofs.LensOfEye.{refuses, sphere-is, toric-is, equivalents, sphere-equivalent, toric-equivalent}
+use Rattle.prescription.proofs.LensOfEye.{refuses, sphere-told, toric-told, equivalents, sphere-equivalent, toric-equivalent}
 use borrow.Author.Needs.{needs}
 use Rattle.prescription.proofs.eyes.Eye.spherical_equivalent.Statement.{statement}
 use Rattle.prescription.proofs.eyes.Eye.spherical_equivalent.Tie as tie
@@ -43,35 +42,19 @@ returns-2 c = sym (equivalents Plano plano refl) ∙ ap equivalentOut (sym (c .e
 
 returns-3 : tie.Need-returns-3
 returns-3 c =
-    let self = c .before .before .before .before .before .before .args .self in
-    let p = c .before .self .given .0 .0 in
-    let is : self ≡ Sphere p = c .before .self .given .1 in
-    let i = sphere-is p (c .before .before .before .enum-told .given .0 .0) (sym (ap storedAs (c .before .before .before .enum-told .given .1))
-    ∙ c .before .before .before .before .before .stored .ensures ∙ ap (λ (e : Eye). storedOf (lensOf e)) is) in
-    sphere-equivalent p i (c .known-told .given .0 .1) ∙ ap equivalentOut (sym is)
+    let is = c .before .self .given .1 in
+    let i = sphere-told (c .before .before .before .enum-told .given .1) (c .before .before .before .before .before .stored .ensures) is in
+    sphere-equivalent (c .before .self .given .0 .0) i (c .known-told .given .0 .1) ∙ ap equivalentOut (sym is)
 
 returns-4 : tie.Need-returns-4
 unfolding ofBits
 returns-4 c =
-    let self = c .before .before .before .before .before .before .args .self in
     let v = c .before .self2 .given .0 in
-    let is : self ≡ Toric (v .0) (v .1 .0) (v .1 .1 .0) = c .before .self2 .given .1 in
-    let i = toric-is (v .0) (v .1 .0) (v .1 .1 .0) (c .before .before .before .enum-told .given .0 .0)
-    (sym (ap storedAs (c .before .before .before .enum-told .given .1)) ∙ c .before .before .before .before .before .stored .ensures
-    ∙ ap (λ (e : Eye). storedOf (lensOf e)) is) in
+    let is = c .before .self2 .given .1 in
+    let i = toric-told (c .before .before .before .enum-told .given .1) (c .before .before .before .before .before .stored .ensures) is in
     toric-equivalent (v .0) (v .1 .0) (v .1 .1 .0) i ∙ ap equivalentOut (sym is)
 
 pub spherical-equivalent-spec : {M : Type 1} → statement M
 spherical-equivalent-spec =
     tie.close
-    (tie.spec
-    stored-requires
-    enum-told
-    enum-told-2
-    returns
-    enum-told-3
-    enum-known-self
-    enum-known-self-2
-    returns-2
-    returns-3
-    returns-4)
+    (tie.spec stored-requires enum-told enum-told-2 returns enum-told-3 enum-known-self enum-known-self-2 returns-2 returns-3 returns-4)

@@ -1,14 +1,13 @@
 -- `Eye::transpose` meets its contract: the float sum and the negation are those of the counts. Assumes nothing.
 use mathlib.Core.Path.{_≡_, refl, sym, ap, _∙_}
 use lib.Ieee.{binary64, add, neg}
-use Rattle.prescription.specs.declared.eyes.Eye.{Eye}
 use Rattle.prescription.specs.declared.eyes.Eye.the-variants.{Plano, Sphere, Toric}
 use Rattle.prescription.specs.Lens.{plano, sphere, toric, keeps, transposed}
 use Rattle.prescription.specs.Eyes.{lensOf, eyeOf}
-use Rattle.prescription.specs.Counts.{storedAs, storedOf}
+use Rattle.prescription.specs.Counts.{storedAs}
 use Rattle.prescription.specs.Outcomes.{answered, transposeOut}
 use Rattle.prescription.proofs.Lenses.{toric-kept}
-use Rattle.prescription.proofs.LensOfEye.{refuses, sphere-is, toric-is, sphere-lens, toric-lens, sphere-eye, toric-eye, transposes}
+use Rattle.prescription.proofs.LensOfEye.{refuses, sphere-told, toric-told, sphere-lens, toric-lens, sphere-eye, toric-eye, transposes}
 use Rattle.prescription.proofs.LensOfEye.{toric-transposed, restored}
 use borrow.Author.Needs.{needs}
 use Rattle.prescription.proofs.eyes.Eye.transpose.Statement.{statement}
@@ -40,13 +39,9 @@ enum-known-self-2 c = search needs
 
 turned-requires : tie.Need-turned-requires
 turned-requires c κs =
-    let self = c .before .before .before .before .before .before .args .self in
-    let v = c .before .self2 .given .0 in
-    let is : self ≡ Toric (v .0) (v .1 .0) (v .1 .1 .0) = c .before .self2 .given .1 in
-    let i = toric-is (v .0) (v .1 .0) (v .1 .1 .0) (c .before .before .before .enum-told .given .0 .0)
-    (sym (ap storedAs (c .before .before .before .enum-told .given .1)) ∙ c .before .before .before .before .before .stored .ensures
-    ∙ ap (λ (e : Eye). storedOf (lensOf e)) is) in
-    toric-kept (i .s) (i .c) (v .1 .1 .0) (i .kept) .high
+    let v = c .before .self2 .given in
+    let i = toric-told (c .before .before .before .enum-told .given .1) (c .before .before .before .before .before .stored .ensures) (v .1) in
+    toric-kept (i .s) (i .c) (v .0 .1 .1 .0) (i .kept) .high
 
 returns-2 : tie.Need-returns-2
 unfolding lensOf eyeOf transposed keeps
@@ -59,9 +54,8 @@ unfolding transposed
 returns-3 c =
     let self = c .before .before .before .before .before .before .args .self in
     let p = c .before .self .given .0 .0 in
-    let is : self ≡ Sphere p = c .before .self .given .1 in
-    let i = sphere-is p (c .before .before .before .enum-told .given .0 .0) (sym (ap storedAs (c .before .before .before .enum-told .given .1))
-    ∙ c .before .before .before .before .before .stored .ensures ∙ ap (λ (e : Eye). storedOf (lensOf e)) is) in
+    let is = c .before .self .given .1 in
+    let i = sphere-told (c .before .before .before .enum-told .given .1) (c .before .before .before .before .before .stored .ensures) is in
     let l = sphere (i .count) in
     let eye : Sphere p ≡ eyeOf l = sphere-eye p i (c .known-told .given .0 .1) in
     (ap answered eye ∙ sym (transposes (Sphere p) l (sphere-lens p i)) ∙ ap transposeOut (sym is), restored self (Sphere p) l (i .kept) (is ∙ eye) eye)
@@ -70,10 +64,8 @@ returns-4 : tie.Need-returns-4
 returns-4 c =
     let self = c .before .before .before .before .before .before .before .args .self in
     let v = c .before .before .self2 .given .0 in
-    let is : self ≡ Toric (v .0) (v .1 .0) (v .1 .1 .0) = c .before .before .self2 .given .1 in
-    let i = toric-is (v .0) (v .1 .0) (v .1 .1 .0) (c .before .before .before .before .enum-told .given .0 .0)
-    (sym (ap storedAs (c .before .before .before .before .enum-told .given .1)) ∙ c .before .before .before .before .before .before .stored .ensures
-    ∙ ap (λ (e : Eye). storedOf (lensOf e)) is) in
+    let is = c .before .before .self2 .given .1 in
+    let i = toric-told (c .before .before .before .before .enum-told .given .1) (c .before .before .before .before .before .before .stored .ensures) is in
     let x = v .0 in
     let y = v .1 .0 in
     let a = v .1 .1 .0 in
@@ -89,15 +81,4 @@ returns-4 c =
 pub transpose-spec : {M : Type 1} → statement M
 transpose-spec =
     tie.close
-    (tie.spec
-    stored-requires
-    enum-told
-    enum-told-2
-    returns
-    enum-told-3
-    enum-known-self
-    enum-known-self-2
-    turned-requires
-    returns-2
-    returns-3
-    returns-4)
+    (tie.spec stored-requires enum-told enum-told-2 returns enum-told-3 enum-known-self enum-known-self-2 turned-requires returns-2 returns-3 returns-4)

@@ -2,8 +2,8 @@
 use Prim.Native.Nat.{_+_}
 use native.Mathlib.Omega.{arith}
 use borrow.Author.Needs.{needs}
-use Rattle.prescription.proofs.texts.two_bytes.Statement.{statement}
-use Rattle.prescription.proofs.texts.two_bytes.Tie as tie
+use Rattle.symbols.proofs.numbers.two_bytes.Statement.{statement}
+use Rattle.symbols.proofs.numbers.two_bytes.Tie as tie
 
 shared-slice-read-high : tie.Need-shared-slice-read-high
 shared-slice-read-high c = search needs
@@ -26,6 +26,9 @@ mul-result c = omega (arith, c .shared-slice-known2 .given (c .before .before .a
 add-result : tie.Need-add-result
 add-result c = omega (arith, c .shared-slice-known2 .given (c .before .before .args .at), c .shared-slice-known2 .given (c .before .before .args .at + 1))
 
+cast-result : tie.Need-cast-result
+cast-result c = omega (arith, c .shared-slice-known2 .given (c .before .before .args .at), c .shared-slice-known2 .given (c .before .before .args .at + 1))
+
 returns : tie.Need-returns
 returns c = search needs
 
@@ -40,4 +43,5 @@ two-bytes-spec =
     cast-low
     mul-result
     add-result
+    cast-result
     returns)

@@ -1,4 +1,4 @@
--- The starts of a placement, filled in from the left. Assumes nothing.
+-- Starts that are read from the first to the last, and stored as they are read. Assumes nothing.
 use mathlib.Core.Path.{_≡_, refl, sym, ap, _∙_}
 use mathlib.Core.List.{List, [], _∷_, _++_}
 use Prim.Native.Nat.{ℕ, zero, suc, _+_, _-_, _<_}
