@@ -12,7 +12,8 @@ use Rattle.cells.specs.Cells.{weave}
 use Rattle.cells.specs.Plan.{cellOf}
 use Rattle.cells.specs.Digits.{span, spell, places}
 use Rattle.construction_a.specs.Figures.{inRange, parts, blockMin, leastTail, indexTail, fits, messageLen}
-use Rattle.construction_a.specs.Writing.{becomes, withBurst, withBursts, isBurst, next, partCount, partWith, chosen, beside, isChosen, isIndexIn, isIndex, indexBlocks, kindAt, plan, word}
+use Rattle.construction_a.specs.Writing.{becomes, withBurst, withBursts, isBurst, next, partCount, partWith, chosen, beside, isChosen, isIndexIn, isIndex}
+use Rattle.construction_a.specs.Writing.{indexBlocks, kindAt, plan, word}
 use Rattle.construction_a.specs.Reading.{heads}
 use Rattle.construction_a.specs.Outcomes.{figuresOut, encodeOut, coverOut}
 use Rattle.jobs.specs.Table.{firstEntry, replaceFirst, put, twice, decide}
@@ -20,5 +21,8 @@ use Rattle.ledger.specs.Calls.{answersFrom}
 use Rattle.bench.specs.Strips.{starred, StarredHold}
 
 pub starred-hold : StarredHold
-unfolding all any sameList sum has first members tabulate top choose rankFrom unrankDown unrank apart inBurst placements reduceFrom expandFrom rankOf startsOf covers coverRank pieceLen pieceStart blockAt blockHead blockWith weave span spell places inRange parts blockMin leastTail indexTail fits messageLen becomes withBurst withBursts isBurst next partCount partWith chosen beside isChosen isIndexIn isIndex indexBlocks cellOf kindAt plan word heads figuresOut encodeOut coverOut comesTrue starred flatMap firstEntry replaceFirst put twice decide answersFrom
+unfolding all any sameList sum has first members tabulate top choose rankFrom unrankDown unrank apart inBurst placements reduceFrom expandFrom rankOf
+    startsOf covers coverRank pieceLen pieceStart blockAt blockHead blockWith weave span spell places inRange parts blockMin leastTail indexTail fits
+    messageLen becomes withBurst withBursts isBurst next partCount partWith chosen beside isChosen isIndexIn isIndex indexBlocks cellOf kindAt plan word
+    heads figuresOut encodeOut coverOut comesTrue starred flatMap firstEntry replaceFirst put twice decide answersFrom
 starred-hold = refl

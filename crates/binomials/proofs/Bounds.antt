@@ -50,7 +50,13 @@ all-over = refl
 
 pub ways-fit : (n k i : ℕ) → n ≤ mostThings k → k ≤ maxChosen → i ≤ k → choose n i ≤ maxCount
 ways-fit n k i h l s =
-    omega (arith, choose-mono i h, quick-is (mostThings k) i, small (suc k) i maxCount (quick (mostThings k)) (none-has (suc maxChosen) k (λ k. has (suc k) 0 (λ i. ltb maxCount (quick (mostThings k) i))) all-fit (omega arith)) (omega arith))
+    omega (
+      arith,
+      choose-mono i h,
+      quick-is (mostThings k) i,
+      small (suc k) i maxCount (quick (mostThings k))
+          (none-has (suc maxChosen) k (λ k. has (suc k) 0 (λ i. ltb maxCount (quick (mostThings k) i))) all-fit (omega arith)) (omega arith),
+    )
 
 -- "or say that it exceeds 9223372036854775807"
 pub most-is : (n k : ℕ) → n ≤ maxThings → k ≤ maxChosen → choose n k ≤ maxCount → n ≤ mostThings k

@@ -27,6 +27,7 @@ same-figures f h =
     let x = both (inRange f && leb (f .n) 1024) (leb (f .m) 6) h in
     let y = both (inRange f) (leb (f .n) 1024) (x .0) in
     by-le (f .m * f .b) (f .n)
-    (λ t. (t && leb (placementCount f) maxCount && ltb (indexTail f) (blockMin f) && leb (f .b) (blockMin f - indexTail f)) ≡ (t && ltb (indexTail f) (blockMin f) && leb (f .b) (blockMin f - indexTail f)))
+    (λ t. (t && leb (placementCount f) maxCount && ltb (indexTail f) (blockMin f) && leb (f .b) (blockMin f - indexTail f))
+    ≡ (t && ltb (indexTail f) (blockMin f) && leb (f .b) (blockMin f - indexTail f)))
     (λ l. rw (leb-holds (placementCount f) maxCount (count-fits f (ranged f (y .0) .b-least) (le-of (f .n) 1024 (y .1)) (le-of (f .m) 6 (x .1)) l)))
     (λ _. refl)

@@ -42,7 +42,9 @@ all-fit = refl
 pub orders-fit : (k : ℕ) → k ≤ maxTaken → orders k ≤ mostOrders
 orders-fit k l =
     by-le (suc mostOrders) (orders k) (λ _. orders k ≤ mostOrders)
-    (λ g. absurd (true≢false (sym (has-some (suc maxTaken) 0 k (λ k. ltb mostOrders (orders k)) (omega arith) (omega arith) (leb-holds (suc mostOrders) (orders k) g)) ∙ all-fit)))
+    (λ g. absurd
+    (true≢false
+    (sym (has-some (suc maxTaken) 0 k (λ k. ltb mostOrders (orders k)) (omega arith) (omega arith) (leb-holds (suc mostOrders) (orders k) g)) ∙ all-fit)))
     (λ g. omega arith)
 
 -- none at first

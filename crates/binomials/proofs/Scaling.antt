@@ -8,7 +8,8 @@ pub scaled-is : (a b d : ℕ) → 0 < d → a / d * b + a % d * b / d ≡ a * b 
 scaled-is a b d h =
     add-comm (a / d * b) (a % d * b / d)
     ∙ sym (add-mul-div-left (a % d * b) (a / d * b) h)
-    ∙ ap (λ (x : ℕ). x / d) (ap (λ (x : ℕ). a % d * b + x) (sym (mul-assoc d (a / d) b)) ∙ sym (add-mul (a % d) (d * (a / d)) b) ∙ ap (λ (x : ℕ). x * b) (mod-add-div a d))
+    ∙ ap (λ (x : ℕ). x / d) (ap (λ (x : ℕ). a % d * b + x) (sym (mul-assoc d (a / d) b)) ∙ sym (add-mul (a % d) (d * (a / d)) b)
+    ∙ ap (λ (x : ℕ). x * b) (mod-add-div a d))
 
 -- the smaller part, by the largest divisor and factor
 pub rest-small : (a b d mostD mostB : ℕ) → 0 < d → d ≤ mostD → b ≤ mostB → a % d * b ≤ mostD * mostB

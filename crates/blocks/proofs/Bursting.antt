@@ -72,5 +72,6 @@ bursting-turn f ss j last kinds s h e l c m =
 pub bursting-done : (f : Params) (ss : List ℕ) (kinds : List ℕ) → Bursting f ss (length ss) kinds → BurstsOf f ss kinds
 unfolding withBursts
 bursting-done f ss kinds s =
-    let e : drop (length ss) (lastBlocks f ss) ≡ [] = drop-of-length-le (lastBlocks f ss) {i = length ss} (omega (arith, length-map ss (λ x. blockOf f (x + f .b - 1)))) in
+    let e : drop (length ss) (lastBlocks f ss) ≡ [] = drop-of-length-le (lastBlocks f ss) {i = length ss}
+    (omega (arith, length-map ss (λ x. blockOf f (x + f .b - 1)))) in
     record { set = rw e at (s .rest); two = s .two }

@@ -48,7 +48,8 @@ within-more from j k =
     by-eq k (from + j) (λ t. within from (j + 1) k ≡ (t || within from j k))
     (λ e. rw (leb-holds from k (omega arith), leb-holds (suc k) (from + (j + 1)) (omega arith)))
     (λ e. by-le from k (λ t. (t && ltb k (from + (j + 1))) ≡ (t && ltb k (from + j)))
-    (λ l. by-le (suc k) (from + j) (λ t. ltb k (from + (j + 1)) ≡ t) (λ g. leb-holds (suc k) (from + (j + 1)) (omega arith)) (λ g. leb-fails (suc k) (from + (j + 1)) (omega arith)))
+    (λ l. by-le (suc k) (from + j) (λ t. ltb k (from + (j + 1)) ≡ t) (λ g. leb-holds (suc k) (from + (j + 1)) (omega arith))
+    (λ g. leb-fails (suc k) (from + (j + 1)) (omega arith)))
     (λ _. refl))
 
 -- a whole part

@@ -18,7 +18,8 @@ use Rattle.turns.specs.declared.Wants.the-variants.{Read, Write, Stop}
 use Rattle.turns.specs.View.{bufferLen, View, wantsAt, wantsOf, isServable, advanceOut}
 use Rattle.turns.specs.State.{Buffers, WithinBuffers, viewOf, Begun, WaitsInFront, afterRead, afterWrite}
 use Rattle.turns.specs.Trace.{Event, written, unwritten, Answers, afterEvent, viewAfter, IsTrace}
-use Rattle.turns.proofs.Views.{waiting-length, gathered-length, view-begun, begun-within, eventOf, view-read, event-fits, read-within, read-repeats, view-written, write-within, written-fits}
+use Rattle.turns.proofs.Views.{waiting-length, gathered-length, view-begun, begun-within, eventOf, view-read, event-fits, read-within, read-repeats}
+use Rattle.turns.proofs.Views.{view-written, write-within, written-fits}
 use Rattle.turns.proofs.Printing.{after-rests}
 use Rattle.turns.proofs.Ending.{left, read-less, write-less}
 use Rattle.burgzemi.specs.Finished.{Finished}
@@ -41,7 +42,8 @@ pub record Answered (s q : State) (input next output : List ℕ) : Type 0 where
   pub less : left (advanceOut (afterEvent (viewOf s input output) event)) + q .repeats < left (viewOf s input output) + s .repeats
 
 -- what is handed over as the machine holds it
-pub told-read : (s : State) (got error : ℤ) → SFits w64 got → SFits w32 error → afterRead s (toZ w64 (ofZ w64 got)) (toZ w32 (ofZ w32 error)) ≡ afterRead s got error
+pub told-read : (s : State) (got error : ℤ) → SFits w64 got → SFits w32 error
+    → afterRead s (toZ w64 (ofZ w64 got)) (toZ w32 (ofZ w32 error)) ≡ afterRead s got error
 told-read s got error f g =
     let a = toZ-ofZ w64 got f in
     let b = toZ-ofZ w32 error g in
@@ -75,13 +77,15 @@ module _ (s : State) (input output : List ℕ) (g : Going s input output) where
   read-answered w e r got error bytes next q m n is put =
       let want : wantsOf (viewOf s input output) ≡ Read = wanted w e ∙ r in
       let front = g .front (sym e ∙ r) in
-      let len : length (midOf (s .to) (length input - s .to) input) ≡ bufferLen - s .to = mid-len (s .to) (length input) input (omega arith) ∙ ap (λ (j : ℕ). j - s .to) (g .buffers .0) in
+      let len : length (midOf (s .to) (length input - s .to) input) ≡ bufferLen - s .to =
+      mid-len (s .to) (length input) input (omega arith) ∙ ap (λ (j : ℕ). j - s .to) (g .buffers .0) in
       let moved : Moved (bufferLen - s .to) got = subst (λ (j : ℕ). Moved j got) len m in
       let all : length bytes ≡ bufferLen - s .to = n ∙ len in
       let v : viewOf q next output ≡ afterEvent (viewOf s input output) (eventOf s got error bytes) =
       ap (λ (x : State). viewOf x next output) is ∙ ap (λ (x : List ℕ). viewOf (afterRead s got error) x output) put
       ∙ view-read s input output bytes (length input - s .to) (g .within) (front .0) (g .buffers .0) all got error moved in
-      let inside : WithinBuffers q = subst WithinBuffers (sym is) (read-within s input output bytes (length input - s .to) (g .within) (front .0) (g .buffers .0) all got error moved) in
+      let inside : WithinBuffers q = subst WithinBuffers (sym is)
+      (read-within s input output bytes (length input - s .to) (g .within) (front .0) (g .buffers .0) all got error moved) in
       let size : length next ≡ bufferLen = ap length put ∙ same-len-mid (s .to) (length input - s .to) input bytes n ∙ g .buffers .0 in
       let fits = event-fits s input output bytes (length input - s .to) (g .within) (front .0) (g .buffers .0) all got error moved in
       record {

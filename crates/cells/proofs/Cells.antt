@@ -85,13 +85,15 @@ pub map-keep : (b : Bool) (x : ℕ) (xs : List ℕ) (f : ℕ → ℕ) → keepIf
 map-keep true x xs f = refl
 map-keep false x xs f = refl
 
-pub pick-at : (kind : Cell) (n k : ℕ) (kd : ℕ → Cell) (w : List ℕ) → pick kind (tabulate n k kd) (drop k w) ≡ map (λ x. getD w x 0) (members n k (λ x. is kind (kd x)))
+pub pick-at : (kind : Cell) (n k : ℕ) (kd : ℕ → Cell) (w : List ℕ)
+    → pick kind (tabulate n k kd) (drop k w) ≡ map (λ x. getD w x 0) (members n k (λ x. is kind (kd x)))
 unfolding pick tabulate members
 pick-at kind zero k kd w = refl
 pick-at kind (suc n) k kd w =
     rw (first-drop k w, tail-drop k w, pick-at kind n (suc k) kd w) (map-keep (is kind (kd k)) k (members n (suc k) (λ x. is kind (kd x))) (λ x. getD w x 0))
 
-pub agree-at : (n k x : ℕ) (kd : ℕ → Cell) (v w : List ℕ) → Agree (tabulate n k kd) (drop k v) (drop k w) → k ≤ x → x < k + n → is burst (kd x) ≡ false → getD v x 0 ≡ getD w x 0
+pub agree-at : (n k x : ℕ) (kd : ℕ → Cell) (v w : List ℕ) → Agree (tabulate n k kd) (drop k v) (drop k w) → k ≤ x → x < k + n → is burst (kd x) ≡ false
+    → getD v x 0 ≡ getD w x 0
 unfolding tabulate
 agree-at zero k x kd v w h a b e = absurd (omega arith)
 agree-at (suc n) k x kd v w (h, g) a b e =
@@ -104,14 +106,16 @@ clean-at zero k x kd w h a b e = absurd (omega arith)
 clean-at (suc n) k x kd w (h, g) a b e =
     at-or-past k x a (λ d. rw (← d) (sym (first-drop k w) ∙ h (rw d e))) (λ l. clean-at n (suc k) x kd w (rw (← tail-drop k w) g) l (omega arith) e)
 
-pub at-clean : (n k : ℕ) (kd : ℕ → Cell) (w : List ℕ) → ((x : ℕ) → k ≤ x → x < k + n → is fixed (kd x) ≡ true → getD w x 0 ≡ 0) → Clean (tabulate n k kd) (drop k w)
+pub at-clean : (n k : ℕ) (kd : ℕ → Cell) (w : List ℕ) → ((x : ℕ) → k ≤ x → x < k + n → is fixed (kd x) ≡ true → getD w x 0 ≡ 0)
+    → Clean (tabulate n k kd) (drop k w)
 unfolding tabulate
 at-clean zero k kd w h = tt
 at-clean (suc n) k kd w h =
     (λ e. first-drop k w ∙ h k (omega arith) (omega arith) e, rw (tail-drop k w) (at-clean n (suc k) kd w (λ x a b. h x (omega arith) (omega arith))))
 
 -- words that agree at the positions of a kind give the same there
-pub map-members : (n k : ℕ) (s : ℕ → Bool) (f f′ : ℕ → ℕ) → ((x : ℕ) → k ≤ x → x < k + n → s x ≡ true → f x ≡ f′ x) → map f (members n k s) ≡ map f′ (members n k s)
+pub map-members : (n k : ℕ) (s : ℕ → Bool) (f f′ : ℕ → ℕ) → ((x : ℕ) → k ≤ x → x < k + n → s x ≡ true → f x ≡ f′ x)
+    → map f (members n k s) ≡ map f′ (members n k s)
 unfolding members
 map-members zero k s f f′ h = refl
 map-members (suc n) k s f f′ h =
@@ -119,7 +123,8 @@ map-members (suc n) k s f f′ h =
     by-bool (s k) (λ t. rw t (ap₂ {C = List ℕ} _∷_ (h k (omega arith) (omega arith) t) i)) (λ t. rw t i)
 
 -- each cell is of one kind
-pub kinds : (n k : ℕ) (kd : ℕ → Cell) → count n k (λ x. is burst (kd x)) + count n k (λ x. is fixed (kd x)) + count n k (λ x. is digit (kd x)) + count n k (λ x. is message (kd x)) ≡ n
+pub kinds : (n k : ℕ) (kd : ℕ → Cell) → count n k (λ x. is burst (kd x)) + count n k (λ x. is fixed (kd x)) + count n k (λ x. is digit (kd x)) + count n k
+    (λ x. is message (kd x)) ≡ n
 unfolding sum
 kinds zero k kd = refl
 kinds (suc n) k kd = omega (arith, one (kd k), kinds n (suc k) kd)
@@ -161,7 +166,8 @@ pub pick-small : (kind : Cell) (n : ℕ) (kd : ℕ → Cell) (w : List ℕ) (q :
 unfolding members all
 pick-small kind n kd w q small = rw (pick-at kind n 0 kd w) (go n 0 (λ x _ l t. small x (omega arith) t))
   where
-    go : (n k : ℕ) → ((x : ℕ) → k ≤ x → x < k + n → is kind (kd x) ≡ true → getD w x 0 < q) → allBelow q (map (λ x. getD w x 0) (members n k (λ x. is kind (kd x)))) ≡ true
+    go : (n k : ℕ) → ((x : ℕ) → k ≤ x → x < k + n → is kind (kd x) ≡ true → getD w x 0 < q)
+        → allBelow q (map (λ x. getD w x 0) (members n k (λ x. is kind (kd x)))) ≡ true
     go zero k h = refl
     go (suc n) k h =
         let i = go n (suc k) (λ x a l t. h x (omega arith) (omega arith) t) in
@@ -176,7 +182,8 @@ tail-at : (xs : List ℕ) (x : ℕ) → getD (tail xs) x 0 ≡ getD xs (suc x) 0
 tail-at [] x = refl
 tail-at (y ∷ ys) x = refl
 
-pub woven-below : (q : ℕ) (cs : List Cell) (ds ms : List ℕ) → 0 < q → ((x : ℕ) → getD ds x 0 < q) → ((x : ℕ) → getD ms x 0 < q) → allBelow q (weave cs ds ms) ≡ true
+pub woven-below : (q : ℕ) (cs : List Cell) (ds ms : List ℕ) → 0 < q → ((x : ℕ) → getD ds x 0 < q) → ((x : ℕ) → getD ms x 0 < q)
+    → allBelow q (weave cs ds ms) ≡ true
 unfolding weave all
 woven-below q [] ds ms h d m = refl
 woven-below q (burst ∷ cs) ds ms h d m = rw (leb-holds 1 q h) (woven-below q cs ds ms h d m)

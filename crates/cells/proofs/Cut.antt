@@ -2,7 +2,8 @@
 -- which blocks' first positions a burst can touch. Assumes nothing.
 use mathlib.Core.Path.{_≡_, refl, ap, _∙_}
 use Prim.Native.Nat.{ℕ, zero, suc, _+_, _-_, _*_, _/_, _%_, _≤_, _<_}
-use native.Mathlib.Nat.{add-mul, mul-add, div-lt-iff-lt-mul, lt-div-mul-add, div-add-mod, div-add-mod', mod-lt, le-div-iff-mul-le, div-mul-le-self, div-div-eq-div-mul, le-trans, mul-le-mul-right}
+use native.Mathlib.Nat.{add-mul, mul-add, div-lt-iff-lt-mul, lt-div-mul-add, div-add-mod, div-add-mod', mod-lt, le-div-iff-mul-le, div-mul-le-self}
+use native.Mathlib.Nat.{div-div-eq-div-mul, le-trans, mul-le-mul-right}
 use native.Mathlib.Decide.{le-ind}
 use native.Mathlib.Omega.{arith}
 use lib.Arith.{digits-lt, digits-div, digits-mod}
@@ -29,7 +30,8 @@ unfolding pieceLen
 piece-is t c zero = piece-zero t c ∙ omega arith
 piece-is t c (suc i) =
     rw (piece-next t c i, piece-is t c i)
-    (by-le (c - t % c) i (λ b. i * (t / c) + (i - (c - t % c)) + (t / c + bit b) ≡ suc i * (t / c) + (suc i - (c - t % c))) (λ h. omega arith) (λ h. omega arith))
+    (by-le (c - t % c) i (λ b. i * (t / c) + (i - (c - t % c)) + (t / c + bit b) ≡ suc i * (t / c) + (suc i - (c - t % c))) (λ h. omega arith)
+    (λ h. omega arith))
 
 -- together they have the whole length
 pub piece-all : (t c : ℕ) → 0 < c → pieceStart t c c ≡ t

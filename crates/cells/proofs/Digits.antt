@@ -4,7 +4,8 @@ use mathlib.Core.Logic.{_≢_}
 use mathlib.Core.Bool.{true}
 use mathlib.Core.List.{List, [], _∷_, _++_, tail, flatMap, append-nil}
 use Prim.Native.Nat.{ℕ, zero, suc, _+_, _-_, _*_, _/_, _%_, _^_, _≤_, _<_, min}
-use native.Mathlib.Nat.{min-eq-left, min-eq-right, div-lt-iff-lt-mul, mod-lt, div-add-mod', pow-zero, pow-suc, pow-succ', mul-assoc, mul-mul-mul-comm, mul-comm, mul-pos, add-sub-cancel-left, mod-eq-of-lt, div-one, div-div-eq-div-mul, le-mul-of-pos-right}
+use native.Mathlib.Nat.{min-eq-left, min-eq-right, div-lt-iff-lt-mul, mod-lt, div-add-mod', pow-zero, pow-suc, pow-succ', mul-assoc, mul-mul-mul-comm}
+use native.Mathlib.Nat.{mul-comm, mul-pos, add-sub-cancel-left, mod-eq-of-lt, div-one, div-div-eq-div-mul, le-mul-of-pos-right}
 use native.Mathlib.Omega.{arith}
 use borrow.Author.Tests.{leb-true}
 use lib.Dec.{ltb}
@@ -187,11 +188,13 @@ horner-append q (x ∷ xs) ys ds a =
     horner-append q xs ys (tail ds) (a * radix q x + (getD ds 0 0 - offset x)) ∙ (rw (tail-drop ds (length xs)))
 
 -- digits past the places are not read
-pub horner-same : (q : ℕ) (xs : List Place) (ds es : List ℕ) (a : ℕ) → ((i : ℕ) → i < length xs → getD ds i 0 ≡ getD es i 0) → horner q xs ds a ≡ horner q xs es a
+pub horner-same : (q : ℕ) (xs : List Place) (ds es : List ℕ) (a : ℕ) → ((i : ℕ) → i < length xs → getD ds i 0 ≡ getD es i 0)
+    → horner q xs ds a ≡ horner q xs es a
 unfolding horner
 horner-same q [] ds es a h = refl
 horner-same q (x ∷ xs) ds es a h =
-    rw (h 0 (omega arith)) (horner-same q xs (tail ds) (tail es) (a * radix q x + (getD es 0 0 - offset x)) (λ i l. tail-at ds i ∙ h (suc i) (omega arith) ∙ sym (tail-at es i)))
+    rw (h 0 (omega arith)) (horner-same q xs (tail ds) (tail es) (a * radix q x + (getD es 0 0 - offset x))
+    (λ i l. tail-at ds i ∙ h (suc i) (omega arith) ∙ sym (tail-at es i)))
 
 pub span-snoc : (q : ℕ) (xs : List Place) (x : Place) → span q (xs ++ (x ∷ [])) ≡ span q xs * radix q x
 unfolding span
@@ -261,8 +264,12 @@ module _ (q r : ℕ) (s f : ℕ → ℕ) where
   heads-spelled (k ∷ ks) l h =
       let z : f (s k) ≢ 0 = h .0 in
       let rest = flatMap (λ k. tabulate (suc r) (s k) f) ks in
-      let b = both (ltb (f (s k)) q) (allBelow q (tabulate r (suc (s k)) f ++ rest)) l in
-      (omega arith, omega (arith, leb-true (suc (f (s k))) q (b .0)), into-tail r (suc (s k)) (places (length ks) r) rest (b .1) (λ g. heads-spelled ks g (h .1)))
+      let b = both (ltb (f (s k)) q) (allBelow q (tabulate r (suc (s k)) f ++ rest)) l in (
+        omega arith,
+        omega (arith, leb-true (suc (f (s k))) q (b .0)),
+        into-tail r (suc (s k)) (places (length ks) r) rest (b .1)
+            (λ g. heads-spelled ks g (h .1)),
+      )
 
   -- by Horner's rule from block to block
   pub horner-blocks : (m k : ℕ) (ks ds : List ℕ) (a : ℕ) → ((i : ℕ) → i < suc r → getD ds i 0 ≡ f (s k + i))
@@ -276,4 +283,5 @@ module _ (q r : ℕ) (s f : ℕ → ℕ) where
       rw (places-first m r, horner-append q (places 1 r) (places m r) (here ++ rest) a, drop-at here rest (length (places 1 r)) n)
       (ap (horner q (places m r) rest)
       (horner-same q (places 1 r) (here ++ rest) ds a
-      (λ i l. List·getD-append here rest 0 i (omega arith) ∙ tabulate-at (suc r) (s k) i f (omega (arith, length-places 1 r)) ∙ sym (h i (omega (arith, length-places 1 r))))))
+      (λ i l. List·getD-append here rest 0 i (omega arith) ∙ tabulate-at (suc r) (s k) i f (omega (arith, length-places 1 r))
+      ∙ sym (h i (omega (arith, length-places 1 r))))))

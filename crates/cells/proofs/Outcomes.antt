@@ -35,6 +35,7 @@ module _ (d : Coding) where
   refused-alike a refuse rest e =
       by-bool (d .inRange)
       (λ i. by-bool (d .fits)
-      (λ h. let x : figured (d .placementCount) (d .indexTail) (d .codec .messageLen) ≡ unserved a = sym (figures-served i h) ∙ e in let z : _≡_ {A = ℕ} 0 1 = cc in absurd (omega arith))
+      (λ h. let x : figured (d .placementCount) (d .indexTail) (d .codec .messageLen) ≡ unserved a = sym (figures-served i h) ∙ e in
+      let z : _≡_ {A = ℕ} 0 1 = cc in absurd (omega arith))
       (λ h. let x : unserved unfit ≡ unserved a = sym (figures-unfit i h) ∙ e in rw (i, h) (cc)))
       (λ i. let x : unserved invalid ≡ unserved a = sym (figures-invalid i) ∙ e in rw i (cc))

@@ -13,7 +13,8 @@ use Rattle.combinatorics.proofs.Cases.{by-le, by-eq, by-bool, eqb-same, eqb-oth
 use Rattle.combinatorics.proofs.Stretch.{same, IsTop, top-only, count-ext, count-three, members-blocks, length-members, length-tabulate, length-flat, flat-map}
 use Rattle.cells.specs.Cells.{burst, fixed, digit, message, is, weave, pick}
 use Rattle.cells.specs.Plan.{Frame, cellOf, kindIn, planIn, Spares}
-use Rattle.cells.proofs.Cells.{kinds, pick-at, pick-agrees, length-pick, no-burst, digits-woven, message-woven, woven-clean, clean-at, Clean, at-clean, clean-agrees, agree-at}
+use Rattle.cells.proofs.Cells.{kinds, pick-at, pick-agrees, length-pick, no-burst, digits-woven, message-woven, woven-clean, clean-at, Clean}
+use Rattle.cells.proofs.Cells.{at-clean, clean-agrees, agree-at}
 
 -- ---- What stands where
 
@@ -69,9 +70,11 @@ fixed-is : (r : ℕ) (t i b : Bool) (far : ℕ) → is fixed (cellOf r t i b far
 unfolding cellOf
 fixed-is r true i b far = λ e. absurd (false≢true e)
 fixed-is r false true b far =
-    by-le (suc far) (suc r) (λ t. is fixed (cond t digit message) ≡ true → (false ≡ true) × (far ≡ 0)) (λ _ e. absurd (false≢true e)) (λ _ e. absurd (false≢true e))
+    by-le (suc far) (suc r) (λ t. is fixed (cond t digit message) ≡ true → (false ≡ true) × (far ≡ 0)) (λ _ e. absurd (false≢true e))
+    (λ _ e. absurd (false≢true e))
 fixed-is r false false true far = λ e. absurd (false≢true e)
-fixed-is r false false false far = by-eq far 0 (λ t. is fixed (cond t fixed message) ≡ true → (true ≡ true) × (far ≡ 0)) (λ d _. (refl, d)) (λ _ e. absurd (false≢true e))
+fixed-is r false false false far = by-eq far 0 (λ t. is fixed (cond t fixed message) ≡ true → (true ≡ true) × (far ≡ 0)) (λ d _. (refl, d))
+    (λ _ e. absurd (false≢true e))
 
 -- a cell is a burst's exactly where its position lies in one
 pub kind-burst : (g : Frame) (x : ℕ) → is burst (kindIn g x) ≡ g .runs x
@@ -105,7 +108,8 @@ module _ (g : Frame) (ok : Framed g) where
   in-block k x h a c =
       top-only (g .head) rises (ok .block x (omega (arith, rises (suc k) (g .blocks) h, ok .last))) (record { below = h; reach = a; past = c })
 
-  pub kind-is : (k x : ℕ) → k < g .blocks → g .head k ≤ x → x < g .head (suc k) → kindIn g x ≡ cellOf (g .tail) (g .runs x) (g .isIndex k) (g .isBurst k) (x - g .head k)
+  pub kind-is : (k x : ℕ) → k < g .blocks → g .head k ≤ x → x < g .head (suc k)
+      → kindIn g x ≡ cellOf (g .tail) (g .runs x) (g .isIndex k) (g .isBurst k) (x - g .head k)
   kind-is k x h a c = rw (in-block k x h a c)
 
   -- over all blocks, from the first
@@ -117,13 +121,16 @@ module _ (g : Frame) (ok : Framed g) where
   over hd sel D l inside past other =
       let c : 0 + g .blocks ≡ g .blocks = omega arith in
       rw (ok .first) at
-      (members-blocks (g .head) hd (g .blocks) sel D (λ k. omega (arith, ok .up k)) inside past other (g .blocks) 0 (g .wordLen) (omega arith) (rw c (omega (arith, ok .first, ok .last))))
+      (members-blocks (g .head) hd (g .blocks) sel D (λ k. omega (arith, ok .up k)) inside past other (g .blocks) 0 (g .wordLen) (omega arith)
+      (rw c (omega (arith, ok .first, ok .last))))
 
   -- the digits stand in the first 1 + r positions of the I-blocks
-  pub digit-places : members (g .wordLen) 0 (λ x. is digit (kindIn g x)) ≡ flatMap (λ k. tabulate (suc (g .tail)) (g .head k) same) (members (g .blocks) 0 (g .isIndex))
+  pub digit-places : members (g .wordLen) 0 (λ x. is digit (kindIn g x)) ≡ flatMap (λ k. tabulate (suc (g .tail)) (g .head k) same)
+      (members (g .blocks) 0 (g .isIndex))
   digit-places =
       over (suc (g .tail)) (g .isIndex) (λ x. is digit (kindIn g x)) (omega arith)
-      (λ k x a t b d. rw (kind-is k x a b (omega (arith, ok .up k)), ok .spares .index-heads k x a t b d, t) (early (g .tail) (g .isBurst k) (x - g .head k) (omega arith)))
+      (λ k x a t b d. rw (kind-is k x a b (omega (arith, ok .up k)), ok .spares .index-heads k x a t b d, t)
+      (early (g .tail) (g .isBurst k) (x - g .head k) (omega arith)))
       (λ k x a t b d. rw (kind-is k x a (omega arith) d) (late (g .tail) (g .runs x) (g .isIndex k) (g .isBurst k) (x - g .head k) (omega arith)))
       (λ k x a t b d. rw (kind-is k x a b d, t) (plainly (g .tail) (g .runs x) (g .isBurst k) (x - g .head k)))
 
@@ -145,7 +152,8 @@ module _ (g : Frame) (ok : Framed g) where
   pub digit-count : count (g .wordLen) 0 (λ x. is digit (kindIn g x)) ≡ count (g .blocks) 0 (g .isIndex) * suc (g .tail)
   digit-count =
       sym (length-members (g .wordLen) 0 (λ x. is digit (kindIn g x))) ∙ ap length digit-places
-      ∙ length-flat (suc (g .tail)) (λ k. tabulate (suc (g .tail)) (g .head k) same) (members (g .blocks) 0 (g .isIndex)) (λ k. length-tabulate (suc (g .tail)) (g .head k) same)
+      ∙ length-flat (suc (g .tail)) (λ k. tabulate (suc (g .tail)) (g .head k) same) (members (g .blocks) 0 (g .isIndex))
+      (λ k. length-tabulate (suc (g .tail)) (g .head k) same)
       ∙ ap (λ (y : ℕ). y * suc (g .tail)) (length-members (g .blocks) 0 (g .isIndex))
 
   pub fixed-count : count (g .wordLen) 0 (λ x. is fixed (kindIn g x)) + count (g .blocks) 0 (g .isIndex) + count (g .blocks) 0 (g .isBurst) ≡ g .blocks
@@ -156,7 +164,8 @@ module _ (g : Frame) (ok : Framed g) where
       ∙ ap (λ (y : ℕ). y * 1) (length-members (g .blocks) 0 (isFixedIn g)) in
       omega (arith, placed, count-three (g .blocks) 0 (g .isIndex) (g .isBurst) (λ x _ l. ok .index-not-burst x (omega arith)))
 
-  pub message-count : count (g .wordLen) 0 (λ x. is message (kindIn g x)) + count (g .wordLen) 0 (g .runs) + count (g .blocks) 0 (g .isIndex) * suc (g .tail) + g .blocks
+  pub message-count : count (g .wordLen) 0 (λ x. is message (kindIn g x)) + count (g .wordLen) 0 (g .runs) + count (g .blocks) 0 (g .isIndex) * suc
+      (g .tail) + g .blocks
       ≡ g .wordLen + count (g .blocks) 0 (g .isIndex) + count (g .blocks) 0 (g .isBurst)
   message-count =
       let bursts = count-ext (g .wordLen) 0 (λ x. is burst (kindIn g x)) (g .runs) (λ x _ _. kind-burst g x) in
@@ -210,9 +219,11 @@ module _ (g : Frame) (ok : Framed g) where
         ap (λ (y : ℕ). getD w y 0) e ∙ zeros k (i .below) (z .0))
 
     pub read-agrees : (x : ℕ) → x < g .wordLen → g .runs x ≡ false
-        → getD w x 0 ≡ getD (weave (planIn g) (flatMap (λ k. tabulate (suc (g .tail)) (g .head k) (λ x. getD w x 0)) (members (g .blocks) 0 (g .isIndex))) (pick message (planIn g) w)) x 0
+        → getD w x 0 ≡ getD (weave (planIn g) (flatMap (λ k. tabulate (suc (g .tail)) (g .head k) (λ x. getD w x 0)) (members (g .blocks) 0 (g .isIndex)))
+        (pick message (planIn g) w)) x 0
     unfolding heads
     read-agrees x l out =
         rw (heads-picked w)
-        (agree-at (g .wordLen) 0 x (kindIn g) w (weave (planIn g) (pick digit (planIn g) w) (pick message (planIn g) w)) (clean-agrees (planIn g) w clean) (omega arith) (omega arith)
+        (agree-at (g .wordLen) 0 x (kindIn g) w (weave (planIn g) (pick digit (planIn g) w) (pick message (planIn g) w)) (clean-agrees (planIn g) w clean)
+        (omega arith) (omega arith)
         (kind-burst g x ∙ out))

@@ -50,7 +50,8 @@ module _ (d : Coding) (ok : Placeable d) where
           λ l. (placementUnder d v, gives l),
           λ c.
               let p = ok .starts (c .0) (c .1 .placed) in
-              let l = covered-iff n m b worn (ok .long) (ok .total) .1 (c .0, record { placed = p .0; count = p .1; all = covers-of n b worn (c .0) (c .1 .all) }) in
+              let l = covered-iff n m b worn (ok .long) (ok .total) .1
+              (c .0, record { placed = p .0; count = p .1; all = covers-of n b worn (c .0) (c .1 .all) }) in
               omega (arith, l, ok .count-is),
         );
         gives = gives;

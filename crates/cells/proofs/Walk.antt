@@ -47,7 +47,8 @@ tabulate-append {A} (suc a) b k f =
 pub tabulate-same : {A : Type 0} (n k : ℕ) (f : ℕ → A) (a : A) → ((x : ℕ) → k ≤ x → x < k + n → f x ≡ a) → tabulate n k f ≡ replicate n a
 unfolding tabulate
 tabulate-same zero k f a h = refl
-tabulate-same {A} (suc n) k f a h = ap₂ {C = List A} _∷_ (h k (omega arith) (omega arith)) (tabulate-same n (suc k) f a (λ x l g. h x (omega arith) (omega arith)))
+tabulate-same {A} (suc n) k f a h = ap₂ {C = List A} _∷_ (h k (omega arith) (omega arith))
+    (tabulate-same n (suc k) f a (λ x l g. h x (omega arith) (omega arith)))
 
 -- a plan up to a later position, and one more stretch whose cells are all of one kind
 plan-on : (x to : ℕ) (kd : ℕ → Cell) → x ≤ to → tabulate to 0 kd ≡ tabulate x 0 kd ++ tabulate (to - x) x kd
@@ -56,8 +57,10 @@ plan-on x to kd l =
     let z : 0 + x ≡ x = omega arith in
     rw (e, z) at (tabulate-append x (to - x) 0 kd)
 
-pub plan-stretch : (x to : ℕ) (kd : ℕ → Cell) (kind : Cell) → x ≤ to → ((y : ℕ) → x ≤ y → y < to → kd y ≡ kind) → tabulate to 0 kd ≡ tabulate x 0 kd ++ replicate (to - x) kind
-plan-stretch x to kd kind l h = plan-on x to kd l ∙ ap (λ (r : List Cell). tabulate x 0 kd ++ r) (tabulate-same (to - x) x kd kind (λ y a b. h y a (omega arith)))
+pub plan-stretch : (x to : ℕ) (kd : ℕ → Cell) (kind : Cell) → x ≤ to → ((y : ℕ) → x ≤ y → y < to → kd y ≡ kind)
+    → tabulate to 0 kd ≡ tabulate x 0 kd ++ replicate (to - x) kind
+plan-stretch x to kd kind l h = plan-on x to kd l ∙ ap (λ (r : List Cell). tabulate x 0 kd ++ r)
+    (tabulate-same (to - x) x kd kind (λ y a b. h y a (omega arith)))
 
 -- ---- Weaving
 
@@ -109,7 +112,8 @@ pub pick-append : (kind : Cell) (cs es : List Cell) (w : List ℕ) → pick kind
 unfolding pick
 pick-append kind [] es w = refl
 pick-append kind (c ∷ cs) es w =
-    rw (pick-append kind cs es (tail w), drop-tail (length cs) w) (keep-append (is kind c) (getD w 0 0) (pick kind cs (tail w)) (pick kind es (drop (suc (length cs)) w)))
+    rw (pick-append kind cs es (tail w), drop-tail (length cs) w)
+    (keep-append (is kind c) (getD w 0 0) (pick kind cs (tail w)) (pick kind es (drop (suc (length cs)) w)))
 
 pub pick-same : (kind c : Cell) (n : ℕ) (w : List ℕ) → is kind c ≡ true → n ≤ length w → pick kind (replicate n c) w ≡ take n w
 unfolding pick

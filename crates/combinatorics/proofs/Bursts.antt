@@ -25,7 +25,8 @@ pub placed-of : (b n lo : ℕ) (ss : List ℕ) → apart b n lo ss ≡ true → 
 unfolding apart
 placed-of b n lo [] = by-le lo n (λ t. t ≡ true → lo ≤ n) (λ l _. l) (λ _ e. absurd (false≢true e))
 placed-of b n lo (s ∷ ss) =
-    by-le lo s (λ t. (t && apart b n (s + b) ss) ≡ true → (lo ≤ s) × Placed b n (s + b) ss) (λ l e. (l, placed-of b n (s + b) ss e)) (λ _ e. absurd (false≢true e))
+    by-le lo s (λ t. (t && apart b n (s + b) ss) ≡ true → (lo ≤ s) × Placed b n (s + b) ss) (λ l e. (l, placed-of b n (s + b) ss e))
+    (λ _ e. absurd (false≢true e))
 
 pub of-placed : (b n lo : ℕ) (ss : List ℕ) → Placed b n lo ss → apart b n lo ss ≡ true
 unfolding apart
@@ -113,7 +114,8 @@ module _ (n m b : ℕ) (some : 0 < b) where
       let cs = unrank (contracted n m b) m v in
       record {
         placed = subst (λ (y : ℕ). Placed y n 0 (expandFrom d 0 cs)) (sym b-is)
-            (rises-placed d n (contracted n m b) 0 0 0 cs (omega arith) (omega (arith, u .count, ap (λ (y : ℕ). y * d) (u .count), ap (λ (y : ℕ). m * y) b-is)) (u .rises));
+            (rises-placed d n (contracted n m b) 0 0 0 cs (omega arith)
+            (omega (arith, u .count, ap (λ (y : ℕ). y * d) (u .count), ap (λ (y : ℕ). m * y) b-is)) (u .rises));
         count = length-expand d 0 cs ∙ u .count;
         rank = rw (reduce-expand d 0 cs) (u .same);
       }

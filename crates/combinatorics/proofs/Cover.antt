@@ -88,7 +88,8 @@ greedy-least worn b n top (t ∷ ts) (g, h) l c =
     let i = greedy-least worn b s t ts h (omega arith) (λ x k w. by-burst b t x ts (c x (omega arith) w) (λ p _. absurd (omega arith)) (λ r. r)) in (
       (low, i .0),
       λ x k w. by-le s x (λ _. inBurst b (s ∷ greedyDown worn b (length ts) s) x ≡ true)
-          (λ p. burst-here b s x (greedyDown worn b (length ts) s) p (omega (arith, last-all worn n x k w))) (λ p. burst-there b s x (greedyDown worn b (length ts) s) (i .1 x p w)),
+          (λ p. burst-here b s x (greedyDown worn b (length ts) s) p (omega (arith, last-all worn n x k w)))
+          (λ p. burst-there b s x (greedyDown worn b (length ts) s) (i .1 x p w)),
     )
 
 -- the rank, from the right
@@ -160,7 +161,8 @@ length-greedy worn b (suc m) n = ap suc (length-greedy worn b m (max (lastEnd wo
 
 pub greedy-placed : (worn : ℕ → Bool) (b m n : ℕ) → m * b ≤ n → Placed b n 0 (greedy worn b m n) × (length (greedy worn b m n) ≡ m)
 unfolding greedy
-greedy-placed worn b m n h = (turn-up b n n (greedyDown worn b m n) [] (greedy-down worn b m n h) (omega arith), length-reverse (greedyDown worn b m n) ∙ length-greedy worn b m n)
+greedy-placed worn b m n h =
+    (turn-up b n n (greedyDown worn b m n) [] (greedy-down worn b m n h) (omega arith), length-reverse (greedyDown worn b m n) ∙ length-greedy worn b m n)
 
 -- if any placement covers, this one does, and none that does has a smaller rank
 pub greedy-best : (worn : ℕ → Bool) (b n : ℕ) (ss : List ℕ) → Placed b n 0 ss → Covers worn b n ss

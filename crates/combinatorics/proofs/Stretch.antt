@@ -198,7 +198,8 @@ unfolding sum
 count-three zero k i b h = refl
 count-three (suc n) k i b h =
     let r = count-three n (suc k) i b (λ x c d. h x (omega arith) (omega arith)) in
-    by-bool (i k) (λ t. rw (t, h k (omega arith) (omega arith) t) (omega arith)) (λ t. by-bool (b k) (λ u. rw (t, u) (omega arith)) (λ u. rw (t, u) (omega arith)))
+    by-bool (i k) (λ t. rw (t, h k (omega arith) (omega arith) t) (omega arith))
+    (λ t. by-bool (b k) (λ u. rw (t, u) (omega arith)) (λ u. rw (t, u) (omega arith)))
 
 pub record IsTop (f : ℕ → ℕ) (n v c : ℕ) : Type 0 where
   pub below : c < n
@@ -253,7 +254,8 @@ members-run (suc n) k a (suc c) w l h t u v =
     at-or-past k a l
     (λ e. rw (e, t a (omega arith) (omega arith))
     (ap {B = List ℕ} (λ r. a ∷ r)
-    (members-run n (suc a) (suc a) c w (omega arith) (omega arith) (λ x p q. t x (omega arith) (omega arith)) (λ x p q. absurd (omega arith)) (λ x p q. v x (omega arith) (omega arith)))))
+    (members-run n (suc a) (suc a) c w (omega arith) (omega arith) (λ x p q. t x (omega arith) (omega arith)) (λ x p q. absurd (omega arith))
+    (λ x p q. v x (omega arith) (omega arith)))))
     (λ g. rw (u k (omega arith) (omega arith))
     (members-run n (suc k) a (suc c) w g (omega arith) t (λ x p q. u x (omega arith) q) (λ x p q. v x p (omega arith))))
 
@@ -275,7 +277,8 @@ module _ (st : ℕ → ℕ) (hd top : ℕ) (sel D : ℕ → Bool) (up : (k : ℕ
   unfolding flatMap
   in-block k l n e =
       by-bool (sel k)
-      (λ t. rw t (members-run n (st k) (st k) hd D (omega arith) (omega (arith, up k)) (λ x a b. inside k x l t a b) (λ x a b. absurd (omega arith)) (λ x a b. past k x l t a (omega arith))
+      (λ t. rw t (members-run n (st k) (st k) hd D (omega arith) (omega (arith, up k)) (λ x a b. inside k x l t a b) (λ x a b. absurd (omega arith))
+      (λ x a b. past k x l t a (omega arith))
       ∙ sym (append-nil (tabulate hd (st k) same))))
       (λ t. rw t (members-none n (st k) D (λ x a b. other k x l t a (omega arith))))
 
@@ -430,7 +433,8 @@ unfolding members
 members-most zero k x w h = h
 members-most (suc n) k zero w h = by-bool (w k) (λ t. rw t (omega arith)) (λ t. rw t (omega (arith, members-most n (suc k) 0 w (omega arith))))
 members-most (suc n) k (suc x) w h =
-    by-bool (w k) (λ t. rw t (omega (arith, members-most n (suc k) x w (omega arith)))) (λ t. rw t (omega (arith, members-most n (suc k) (suc x) w (omega arith))))
+    by-bool (w k) (λ t. rw t (omega (arith, members-most n (suc k) x w (omega arith))))
+    (λ t. rw t (omega (arith, members-most n (suc k) (suc x) w (omega arith))))
 
 -- none is in the set where all are outside it
 pub none-has : (n k : ℕ) (w : ℕ → Bool) → not (has n k w) ≡ eqb (count n k (λ x. not (w x))) n

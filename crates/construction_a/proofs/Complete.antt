@@ -45,7 +45,8 @@ module _ (f : Params) (ok : Served f) (ss : List ℕ) (h : Placed (f .b) (f .n) 
     unfolding heads word plan kindAt indexBlocks digits
     digits-read =
         digits-back (frame f ss) (framed f ok ss h e) digits ms w outside
-        (length-spell (f .q) (places (f .m) (indexTail f)) (rank f ss) ∙ length-places (f .m) (indexTail f) ∙ ap (λ (y : ℕ). y * suc (indexTail f)) (sym (index-count f (ok .range) ss h e)))
+        (length-spell (f .q) (places (f .m) (indexTail f)) (rank f ss) ∙ length-places (f .m) (indexTail f)
+        ∙ ap (λ (y : ℕ). y * suc (indexTail f)) (sym (index-count f (ok .range) ss h e)))
 
     message-read : pick message (plan f ss) w ≡ ms
     unfolding word plan kindAt digits
@@ -55,7 +56,8 @@ module _ (f : Params) (ok : Served f) (ss : List ℕ) (h : Placed (f .b) (f .n) 
     index-shown : (x : ℕ) → x < parts f * f .m → isIndex f ss x ≡ true → looksFixed f w x ≡ false
     unfolding looksFixed heads indexBlocks
     index-shown x l t =
-        let s : Spelled (f .q) (places (length (indexBlocks f ss)) (indexTail f)) (heads f w (indexBlocks f ss)) = rw (index-blocks f (ok .range) ss h e, digits-read) spelled in
+        let s : Spelled (f .q) (places (length (indexBlocks f ss)) (indexTail f)) (heads f w (indexBlocks f ss)) =
+        rw (index-blocks f (ok .range) ss h e, digits-read) spelled in
         let b : 1 ≤ getD w (headOf f x) 0 =
         each-member (λ y. 1 ≤ getD w (headOf f y) 0) (parts f * f .m) 0 (isIndex f ss)
         (leads (f .q) (indexTail f) (headOf f) (λ y. getD w y 0) (indexBlocks f ss) s) x (omega arith) (omega arith) t in
@@ -69,7 +71,8 @@ module _ (f : Params) (ok : Served f) (ss : List ℕ) (h : Placed (f .b) (f .n) 
     unfolding isIndex isFixed
     seen =
         record {
-          shown = λ i j li lj t. index-shown (i * f .m + j) (digits-lt li lj) (at-row (f .m) i j (isBurst f ss) (chosen (parts f) (f .m) (isBurst f ss)) lj ∙ t);
+          shown = λ i j li lj t. index-shown (i * f .m + j) (digits-lt li lj)
+              (at-row (f .m) i j (isBurst f ss) (chosen (parts f) (f .m) (isBurst f ss)) lj ∙ t);
           filled = λ i j li lj t u.
               fixed-shown (i * f .m + j) (digits-lt li lj)
               (ap₂ (λ (x y : Bool). not x && not y) (at-row (f .m) i j (isBurst f ss) (chosen (parts f) (f .m) (isBurst f ss)) lj ∙ t) u);

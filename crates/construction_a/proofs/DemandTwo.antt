@@ -21,7 +21,8 @@ use Rattle.cells.proofs.Erasures.{found-least}
 use Rattle.construction_a.specs.Figures.{Params, parts, placementCount, indexTail, messageLen}
 use Rattle.construction_a.specs.Writing.{kindAt, plan, rank, placementOf, word}
 use Rattle.construction_a.specs.Reading.{looksFixed, indexFound, heads, written, agrees, readRank, readFrom, read}
-use Rattle.construction_a.specs.DemandTwo.{constructionA, found, IndexRead, Listed, no-pattern, erased-index, too-large, disagreeing, erased-message, DemandTwo}
+use Rattle.construction_a.specs.DemandTwo.{constructionA, found, IndexRead, Listed, no-pattern, erased-index, too-large, disagreeing, erased-message}
+use Rattle.construction_a.specs.DemandTwo.{DemandTwo}
 use Rattle.construction_a.proofs.Figures.{Served, serve, span-enough, placed-starts, starts-placed}
 use Rattle.construction_a.proofs.Plan.{messages-count}
 use Rattle.construction_a.proofs.Complete.{rank-below, complete}

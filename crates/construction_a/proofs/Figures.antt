@@ -15,7 +15,8 @@ use Rattle.combinatorics.proofs.Lists.{both}
 use Rattle.combinatorics.proofs.Stretch.{first-true, first-false}
 use Rattle.cells.specs.Digits.{span, places}
 use Rattle.cells.proofs.Digits.{span-places}
-use Rattle.construction_a.specs.Figures.{Params, maxWord, maxAlphabet, maxBursts, maxCount, counted, tooMany, countOut, inRange, isPlacement, parts, blockMin, placementCount, indexValues, leastTail, indexTail, fits}
+use Rattle.construction_a.specs.Figures.{Params, maxWord, maxAlphabet, maxBursts, maxCount, counted, tooMany, countOut, inRange, isPlacement, parts}
+use Rattle.construction_a.specs.Figures.{blockMin, placementCount, indexValues, leastTail, indexTail, fits}
 
 -- "n is 3 to 4096, q 2 to 256, m 1 to 8, b at least 1", as facts
 pub record Ranged (f : Params) : Type 0 where
@@ -119,7 +120,13 @@ serve f i h =
 pub fitting : (f : Params) → f .m * f .b ≤ f .n → placementCount f ≤ maxCount → indexTail f < blockMin f → f .b ≤ blockMin f - indexTail f → fits f ≡ true
 unfolding fits
 fitting f total count room short =
-    rw (leb-holds (f .m * f .b) (f .n) total, leb-holds (placementCount f) maxCount count, leb-holds (suc (indexTail f)) (blockMin f) room, leb-holds (f .b) (blockMin f - indexTail f) short)
+    rw (
+      leb-holds (f .m * f .b) (f .n) total,
+      leb-holds (placementCount f) maxCount count,
+      leb-holds (suc (indexTail f)) (blockMin f) room,
+      leb-holds (f .b)
+          (blockMin f - indexTail f) short,
+    )
 
 pub unfitting : (f : Params) → inRange f ≡ true → ¬ Served f → fits f ≡ false
 unfitting f i h = by-bool (fits f) (λ t. absurd (h (serve f i t))) (λ e. e)
@@ -144,7 +151,8 @@ pub message-room : (f : Params) → Served f → f .m * (f .b + parts f + indexT
 message-room f ok =
     let p = parts f in
     let L = f .n / (p * f .m) in
-    let fill : f .b + p + indexTail f - 1 ≤ p * L = omega (arith, sum-le-product p L (omega (arith, ok .three)) (omega (arith, ok .room)), ok .short, ok .room) in
+    let fill : f .b + p + indexTail f - 1 ≤ p * L =
+    omega (arith, sum-le-product p L (omega (arith, ok .three)) (omega (arith, ok .room)), ok .short, ok .room) in
     let e : f .m * (p * L) ≡ L * (p * f .m) = mul-comm (f .m) (p * L) ∙ ap (λ (y : ℕ). y * f .m) (mul-comm p L) ∙ mul-assoc L p (f .m) in
     omega (arith, mul-le-mul-left (f .m) fill, e, div-mul-le-self (f .n) (p * f .m))
 

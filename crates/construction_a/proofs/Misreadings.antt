@@ -19,8 +19,10 @@ use Rattle.cells.specs.Codec.{Reading, accepted, refused}
 use Rattle.cells.specs.Digits.{span, spell, value, places}
 use Rattle.cells.specs.Erasures.{hasErasure}
 use Rattle.construction_a.specs.Figures.{params, blocks, parts, blockMin, leastTail, indexTail, headOf}
-use Rattle.construction_a.specs.Writing.{becomes, withBurst, withBursts, isBurst, next, partCount, partWith, chosen, beside, isChosen, isIndexIn, isIndex, indexBlocks, isFixed, kindAt, plan, word}
-use Rattle.construction_a.specs.Reading.{looksFixed, later, bareParts, openBlocks, indexInPart, collect, indexFound, heads, written, agrees, readRank, read}
+use Rattle.construction_a.specs.Writing.{becomes, withBurst, withBursts, isBurst, next, partCount, partWith, chosen, beside, isChosen, isIndexIn}
+use Rattle.construction_a.specs.Writing.{isIndex, indexBlocks, isFixed, kindAt, plan, word}
+use Rattle.construction_a.specs.Reading.{looksFixed, later, bareParts, openBlocks, indexInPart, collect, indexFound, heads, written, agrees, readRank}
+use Rattle.construction_a.specs.Reading.{read}
 
 -- the B-blocks, ascending
 abbrev burstBlocks : ℕ → List ℕ → List ℕ
@@ -85,5 +87,8 @@ rows =
     ∷ []
 
 rows-hold : all comesTrue rows ≡ true
-unfolding all sameList sum has first members tabulate top choose rankFrom unrankDown unrank inBurst placements reduceFrom expandFrom rankOf startsOf pieceLen pieceStart blockAt blockHead blockWith weave pick span spell value places parts blockMin leastTail indexTail becomes withBurst withBursts isBurst next partCount partWith chosen beside isChosen isIndexIn isIndex indexBlocks isFixed cellOf kindAt plan word looksFixed later bareParts openBlocks indexInPart collect indexFound heads written agrees hasErasure any readRank read rows comesTrue flatMap
+unfolding all sameList sum has first members tabulate top choose rankFrom unrankDown unrank inBurst placements reduceFrom expandFrom rankOf startsOf
+    pieceLen pieceStart blockAt blockHead blockWith weave pick span spell value places parts blockMin leastTail indexTail becomes withBurst withBursts
+    isBurst next partCount partWith chosen beside isChosen isIndexIn isIndex indexBlocks isFixed cellOf kindAt plan word looksFixed later bareParts
+    openBlocks indexInPart collect indexFound heads written agrees hasErasure any readRank read rows comesTrue flatMap
 rows-hold = refl

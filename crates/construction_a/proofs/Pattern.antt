@@ -38,7 +38,8 @@ members-pair zero k i w l h t o = absurd (omega arith)
 members-pair (suc n) k i w l h t o =
     at-or-past k i l
     (λ e. rw (e, members-only n (suc i) (suc i) w (omega arith) (omega arith) (λ x a b f. o x (omega arith) (omega arith) (omega arith) f), t))
-    (λ g. rw (o k (omega arith) (omega arith) (omega arith) (omega arith)) (members-pair n (suc k) i w g (omega arith) t (λ x a b f. o x (omega arith) (omega arith) f)))
+    (λ g. rw (o k (omega arith) (omega arith) (omega arith) (omega arith))
+    (members-pair n (suc k) i w g (omega arith) t (λ x a b f. o x (omega arith) (omega arith) f)))
 
 later-ends : (n : ℕ) (b : Bool) → 2 ≤ n → later (suc n) (0 ∷ keepIf b n []) ≡ some 0
 unfolding later
@@ -55,7 +56,11 @@ pub later-is : (n a : ℕ) (w : ℕ → Bool) → 3 ≤ n → a < n → w a ≡ 
 unfolding members
 later-is zero a w h l t o = absurd (omega arith)
 later-is (suc n) zero w h l t o =
-    rw (t, members-only n 1 n w (omega arith) (omega arith) (λ x a b f. o x (omega arith) (omega arith) (rw (next-inner (suc n) x (omega arith)) (omega arith))))
+    rw (
+      t,
+      members-only n 1 n w (omega arith) (omega arith) (λ x a b f. o x (omega arith) (omega arith)
+          (rw (next-inner (suc n) x (omega arith)) (omega arith))),
+    )
     (later-ends n (w n) (omega arith))
 later-is (suc n) (suc i) w h l t o =
     rw (members-pair (suc n) 0 i w (omega arith) (omega arith) t (λ x a b f g. o x (omega arith) g (next-not (suc n) x i f)))
@@ -148,12 +153,14 @@ unfolding tabulate
 tabulate-all zero k w h = tt
 tabulate-all (suc n) k w h = (h k (omega arith) (omega arith), tabulate-all n (suc k) w (λ x a b. h x (omega arith) (omega arith)))
 
-collect-all : (n k : ℕ) (g : ℕ → Option ℕ) (w : ℕ → Bool) → ((x y : ℕ) → g x ≡ some y → w y ≡ true) → (ks : List ℕ) → collect n k g ≡ some ks → Each (λ x. w x ≡ true) ks
+collect-all : (n k : ℕ) (g : ℕ → Option ℕ) (w : ℕ → Bool) → ((x y : ℕ) → g x ≡ some y → w y ≡ true) → (ks : List ℕ) → collect n k g ≡ some ks
+    → Each (λ x. w x ≡ true) ks
 unfolding collect
 collect-all zero k g w h ks = λ e. rw (← some-is [] ks e) tt
 collect-all (suc n) k g w h ks = go (g k) (collect n (suc k) g) (h k) (collect-all n (suc k) g w h)
   where
-    go : (o : Option ℕ) (r : Option (List ℕ)) → ((y : ℕ) → o ≡ some y → w y ≡ true) → ((ks : List ℕ) → r ≡ some ks → Each (λ x. w x ≡ true) ks) → consBoth o r ≡ some ks → Each (λ x. w x ≡ true) ks
+    go : (o : Option ℕ) (r : Option (List ℕ)) → ((y : ℕ) → o ≡ some y → w y ≡ true) → ((ks : List ℕ) → r ≡ some ks → Each (λ x. w x ≡ true) ks)
+        → consBoth o r ≡ some ks → Each (λ x. w x ≡ true) ks
     go none r a b e = not-some ks e
     go (some x) none a b e = not-some ks e
     go (some x) (some xs) a b e = rw (← some-is (x ∷ xs) ks e) (a x refl, b xs refl)
@@ -183,11 +190,13 @@ taken-bare p m looks ks = go bare (later p bare) (λ i. later-in p i bare wp (me
     in-part x y (some j) h e = rw (← some-is (x * m + j) y e) (h j refl)
 
     part : (x y : ℕ) → indexInPart m looks x ≡ some y → w y ≡ true
-    part x y = in-part x y (later m (members m 0 (λ j. w (x * m + j)))) (λ j. later-in m j (members m 0 (λ j. w (x * m + j))) (λ j. w (x * m + j)) (members-all m 0 (λ j. w (x * m + j))))
+    part x y = in-part x y (later m (members m 0 (λ j. w (x * m + j))))
+        (λ j. later-in m j (members m 0 (λ j. w (x * m + j))) (λ j. w (x * m + j)) (members-all m 0 (λ j. w (x * m + j))))
 
     go : (bs : List ℕ) (o : Option ℕ) → ((i : ℕ) → o ≡ some i → wp i ≡ true) → indexBy p m looks bs o ≡ some ks → Each (λ x. w x ≡ true) ks
     go bs (some i) h = λ e. rw (← some-is (tabulate m (i * m) same) ks e) (tabulate-all m (i * m) w (has-all m i looks (h i refl)))
-    go [] none h = by-le 3 m (λ t. cond t (collect p 0 (indexInPart m looks)) none ≡ some ks → Each (λ x. w x ≡ true) ks) (λ _ e. collect-all p 0 (indexInPart m looks) w part ks e) (λ _ e. not-some ks e)
+    go [] none h = by-le 3 m (λ t. cond t (collect p 0 (indexInPart m looks)) none ≡ some ks → Each (λ x. w x ≡ true) ks)
+        (λ _ e. collect-all p 0 (indexInPart m looks) w part ks e) (λ _ e. not-some ks e)
     go (x ∷ xs) none h = λ e. not-some ks e
 
 -- ---- "Every other pattern is refused"
@@ -236,7 +245,8 @@ module _ (p m : ℕ) (a b : ℕ → Bool) (same-blocks : (k : ℕ) → k < p * m
 
   same-by : (bare : List ℕ) (o : Option ℕ) → indexBy p m a bare o ≡ indexBy p m b bare o
   same-by bare (some i) = refl
-  same-by [] none = ap (λ (y : Option (List ℕ)). cond (ltb 2 m) y none) (collect-ext p 0 (indexInPart m a) (indexInPart m b) (λ i _ g. same-part i (omega arith)))
+  same-by [] none = ap (λ (y : Option (List ℕ)). cond (ltb 2 m) y none)
+      (collect-ext p 0 (indexInPart m a) (indexInPart m b) (λ i _ g. same-part i (omega arith)))
   same-by (x ∷ xs) none = refl
 
   pub found-same : indexFound p m a ≡ indexFound p m b

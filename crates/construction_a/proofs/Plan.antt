@@ -31,7 +31,8 @@ module _ (f : Params) (range : Ranged f) where
   ends-under : (lo : ℕ) (ss : List ℕ) → Placed (f .b) (f .n) lo ss → Each (λ e. e < parts f * f .m) (lastBlocks f ss)
   ends-under lo [] h = tt
   ends-under lo (s ∷ ss) (l, h) = (
-    block-with (f .n) (parts f) (f .m) (s + f .b - 1) some-parts (range .m-least) (omega (arith, range .b-least, placed-end (f .b) (f .n) (s + f .b) ss h)) .below,
+    block-with (f .n) (parts f) (f .m) (s + f .b - 1) some-parts (range .m-least)
+        (omega (arith, range .b-least, placed-end (f .b) (f .n) (s + f .b) ss h)) .below,
     ends-under (s + f .b) ss h,
   )
 
@@ -93,13 +94,23 @@ module _ (f : Params) (range : Ranged f) where
           let bursts = burst-count (f .b) (f .n) 0 ss (f .n) h (omega arith) in
           let y : f .b + parts f + r - 1 ≡ d + parts f + r = omega (arith, range .b-least) in
           let x : f .b ≡ suc d = omega (arith, range .b-least) in
-          rw y (omega (arith, Frames.message-count (frameWith r f ss) framed-with, bursts, index-count, burst-blocks, ap (λ (v : ℕ). v * f .b) e, ap (λ (v : ℕ). f .m * v) x, ap (λ (v : ℕ). v * suc r) index-count))
+          rw y (omega (
+            arith,
+            Frames.message-count (frameWith r f ss) framed-with,
+            bursts,
+            index-count,
+            burst-blocks,
+            ap (λ (v : ℕ). v * f .b) e,
+            ap (λ (v : ℕ). f .m * v) x,
+            ap (λ (v : ℕ). v * suc r) index-count,
+          ))
 
 -- ---- Figures that fit
 
 module _ (f : Params) (ok : Served f) where
   -- a position in a burst and among the first 1 + r of a block: that block is B
-  burst-in : (lo : ℕ) (ss : List ℕ) (B : ℕ → Bool) → Placed (f .b) (f .n) lo ss → Each (λ e. B e ≡ true) (lastBlocks f ss) → (k x : ℕ) → inBurst (f .b) ss x ≡ true
+  burst-in : (lo : ℕ) (ss : List ℕ) (B : ℕ → Bool) → Placed (f .b) (f .n) lo ss → Each (λ e. B e ≡ true) (lastBlocks f ss) → (k x : ℕ)
+      → inBurst (f .b) ss x ≡ true
       → headOf f k ≤ x → x < headOf f k + suc (indexTail f) → B k ≡ true
   unfolding inBurst
   burst-in lo [] B h a k x t l₁ l₂ = absurd (false≢true t)
@@ -113,7 +124,8 @@ module _ (f : Params) (ok : Served f) where
       (λ q. burst-in (s + f .b) ss B h a k x q l₁ l₂)
 
   -- the first 1 + r positions of an F- or an I-block are in no burst
-  head-clear : (ss : List ℕ) → Placed (f .b) (f .n) 0 ss → (k x : ℕ) → isBurst f ss k ≡ false → headOf f k ≤ x → x < headOf f k + suc (indexTail f) → inBurst (f .b) ss x ≡ false
+  head-clear : (ss : List ℕ) → Placed (f .b) (f .n) 0 ss → (k x : ℕ) → isBurst f ss k ≡ false → headOf f k ≤ x → x < headOf f k + suc (indexTail f)
+      → inBurst (f .b) ss x ≡ false
   head-clear ss h k x e a c =
       by-bool (inBurst (f .b) ss x) (λ t. absurd (true≢false (sym (burst-in 0 ss (isBurst f ss) h (ends-burst f (ok .range) ss) k x t a c) ∙ e))) (λ t. t)
 

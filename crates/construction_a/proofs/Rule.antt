@@ -11,8 +11,10 @@ use lib.Dec.{ltb, eqb}
 use lib.ListN.{length}
 use Rattle.combinatorics.specs.Stretch.{sum, bit, count, first, members, tabulate}
 use Rattle.combinatorics.proofs.Cases.{by-le, by-eq, by-bool, eqb-same, eqb-other, eqb-true, eqb-false}
-use Rattle.combinatorics.proofs.Stretch.{same, Each, at-or-past, sum-one, sum-both, sum-ones, sum-each, sum-rows, bit-false, count-le, first-true, first-false, first-in, members-run, members-append, length-tabulate, count-not}
-use Rattle.construction_a.specs.Writing.{becomes, withBurst, withBursts, next, row, partCount, partWith, Chosen, whole, oneEach, chosen, beside, isChosen, isIndexIn}
+use Rattle.combinatorics.proofs.Stretch.{same, Each, at-or-past, sum-one, sum-both, sum-ones, sum-each, sum-rows, bit-false, count-le, first-true}
+use Rattle.combinatorics.proofs.Stretch.{first-false, first-in, members-run, members-append, length-tabulate, count-not}
+use Rattle.construction_a.specs.Writing.{becomes, withBurst, withBursts, next, row, partCount, partWith, Chosen, whole, oneEach, chosen, beside}
+use Rattle.construction_a.specs.Writing.{isChosen, isIndexIn}
 
 -- ---- I-blocks
 
@@ -70,7 +72,8 @@ module _ (p m : ℕ) (B : ℕ → Bool) (hp : 3 ≤ p) (hm : 0 < m) (hmp : m ≤
       (λ x h d n. omega (arith, g x h (λ q. n (ap (next p) q)))))
       (λ k. by-le (suc f) p (λ t. P (cond t (whole f) oneEach))
       (λ l. in-whole f l (eqb-true (C f) 0 (first-true p 0 (λ x. eqb (C x) 0) (omega arith)))
-      (λ x g d n. let q : C x ≢ m = eqb-false (C x) m (first-false p 0 x (λ x. eqb (C x) m) (omega arith) (omega arith)) in omega (arith, count-le m 0 (row m B x))))
+      (λ x g d n. let q : C x ≢ m = eqb-false (C x) m (first-false p 0 x (λ x. eqb (C x) m) (omega arith) (omega arith)) in
+      omega (arith, count-le m 0 (row m B x))))
       (λ l.
       let some : (x : ℕ) → 0 ≤ x → x < 0 + p → 1 ≤ C x =
       λ x _ g. let q : C x ≢ 0 = eqb-false (C x) 0 (first-false p 0 x (λ x. eqb (C x) 0) (omega arith) (omega arith)) in omega arith in
@@ -142,7 +145,8 @@ pub withBurst-end : (n e : ℕ) (B : ℕ → Bool) → withBurst n B e e ≡ tru
 unfolding withBurst becomes
 withBurst-end n e B = by-bool (B e) (λ t. rw t (or-true (eqb e (first n 0 (λ x. not (B x)))))) (λ t. rw (t, eqb-same e e refl))
 
-pub withBursts-count : (n : ℕ) (es : List ℕ) (B : ℕ → Bool) → Each (λ e. e < n) es → count n 0 B + length es ≤ n → count n 0 (withBursts n es B) ≡ count n 0 B + length es
+pub withBursts-count : (n : ℕ) (es : List ℕ) (B : ℕ → Bool) → Each (λ e. e < n) es → count n 0 B + length es ≤ n
+    → count n 0 (withBursts n es B) ≡ count n 0 B + length es
 unfolding withBursts
 withBursts-count n [] B u h = omega arith
 withBursts-count n (e ∷ es) B (l, u) h =
@@ -209,5 +213,8 @@ i-list p m B hp hm hmp all =
     by-chosen p m B hp hm hmp all (λ s. (members (p * m) 0 (isIndexIn m B s) ≡ blocksIn p m B s) × (length (blocksIn p m B s) ≡ m))
     (λ a l _ _. (whole-list p m a B hm l, length-tabulate m (a * m) (λ k. k)))
     (λ e o.
-    let z : 0 * m ≡ 0 = omega arith in
-    (rw z at (oneEach-list p 0 m B (λ x _ h. next-lt m (first m 0 (row m B x)) (one-at m x B (o x (omega arith))))), length-tabulate p 0 (λ i. i * m + beside m B i) ∙ e))
+    let z : 0 * m ≡ 0 = omega arith in (
+      rw z at (oneEach-list p 0 m B (λ x _ h. next-lt m (first m 0 (row m B x)) (one-at m x B (o x (omega arith))))),
+      length-tabulate p 0
+          (λ i. i * m + beside m B i) ∙ e,
+    ))

@@ -63,12 +63,16 @@ module _ (f : Params) (ok : Served f) (w : List ℕ) (small : (x : ℕ) → getD
       let same-I : I ≡ ks = list-same I ks (ag .0) in
       let lk : length ks ≡ f .m = sym (ap length same-I) ∙ index-blocks f (ok .range) ss (s .placed) (s .count) in
       let sp : Spelled (f .q) ps (heads f w ks) =
-      rw lk at (heads-spelled (f .q) (indexTail f) (headOf f) (λ x. getD w x 0) ks (whole-below (f .q) (heads f w ks) (heads-below (indexTail f) f (foundBound (f .q)) w ks small) whole) (not-zero f w ks (taken-bare (parts f) (f .m) (looksFixed f w) ks found))) in
+      rw lk at (heads-spelled (f .q) (indexTail f) (headOf f) (λ x. getD w x 0) ks
+      (whole-below (f .q) (heads f w ks) (heads-below (indexTail f) f (foundBound (f .q)) w ks small) whole)
+      (not-zero f w ks (taken-bare (parts f) (f .m) (looksFixed f w) ks found))) in
       let spelled : spell (f .q) ps (rank f ss) ≡ heads f w ks = ap (spell (f .q) ps) (s .rank) ∙ spell-value (f .q) ps (heads f w ks) sp in
       let digits : spell (f .q) ps (rank f ss) ≡ heads f w I = spelled ∙ ap (heads f w) (sym same-I) in
       let zeros : (k : ℕ) → k < parts f * f .m → isFixed f ss k ≡ true → getD w (headOf f k) 0 ≡ 0 =
       λ k lk t. by-bool (looksFixed f w k) (λ u. eqb-true (getD w (headOf f k) 0) 0 u)
-      (λ u. absurd (true≢false (sym (ag .1) ∙ ap not (has-some (parts f * f .m) 0 k (λ k. isFixed f ss k && not (looksFixed f w k)) (omega arith) (omega arith) (rw (t, u)))))) in
+      (λ u. absurd
+      (true≢false (sym (ag .1) ∙ ap not (has-some (parts f * f .m) 0 k (λ k. isFixed f ss k && not (looksFixed f w k)) (omega arith) (omega arith)
+      (rw (t, u)))))) in
       record {
         placed = s .placed;
         count = s .count;
@@ -108,7 +112,8 @@ module _ (f : Params) (ok : Served f) (w : List ℕ) (small : (x : ℕ) → getD
     past-index false h =
         by-le (suc (written f w ks)) (placementCount f)
         (λ t. must t (refused valueTooLarge)
-        (must (agrees f w ks at) (refused disagrees) (must (not (hasErasure (f .q) taken)) (refused erased) (accepted at taken))) ≡ accepted ss ms → Accepted f w ss ms)
+        (must (agrees f w ks at) (refused disagrees) (must (not (hasErasure (f .q) taken)) (refused erased) (accepted at taken))) ≡ accepted ss ms
+        → Accepted f w ss ms)
         (λ l. past-blocks (agrees f w ks at) h l refl) (λ _ e. not-accepted e)
 
   pub sound : (ss ms : List ℕ) → read f w ≡ accepted ss ms → Accepted f w ss ms

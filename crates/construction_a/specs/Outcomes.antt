@@ -4,7 +4,8 @@ use mathlib.Core.List.{List}
 use Prim.Native.Nat.{ℕ}
 use Rattle.cells.specs.Codec.{Reading}
 use Rattle.cells.specs.Outcomes.{Coding, figuresUnder, encodeUnder, coverUnder, decodedFrom, decodeUnder}
-pub use Rattle.cells.specs.Outcomes.{Held, inUse, held, FiguresOut, figured, unserved, figuresNumber, Encoded, unwritten, Covered, unplaced, defectAt, WordAnswer, rankIs, refusal, answerNumber, Decoded, unread}
+pub use Rattle.cells.specs.Outcomes.{Held, inUse, held, FiguresOut, figured, unserved, figuresNumber, Encoded, unwritten, Covered, unplaced, defectAt}
+pub use Rattle.cells.specs.Outcomes.{WordAnswer, rankIs, refusal, answerNumber, Decoded, unread}
 use Rattle.construction_a.specs.Figures.{Params, inRange, fits, placementCount, indexTail}
 use Rattle.construction_a.specs.DemandTwo.{constructionA}
 

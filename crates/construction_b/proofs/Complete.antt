@@ -45,7 +45,8 @@ module _ (f : LongParams) (ok : Served f) (s : ℕ) (inside : s + f .b ≤ f .n)
     unfolding wordFrom plan flatMap
     digits-read =
         let one = count-one (indexPart f s) (index-lt f ok s inside) in
-        let long : length (digitsOf f s) ≡ 1 * suc (indexTail f) = length-spell (f .q) (places 1 (indexTail f)) (endOffset f s) ∙ length-places 1 (indexTail f) in
+        let long : length (digitsOf f s) ≡ 1 * suc (indexTail f) =
+        length-spell (f .q) (places 1 (indexTail f)) (endOffset f s) ∙ length-places 1 (indexTail f) in
         sym (append-nil (tabulate (suc (indexTail f)) (headOf f (indexPart f s)) (λ x. getD w x 0)))
         ∙ (rw (only-one (indexPart f s) (index-lt f ok s inside)) at
         (digits-back (frame f s) (framed f ok s inside) (digitsOf f s) ms w outside (long ∙ ap (λ (y : ℕ). y * suc (indexTail f)) (sym one))))
@@ -72,12 +73,17 @@ module _ (f : LongParams) (ok : Served f) (s : ℕ) (inside : s + f .b ≤ f .n)
         let l = next-lt parts e (burst-lt f ok s inside) in
         eqb-same (getD w (headOf f (next parts i)) 0) 0
         (fixed-back (frame f s) (framed f ok s inside) (digitsOf f s) ms w outside (next parts i) (next-lt parts i l)
-        (rw (eqb-other i (next parts i) (λ d. next-ne parts i (omega arith) (sym d)), eqb-other e (next parts i) (λ d. twice-other e (burst-lt f ok s inside) (sym d)))))
+        (rw (
+          eqb-other i (next parts i) (λ d. next-ne parts i (omega arith) (sym d)),
+          eqb-other e (next parts i)
+              (λ d. twice-other e (burst-lt f ok s inside) (sym d)),
+        )))
 
     index-whole : hasErasure (f .q) (firstSymbols f w (indexPart f s)) ≡ false
     index-whole =
         rw digits-read
-        (below-whole (f .q) (digitsOf f s) (at-below (f .q) (digitsOf f s) (λ x _. spelled-below (f .q) (places 1 (indexTail f)) (digitsOf f s) (ok .range .q-least) spelled x)))
+        (below-whole (f .q) (digitsOf f s) (at-below (f .q) (digitsOf f s)
+        (λ x _. spelled-below (f .q) (places 1 (indexTail f)) (digitsOf f s) (ok .range .q-least) spelled x)))
 
     value-read : written f w (indexPart f s) ≡ endOffset f s
     unfolding written

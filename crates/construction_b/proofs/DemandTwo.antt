@@ -22,7 +22,8 @@ use Rattle.cells.proofs.Erasures.{found-least}
 use Rattle.construction_b.specs.Figures.{LongParams, partLen, indexTail}
 use Rattle.construction_b.specs.Writing.{startIn, endOffset, frame, plan, wordFrom}
 use Rattle.construction_b.specs.Reading.{looksFixed, indexFound, before, firstSymbols, written, endAt, readPart, readFrom, read}
-use Rattle.construction_b.specs.DemandTwo.{constructionB, found, IndexRead, Listed, no-pattern, erased-index, too-large, before-word, erased-message, DemandTwo}
+use Rattle.construction_b.specs.DemandTwo.{constructionB, found, IndexRead, Listed, no-pattern, erased-index, too-large, before-word, erased-message}
+use Rattle.construction_b.specs.DemandTwo.{DemandTwo}
 use Rattle.construction_b.proofs.Figures.{Served, serve, placed-start}
 use Rattle.construction_b.proofs.Complete.{spelled, complete}
 use Rattle.construction_b.proofs.Sound.{sound}
@@ -47,7 +48,8 @@ writes f ok ss ms e l m =
     let ds = spell (f .q) (places 1 (indexTail f)) (endOffset f s) in
     let some : 0 < f .q = omega (arith, ok .range .q-least) in (
       length-woven (plan f s) ds ms ∙ length-tabulate (f .n) 0 (kindIn (frame f s)),
-      woven-below (f .q) (plan f s) ds ms some (spelled-below (f .q) (places 1 (indexTail f)) ds (ok .range .q-least) (spelled f ok s (p .1))) (below-at (f .q) ms some m),
+      woven-below (f .q) (plan f s) ds ms some (spelled-below (f .q) (places 1 (indexTail f)) ds (ok .range .q-least) (spelled f ok s (p .1)))
+          (below-at (f .q) ms some m),
     )
 
 -- ---- The numbers
@@ -56,7 +58,8 @@ module _ (f : LongParams) (w : List ℕ) where
   module _ (a i : ℕ) (pattern : found f w ≡ some i) where
     at-message : (b : Bool) → IndexRead f w i → written f w i < partLen f (before i) → f .b ≤ endAt f (before i) (written f w i)
         → hasErasure (f .q) (pick message (plan f (endAt f (before i) (written f w i) - f .b)) w) ≡ b
-        → must (not b) (refused erased) (accepted ((endAt f (before i) (written f w i) - f .b) ∷ []) (pick message (plan f (endAt f (before i) (written f w i) - f .b)) w)) ≡ refused a
+        → must (not b) (refused erased) (accepted ((endAt f (before i) (written f w i) - f .b) ∷ [])
+        (pick message (plan f (endAt f (before i) (written f w i) - f .b)) w)) ≡ refused a
         → Listed f w a
     at-message true r l g c e =
         subst (Listed f w) (same-number erased a e)
@@ -64,7 +67,8 @@ module _ (f : LongParams) (w : List ℕ) where
     at-message false r l g c e =
         not-accepted (sym e)
 
-    at-index : (b : Bool) → hasErasure (f .q) (firstSymbols f w i) ≡ b → must (not b) (refused erased) (readPart f w (before i) (written f w i)) ≡ refused a → Listed f w a
+    at-index : (b : Bool) → hasErasure (f .q) (firstSymbols f w i) ≡ b → must (not b) (refused erased) (readPart f w (before i) (written f w i)) ≡ refused a
+        → Listed f w a
     unfolding readPart
     at-index true h = λ e. subst (Listed f w) (same-number erased a e) (erased-index i pattern h)
     at-index false h =

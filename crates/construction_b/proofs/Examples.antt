@@ -22,5 +22,8 @@ use Rattle.construction_b.specs.Outcomes.{figuresOut, coverOut}
 use Rattle.construction_b.specs.Examples.{examples, ExamplesHold}
 
 pub examples-hold : ExamplesHold
-unfolding examples all any hasErasure comesTrue sameList sum has first members tabulate top choose rankFrom unrankDown unrank apart inBurst placements reduceFrom expandFrom rankOf startsOf covers coverRank weave pick pieceLen pieceStart span spell value places cellOf leastTail later next inRange partMin partMost placementCount indexTail fits messageLen burstPart indexPart endOffset plan wordFrom looksFixed indexFound before written endAt readPart read figuresOut coverOut flatMap
+unfolding examples all any hasErasure comesTrue sameList sum has first members tabulate top choose rankFrom unrankDown unrank apart inBurst placements
+    reduceFrom expandFrom rankOf startsOf covers coverRank weave pick pieceLen pieceStart span spell value places cellOf leastTail later next inRange
+    partMin partMost placementCount indexTail fits messageLen burstPart indexPart endOffset plan wordFrom looksFixed indexFound before written endAt
+    readPart read figuresOut coverOut flatMap
 examples-hold = refl

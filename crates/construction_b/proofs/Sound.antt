@@ -52,7 +52,8 @@ module _ (f : LongParams) (ok : Served f) (w : List ℕ) (small : (x : ℕ) → 
     burst-is : burstPart f start ≡ before i
     unfolding burstPart
     burst-is =
-        rw last-is (in-part f (before i) (headOf f (before i) + written f w i) (before-lt i (found .below)) (omega arith) (omega (arith, piece-next (f .n) parts (before i))))
+        rw last-is (in-part f (before i) (headOf f (before i) + written f w i) (before-lt i (found .below)) (omega arith)
+        (omega (arith, piece-next (f .n) parts (before i))))
 
     index-is : indexPart f start ≡ i
     unfolding indexPart
@@ -70,7 +71,8 @@ module _ (f : LongParams) (ok : Served f) (w : List ℕ) (small : (x : ℕ) → 
     heads-below =
         let g : ℕ → ℕ = λ x. getD w x 0 in
         let found-below : allBelow (foundBound (f .q)) (flatMap (λ k. tabulate (suc (indexTail f)) (headOf f k) g) (i ∷ [])) ≡ true =
-        rw (flat-map g (suc (indexTail f)) (headOf f) (i ∷ [])) (map-below (foundBound (f .q)) g small (flatMap (λ k. tabulate (suc (indexTail f)) (headOf f k) same) (i ∷ []))) in
+        rw (flat-map g (suc (indexTail f)) (headOf f) (i ∷ []))
+        (map-below (foundBound (f .q)) g small (flatMap (λ k. tabulate (suc (indexTail f)) (headOf f k) same) (i ∷ []))) in
         whole-below (f .q) heads (rw (append-nil heads) at found-below) whole
 
     digits : spell (f .q) (places 1 (indexTail f)) (endOffset f start) ≡ heads
@@ -105,7 +107,8 @@ module _ (f : LongParams) (ok : Served f) (w : List ℕ) (small : (x : ℕ) → 
   module _ (ss ms : List ℕ) (i : ℕ) (found : Found (looksFixed f w) i) where
     past-message : (b : Bool) (whole : hasErasure (f .q) (firstSymbols f w i) ≡ false) (below : written f w i < partLen f (before i))
         (from : f .b ≤ endAt f (before i) (written f w i)) → hasErasure (f .q) (pick message (plan f (endAt f (before i) (written f w i) - f .b)) w) ≡ b
-        → must (not b) (refused erased) (accepted ((endAt f (before i) (written f w i) - f .b) ∷ []) (pick message (plan f (endAt f (before i) (written f w i) - f .b)) w)) ≡ accepted ss ms
+        → must (not b) (refused erased) (accepted ((endAt f (before i) (written f w i) - f .b) ∷ [])
+        (pick message (plan f (endAt f (before i) (written f w i) - f .b)) w)) ≡ accepted ss ms
         → LeadsTo (constructionB f) w ss ms
     unfolding start
     past-message true whole below from c e = not-accepted e
@@ -115,7 +118,8 @@ module _ (f : LongParams) (ok : Served f) (w : List ℕ) (small : (x : ℕ) → 
         let e₂ : pick message (plan f s) w ≡ ms = cc in
         rw (e₂, e₁) at (accepts i found whole below from c)
 
-    past-index : (b : Bool) → hasErasure (f .q) (firstSymbols f w i) ≡ b → must (not b) (refused erased) (readPart f w (before i) (written f w i)) ≡ accepted ss ms
+    past-index : (b : Bool) → hasErasure (f .q) (firstSymbols f w i) ≡ b
+        → must (not b) (refused erased) (readPart f w (before i) (written f w i)) ≡ accepted ss ms
         → LeadsTo (constructionB f) w ss ms
     unfolding readPart
     past-index true h = λ e. not-accepted e

@@ -60,7 +60,8 @@ examples =
     ∷ example (numbers (figuresOut (longParams 20 257 5))) (1 ∷ [])
     ∷ example (word strip (4 ∷ []) ones) wordOfFour
     ∷ example (word strip (0 ∷ []) ones) (withLow (1 ∷ 1 ∷ 0 ∷ 0 ∷ []))
-    ∷ example (word (longParams 15 256 5) (6 ∷ []) (0 ∷ 0 ∷ 0 ∷ 7 ∷ 65 ∷ 66 ∷ 67 ∷ 68 ∷ [])) ((1 ∷ 0 ∷ 0 ∷ 0 ∷ 7 ∷ []) ++ replicate 6 0 ++ (65 ∷ 66 ∷ 67 ∷ 68 ∷ []))
+    ∷ example (word (longParams 15 256 5) (6 ∷ []) (0 ∷ 0 ∷ 0 ∷ 7 ∷ 65 ∷ 66 ∷ 67 ∷ 68 ∷ []))
+    ((1 ∷ 0 ∷ 0 ∷ 0 ∷ 7 ∷ []) ++ replicate 6 0 ++ (65 ∷ 66 ∷ 67 ∷ 68 ∷ []))
     ∷ example (told (read strip wordOfFour)) (0 ∷ 4 ∷ ones)
     -- whatever stands inside the run
     ∷ example (told (read strip ((0 ∷ 1 ∷ 1 ∷ 1 ∷ []) ++ replicate 9 1 ++ (1 ∷ 0 ∷ 1 ∷ 0 ∷ []) ++ replicate 3 1))) (0 ∷ 4 ∷ ones)

@@ -83,7 +83,8 @@ module _ (n : ℕ) (S : ℕ → Bool) (ks : List ℕ) where
     unfolding sameList members
     same-over h l =
         let e : n - i ≡ 0 = omega arith in
-        rw e (by-eq met (length ks) (λ t. sameList [] (drop met ks) ≡ t) (λ d. rw (drop-of-length-le ks {i = met} (omega arith))) (λ d. rw (drop-cons ks met 0 (omega arith))))
+        rw e (by-eq met (length ks) (λ t. sameList [] (drop met ks) ≡ t) (λ d. rw (drop-of-length-le ks {i = met} (omega arith)))
+        (λ d. rw (drop-cons ks met 0 (omega arith))))
 
 -- ---- By the kinds of a placement's blocks
 

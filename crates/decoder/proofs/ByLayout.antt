@@ -49,7 +49,8 @@ read-ranked l g w = by (indexIn l w)
     by : (o : Option (List ℕ)) → readFrom (figuresOf l) w o ≡ readIndex Rank l w o
     by none = refl
     by (some ks) =
-        ap (λ (hs : List ℕ). must (not (hasErasure (l .q) hs)) (refused erased) (readRank (figuresOf l) w ks (written (figuresOf l) w ks))) (sym (heads-are l g w ks))
+        ap (λ (hs : List ℕ). must (not (hasErasure (l .q) hs)) (refused erased) (readRank (figuresOf l) w ks (written (figuresOf l) w ks)))
+        (sym (heads-are l g w ks))
 
 -- ---- Construction B: the patterns and the heads of one index part
 

@@ -84,7 +84,8 @@ module _ (d : Coding) (w out bytes : List ℕ) where
     exported-put size r left e a starts put = put ∙ ap (exportedAs bytes) e ∙ sym (exported-read size)
 
   -- an accepted word has as many starts as the figures have bursts
-  pub starts-fit : (m : ℕ) → ((v : ℕ) → decodeUnder d w out .answer ≡ rankIs v → decodeUnder d w out .placement .count ≡ m) → m ≤ maxBursts → length bytes ≡ 2 * m
+  pub starts-fit : (m : ℕ) → ((v : ℕ) → decodeUnder d w out .answer ≡ rankIs v → decodeUnder d w out .placement .count ≡ m) → m ≤ maxBursts
+      → length bytes ≡ 2 * m
       → (r : Decoded) (left : List ℕ) → decodedAs r left ≡ decodeUnder d w out → StartsFit r bytes
   starts-fit m counts few size r left e v told =
       let count : r .placement .count ≡ m =

@@ -105,7 +105,8 @@ module _ (l : Layout) (g : LayoutFits l) where
   ranked-read w ks v i e = ap (λ (d : Coding). d .codec .decode w) ranked-coding ∙ rw (i .pattern, i .whole, e)
 
 -- the placement of a rank
-pub placing : (l : Layout) (v : ℕ) (p : Placement) → LayoutFits l → v < placementCount (figuresOf l) → heldAs p ≡ held (placementOf (figuresOf l) v) → PlacesBursts l p
+pub placing : (l : Layout) (v : ℕ) (p : Placement) → LayoutFits l → v < placementCount (figuresOf l) → heldAs p ≡ held (placementOf (figuresOf l) v)
+    → PlacesBursts l p
 placing l v p g below e =
     let f = figuresOf l in
     let ss = placementOf f v in
@@ -127,7 +128,8 @@ refused-not : {P : Type 0} (out : List ℕ) (d : Decoded) (a v : ℕ) → d ≡ 
 refused-not out d a v e r =
     absurd (let x : refusal a ≡ rankIs v = sym (ap (λ (d : Decoded). d .answer) e) ∙ r in let z : _≡_ {A = ℕ} 0 1 = cc in omega arith)
 
-module _ (d : Coding) (Listed : List ℕ → ℕ → Type 0) (reads : ReadsExactly (d .codec) Listed) (counts : (ss : List ℕ) → d .codec .placed ss ≡ true → length ss ≡ d .bursts)
+module _ (d : Coding) (Listed : List ℕ → ℕ → Type 0) (reads : ReadsExactly (d .codec) Listed)
+    (counts : (ss : List ℕ) → d .codec .placed ss ≡ true → length ss ≡ d .bursts)
     (range : d .inRange ≡ true) (fit : d .fits ≡ true) (w out : List ℕ) (v : ℕ) (r : decodeUnder d w out .answer ≡ rankIs v) where
   pub counts-under : decodeUnder d w out .placement .count ≡ d .bursts
   counts-under =
@@ -162,5 +164,6 @@ accepted-count l g w out v = go (l .spells) g
         counts-under (coding f) (A.Listed f) (demand-two f (h .range) (h .fit)) (λ ss e. placed-starts f ss e .1) (h .range) (h .fit) w out v r
     go EndOffset h r =
         let f = longOf (figuresOf l) in
-        counts-under (codingWith EndOffset (figuresOf l)) (B.Listed f) (B′.demand-two f (h .range) (h .fit)) (λ ss e. ap length (placed-start f ss e .0)) (h .range) (h .fit) w out v r
+        counts-under (codingWith EndOffset (figuresOf l)) (B.Listed f) (B′.demand-two f (h .range) (h .fit)) (λ ss e. ap length (placed-start f ss e .0))
+        (h .range) (h .fit) w out v r
         ∙ sym (h .laid .m-is)

@@ -42,7 +42,8 @@ outside c Listed two some w ss ms word e x l t =
     omega (arith, leads .outside x l t, below-at (c .alphabet) (c .encode ss ms) some symbols x)
 
 -- a word whose message, where it has no erasure, a code that reads exactly accepts with the placement
-module _ (c : Codec) (Listed : List ℕ → ℕ → Type 0) (two : ReadsExactly c Listed) (some : 0 < c .alphabet) (b : ℕ) (kind : ℕ → Cell) (w ss : List ℕ) (word : Word c w)
+module _ (c : Codec) (Listed : List ℕ → ℕ → Type 0) (two : ReadsExactly c Listed) (some : 0 < c .alphabet) (b : ℕ) (kind : ℕ → Cell) (w ss : List ℕ)
+    (word : Word c w)
     (bursts : (x : ℕ) → is burst (kind x) ≡ inBurst b ss x) (spoilt : (x : ℕ) → c .spoilt ss x ≡ inBurst b ss x)
     (accepts : (let ms = pick message (tabulate (c .wordLen) 0 kind) w in allBelow (c .alphabet) ms ≡ true → c .decode w ≡ accepted ss ms)) where
   all-covered : allBelow (c .alphabet) (pick message (tabulate (c .wordLen) 0 kind) w) ≡ true → covers (c .wordLen) b (erasedAt (c .alphabet) w) ss ≡ true
@@ -56,7 +57,8 @@ module _ (c : Codec) (Listed : List ℕ → ℕ → Type 0) (two : ReadsExactly 
   none-taken : covers (c .wordLen) b (erasedAt (c .alphabet) w) ss ≡ true → (x : ℕ) → x < c .wordLen → is message (kind x) ≡ true → getD w x 0 < c .alphabet
   none-taken t x h m =
       by-bool (ltb (getD w x 0) (c .alphabet)) (λ e. leb-true (suc (getD w x 0)) (c .alphabet) e)
-      (λ e. absurd (true≢false (sym (covers-of (c .wordLen) b (erasedAt (c .alphabet) w) ss t x h (ap not e)) ∙ sym (bursts x) ∙ no-burst message (kind x) refl m)))
+      (λ e. absurd (true≢false (sym (covers-of (c .wordLen) b (erasedAt (c .alphabet) w) ss t x h (ap not e)) ∙ sym (bursts x)
+      ∙ no-burst message (kind x) refl m)))
 
   pub message-covered : covers (c .wordLen) b (erasedAt (c .alphabet) w) ss ≡ allBelow (c .alphabet) (pick message (tabulate (c .wordLen) 0 kind) w)
   message-covered =
@@ -74,11 +76,13 @@ module _ (l : Layout) (g : Serves l) (w : List ℕ) (complete : length w ≡ l .
       → covers (l .n) (l .b) (erasedAt (l .q) w) ss ≡ allBelow (l .q) (pick message (planIn (frameOf l ss)) w)
   covered-by Rank h e =
       let f = figuresOf l in
-      message-covered (A.constructionA f) (A.Listed f) (A′.demand-two f (h .range) (h .fit)) some-symbol (l .b) (kindIn (frameOf l ss)) w ss (record { complete = complete; symbols = found })
+      message-covered (A.constructionA f) (A.Listed f) (A′.demand-two f (h .range) (h .fit)) some-symbol (l .b) (kindIn (frameOf l ss)) w ss
+      (record { complete = complete; symbols = found })
       (kind-burst (frameOf l ss)) (λ x. refl) (λ t. e ∙ rw (below-whole (l .q) (pick message (planIn (frameOf l ss)) w) t))
   covered-by EndOffset h e =
       let f = longOf (figuresOf l) in
-      message-covered (B.constructionB f) (B.Listed f) (B′.demand-two f (h .range) (h .fit)) some-symbol (l .b) (kindIn (frameOf l ss)) w ss (record { complete = complete; symbols = found })
+      message-covered (B.constructionB f) (B.Listed f) (B′.demand-two f (h .range) (h .fit)) some-symbol (l .b) (kindIn (frameOf l ss)) w ss
+      (record { complete = complete; symbols = found })
       (kind-burst (frameOf l ss)) (λ x. refl) (λ t. e ∙ rw (below-whole (l .q) (pick message (planIn (frameOf l ss)) w) t))
 
   pub erasures-covered : covers (l .n) (l .b) (erasedAt (l .q) w) ss ≡ allBelow (l .q) (pick message (planIn (frameOf l ss)) w)

@@ -31,10 +31,12 @@ module _ (b : ℕ) (out : List ℕ) where
       let s : ss′ ≡ ss = sym (held-starts ss′) ∙ ap (λ (d : Decoded). inUse (d .placement)) e ∙ held-starts ss in
       let m : ms′ ≡ ms = ap (λ (d : Decoded). d .message) e in
       rw (s, m)
-  was-accepted (refused a) ss ms e = absurd (let x : refusal a ≡ rankIs (rankOf b ss) = ap (λ (d : Decoded). d .answer) e in let z : _≡_ {A = ℕ} 0 1 = cc in omega arith)
+  was-accepted (refused a) ss ms e = absurd (let x : refusal a ≡ rankIs (rankOf b ss) = ap (λ (d : Decoded). d .answer) e in let z : _≡_ {A = ℕ} 0 1 = cc in
+      omega arith)
 
   was-refused : (r : Reading) (a : ℕ) → decodedFrom b out r ≡ unread out a → r ≡ refused a
-  was-refused (accepted ss ms) a e = absurd (let x : rankIs (rankOf b ss) ≡ refusal a = ap (λ (d : Decoded). d .answer) e in let z : _≡_ {A = ℕ} 0 1 = cc in omega arith)
+  was-refused (accepted ss ms) a e = absurd (let x : rankIs (rankOf b ss) ≡ refusal a = ap (λ (d : Decoded). d .answer) e in let z : _≡_ {A = ℕ} 0 1 = cc in
+      omega arith)
   was-refused (refused a′) a e = let x : refusal a′ ≡ refusal a = ap (λ (d : Decoded). d .answer) e in let s : a′ ≡ a = cc in rw s
 
 -- under any figures that give, where they are in range and fit, a code that reads exactly

@@ -94,7 +94,8 @@ module _ (l : Layout) (g : LongLayoutFits l) where
     started s is from placed =
         let f = longOf (figuresOf l) in
         rw (leb-holds (suc v) (partLen f e) below, leb-holds (l .b) (endAt f e v) from, ← is)
-        (ap (λ (p : List Cell). let ms = pick message p w in must (not (hasErasure (l .q) ms)) (refused erased) (accepted (s ∷ []) ms)) (sym (long-plan-is l g (s ∷ []) placed)))
+        (ap (λ (p : List Cell). let ms = pick message p w in must (not (hasErasure (l .q) ms)) (refused erased) (accepted (s ∷ []) ms))
+        (sym (long-plan-is l g (s ∷ []) placed)))
 
   pub long-read : (w : List ℕ) (i v : ℕ) → IndexRead (longOf (figuresOf l)) w i → v ≡ written (longOf (figuresOf l)) w i
       → codingIn l .codec .decode w ≡ readPart (longOf (figuresOf l)) w (before i) v
@@ -106,7 +107,8 @@ module _ (l : Layout) (g : LongLayoutFits l) where
   pub start-room : Room (l .n) (l .m) (l .b)
   start-room =
       let ok = served-long l g in
-      rw (g .laid .m-is) (record { short = ok .range .n-most; few = omega arith; some = ok .range .b-least; within = omega (arith, burst-fits (longOf (figuresOf l)) ok) })
+      rw (g .laid .m-is)
+      (record { short = ok .range .n-most; few = omega arith; some = ok .range .b-least; within = omega (arith, burst-fits (longOf (figuresOf l)) ok) })
 
   pub start-counts : (placements (l .n) (l .m) (l .b) ≤ A.maxCount) × ((s : ℕ) → s + l .b ≤ l .n → s < placements (l .n) (l .m) (l .b))
   unfolding placementCount

@@ -5,7 +5,8 @@ use mathlib.Core.List.{List, [], _∷_}
 use mathlib.Core.Option.{Option, none, some}
 use Prim.Native.Nat.{ℕ, _-_}
 use lib.Dec.{eqb, leb, ltb}
-use Rattle.refusals.specs.Refusals.{must, served, invalid, unfit, wrongLength, noPattern, valueTooLarge, disagrees, erased, noMajority, badPayload, jobCancelled, jobHeld, notOpen}
+use Rattle.refusals.specs.Refusals.{must, served, invalid, unfit, wrongLength, noPattern, valueTooLarge, disagrees, erased, noMajority, badPayload}
+use Rattle.refusals.specs.Refusals.{jobCancelled, jobHeld, notOpen}
 use Rattle.combinatorics.specs.Lists.{all, any}
 use Rattle.combinatorics.proofs.Cases.{by-bool, eqb-true}
 use Rattle.combinatorics.proofs.Lists.{both}

@@ -16,7 +16,8 @@ use Rattle.cells.specs.Bytes.{payloadLen}
 use Rattle.cells.specs.Erasures.{foundBound}
 use Rattle.cells.specs.Ranking.{CoversLeast}
 use Rattle.construction_a.specs.Figures.{Params, inRange, fits, messageLen}
-use Rattle.cells.specs.Outcomes.{Coding, Held, held, inUse, FiguresOut, figuresNumber, figuresUnder, unwritten, encodeUnder, defectAt, Covered, coverUnder, WordAnswer, rankIs, refusal, answerNumber, Decoded, decodedFrom, decodeUnder}
+use Rattle.cells.specs.Outcomes.{Coding, Held, held, inUse, FiguresOut, figuresNumber, figuresUnder, unwritten, encodeUnder, defectAt, Covered, coverUnder}
+use Rattle.cells.specs.Outcomes.{WordAnswer, rankIs, refusal, answerNumber, Decoded, decodedFrom, decodeUnder}
 use Rattle.params.specs.declared.Figures.{Figures}
 use Rattle.params.specs.declared.Figures.the-variants.{Ranked, Long}
 use Rattle.params.specs.Bridge.{given, givenLong, codingOf}
@@ -35,7 +36,8 @@ use Rattle.jobs.specs.declared.Entry.the-variants.{Free, Open, OnHold, Cancelle
 use Rattle.jobs.specs.Jobs.{Kind, opening, cancelling, finishing, reinstating, holding, releasing, isJob}
 use Rattle.jobs.specs.Letters.{kindOf, listKind, known, callBy, isLetter, isListLetter}
 use Rattle.ledger.specs.Replay.{lengthsFit, ReplayOut, replayOut}
-use Rattle.jobs.specs.Table.{isFree, lookup, TableOut, put, twice, decide, openJob, openAt, cancelAt, finishAt, reinstateAt, holdAt, releaseAt, openOut, cancelOut, finishOut, reinstateOut, holdOut, releaseOut, callAs}
+use Rattle.jobs.specs.Table.{isFree, lookup, TableOut, put, twice, decide, openJob, openAt, cancelAt, finishAt, reinstateAt, holdAt, releaseAt, openOut}
+use Rattle.jobs.specs.Table.{cancelOut, finishOut, reinstateOut, holdOut, releaseOut, callAs}
 use Rattle.payloads.specs.Payload.{carriesJob, payloadIn, spellsPayload, jobNumber}
 use Rattle.decoder.specs.Exported.{Exported, exportedAnswer, exportedUnder}
 use Rattle.jobcodec.specs.DemandThree.{isRefusal}
@@ -56,10 +58,12 @@ use Rattle.records.specs.Session.{Session, maxRecords, nextSession}
 use Rattle.lines.specs.Lines.{refusalLine, servedLine, letterS, letterL, letterW, letterR}
 use Rattle.records.specs.Records.{recordHeadLen, letterOf, isEmpty, current, payloadLenOf, figuresIn, longFiguresIn, recordStarts, payloadOf, readable}
 use Rattle.transfer.specs.Steps.{Step, stopped, ended, goesOn, figuresStep, callStep, jobStep, writeOut, readOut, serveOut, stepOut}
-use Rattle.demands.specs.Orders.{figuresAlone, wordWrite, covering, wordRead, larssonRead, rearrangement, jobWrite, jobRead, call, callByLetter, callOnBytes, listOfCalls}
+use Rattle.demands.specs.Orders.{figuresAlone, wordWrite, covering, wordRead, larssonRead, rearrangement, jobWrite, jobRead, call, callByLetter}
+use Rattle.demands.specs.Orders.{callOnBytes, listOfCalls}
 use Rattle.demands.proofs.Answering.{keep, done, tested, where-open, in-all, Judges, by-read, judges, by-larsson, with-table, one-more, Writes}
 use Rattle.demands.proofs.Moves.{move-to-a, move-to-larsson, move-to-a-bytes, move-to-larsson-bytes}
-use Rattle.demands.proofs.Prescriptions.{transpose, spherical-equivalent, read-text, write-text, prescription-write, prescription-read, transpose-lent, equivalent-lent, prescription-write-bytes, prescription-read-bytes}
+use Rattle.demands.proofs.Prescriptions.{transpose, spherical-equivalent, read-text, write-text, prescription-write, prescription-read}
+use Rattle.demands.proofs.Prescriptions.{transpose-lent, equivalent-lent, prescription-write-bytes, prescription-read-bytes}
 use Rattle.demands.specs.DemandOne.{AnswersBy, ChecksBy, ListAnswers, StepAnswers, at-end, stops, refuses, serves, DemandOne}
 
 -- ---- Words

@@ -36,7 +36,8 @@ use Rattle.lines.specs.Lines.{refusalLine, letterS, letterL, letterR}
 use Rattle.records.specs.Records.{recordHeadLen, isMarked, letterOf, current, payloadLenOf, recordLen, readable, figuresIn, longFiguresIn}
 use Rattle.transfer.specs.Steps.{Step, figuresStep, callStep, readStep, readOut, stepOut}
 use Rattle.transfer.proofs.Serving.{step-serves, serve-S, serve-L, serve-R, serve-call-is}
-use Rattle.demands.specs.DemandThree.{BytesClaimed, sessionAfter, linesOf, isRecord, isCall, figuresCarried, callsIn, answerLines, IsSession, SessionClaimed}
+use Rattle.demands.specs.DemandThree.{BytesClaimed, sessionAfter, linesOf, isRecord, isCall, figuresCarried, callsIn, answerLines, IsSession}
+use Rattle.demands.specs.DemandThree.{SessionClaimed}
 
 -- ---- A program in C
 
@@ -212,7 +213,8 @@ session-claimed figures calls reading h =
       jobReadUnder (codingOf g) (tableFrom emptyTable cs) (drop recordHeadLen reading) out,
       record {
         claim =
-            follows-either g [] cs (answersFrom emptyTable cs) (tableFrom emptyTable cs) (drop recordHeadLen reading) out (simulation-from-start emptyTable [] empty cs);
+            follows-either g [] cs (answersFrom emptyTable cs) (tableFrom emptyTable cs) (drop recordHeadLen reading) out
+            (simulation-from-start emptyTable [] empty cs);
         answered = lines-are figures reading calls h;
         printed = read-last figures reading calls h;
       },

@@ -30,7 +30,8 @@ use Rattle.prescription.specs.Outcomes.{Answered, refused, orRefused, transpose
 use Rattle.prescriptioncodec.specs.PrescriptionWrite.{numberLen, prescriptionPayload, minPayload, writePrescribed, prescriptionWriteUnder}
 use Rattle.prescriptioncodec.specs.PrescriptionRead.{HandedOut, handPrescription, prescriptionIn, prescriptionReading, prescriptionReadUnder}
 use Rattle.lent_prescriptions.specs.Eyes.{marksOf, powersOf, powersLent, answerLent, transposeLent, PowerLent, equivalentLentAs, equivalentLent}
-use Rattle.lent_prescriptions.specs.Prescriptions.{handedMarks, handedPowers, haveRoom, prescriptionWriteBytesUnder, prescriptionReadLent, prescriptionReadBytesUnder}
+use Rattle.lent_prescriptions.specs.Prescriptions.{handedMarks, handedPowers, haveRoom, prescriptionWriteBytesUnder, prescriptionReadLent}
+use Rattle.lent_prescriptions.specs.Prescriptions.{prescriptionReadBytesUnder}
 use Rattle.lent.specs.Table.{tableIn}
 use Rattle.demands.specs.Orders.{prescriptionAlone, prescriptionWrite, prescriptionRead, prescriptionLent}
 use Rattle.demands.specs.DemandOne.{AnswersBy, AnswersLent}
@@ -101,7 +102,8 @@ hand-prescription : (es : List Entry) (payload : List ℕ) (o : Option Prescribe
 unfolding isRefusal all any
 hand-prescription es payload none = keep refl refl
 hand-prescription es payload (some x) =
-    where-open (λ (o : Answered HandedOut). Answers prescriptionRead o) refused (jobStatus es payload) (keep refl refl) (keep refl refl) (keep refl refl) (done refl)
+    where-open (λ (o : Answered HandedOut). Answers prescriptionRead o) refused (jobStatus es payload) (keep refl refl) (keep refl refl) (keep refl refl)
+    (done refl)
 
 pub prescription-read : (d : Coding) → Judges d → (es : List Entry) (w : List ℕ) → Answers prescriptionRead (prescriptionReadUnder d es w)
 unfolding prescriptionReading isRefusal all any

@@ -52,7 +52,9 @@ use Rattle.records.specs.Session.{Session, nextSession}
 use Rattle.lines.specs.Lines.{refusalLine, servedLine}
 use Rattle.records.specs.Records.{letterOf}
 use Rattle.transfer.specs.Steps.{Step, stopped, ended, goesOn, stepOut}
-use Rattle.demands.specs.Orders.{figuresAlone, wordWrite, covering, wordRead, larssonRead, rearrangement, jobWrite, jobRead, moveToA, moveToLarsson, prescriptionAlone, prescriptionWrite, prescriptionRead, prescriptionLent, call, callByLetter, callOnBytes, listOfCalls}
+use Rattle.demands.specs.Orders.{figuresAlone, wordWrite, covering, wordRead, larssonRead, rearrangement, jobWrite, jobRead, moveToA, moveToLarsson}
+use Rattle.demands.specs.Orders.{prescriptionAlone, prescriptionWrite, prescriptionRead, prescriptionLent, call, callByLetter, callOnBytes}
+use Rattle.demands.specs.Orders.{listOfCalls}
 
 -- A call whose order is given answers a; what was lent is then `left`.
 pub record AnswersBy {A : Type 0} (order : List ℕ) (a : ℕ) (lent left : A) : Type 0 where

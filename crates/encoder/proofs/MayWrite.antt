@@ -102,7 +102,8 @@ module _ (d : Coding) (at : Held) (ms out : List ℕ) (range : d .inRange ≡ tr
       let c = d .codec in
       let tests = eqb (at .count) (d .bursts) && eqb (length ms) (c .messageLen) && eqb (length out) (c .wordLen) in
       rw (range, fit, e)
-      (refuses-alike (unwritten out) (record { answer = served; word = c .encode (inUse at) ms }) tests (apart (d .burstLen) (c .wordLen) 0 (inUse at)) (allBelow (c .alphabet) ms)
+      (refuses-alike (unwritten out) (record { answer = served; word = c .encode (inUse at) ms }) tests (apart (d .burstLen) (c .wordLen) 0 (inUse at))
+      (allBelow (c .alphabet) ms)
       (λ z. h (e ∙ z)))
 
   pub encode-unrefused : numberUnder ≡ served → encodeUnder d at ms out ≡ record { answer = served; word = d .codec .encode (inUse at) ms }

@@ -43,7 +43,8 @@ span-least q m (suc r) h =
     (mul-le-mul (span-least q m r h) (pow-le-pow-left h m))
 
 -- r is the least that serves so many values
-module _ (q m values : ℕ) (two : 2 ≤ q) (few : m ≤ maxBursts) (counted : values ≤ maxCount) (tail : ℕ) (least : (r : ℕ) → values ≤ indexValues q m r → tail ≤ r) where
+module _ (q m values : ℕ) (two : 2 ≤ q) (few : m ≤ maxBursts) (counted : values ≤ maxCount) (tail : ℕ)
+    (least : (r : ℕ) → values ≤ indexValues q m r → tail ≤ r) where
   -- one symbol fewer would not do, so it spells fewer values
   fewer : (r : ℕ) → tail ≡ suc r → m * r < countBits
   fewer r e =
@@ -78,14 +79,16 @@ module _ (l : Layout) where
   room-with Rank g =
       let f = figuresOf l in
       let ok = served l g in (
-        rw (g .laid .tail-is) (digits-few (f .q) (f .m) (placementCount f) (ok .range .q-least) (ok .range .m-most) (ok .counted) (indexTail f) (index-least f)),
+        rw (g .laid .tail-is) (digits-few (f .q) (f .m) (placementCount f) (ok .range .q-least) (ok .range .m-most) (ok .counted) (indexTail f)
+            (index-least f)),
         ok .some,
       )
   room-with EndOffset g =
       let f = longOf (figuresOf l) in
       let ok = served-long l g in (
         rw (g .laid .m-is, g .laid .tail-is)
-            (digits-few (f .q) 1 (B.partMost f) (ok .range .q-least) (omega arith) (values-few (f .n) (ok .range .n-most)) (B.indexTail f) (BFigures.index-least f)),
+            (digits-few (f .q) 1 (B.partMost f) (ok .range .q-least) (omega arith) (values-few (f .n) (ok .range .n-most)) (B.indexTail f)
+            (BFigures.index-least f)),
         omega (arith, g .laid .m-is),
       )
 
@@ -110,7 +113,13 @@ module _ (l : Layout) where
         ok .range .q-least,
         ok .range .q-most,
         rw (g .laid .m-is, g .laid .tail-is)
-            (omega (arith, offset-lt f ok (startIn ss) inside, BFigures.part-most f (burstPart f (startIn ss)) (burst-lt f ok (startIn ss) inside), BFigures.span-enough f ok)),
+            (omega (
+              arith,
+              offset-lt f ok (startIn ss) inside,
+              BFigures.part-most f (burstPart f (startIn ss))
+                  (burst-lt f ok (startIn ss) inside),
+              BFigures.span-enough f ok,
+            )),
       )
 
   pub spellable : Serves l → (ss : List ℕ) (v : ℕ) → isPlacement (figuresOf l) ss ≡ true → v ≡ spelledIn l ss → SpellableRank (l .q) (l .m) (l .«index_tail») v
@@ -126,7 +135,8 @@ module _ (l : Layout) where
   woven-with Rank g ss ms placed =
       ap₂ (λ (cs : List Cell) (r : ℕ). weave cs (spell (l .q) (places (l .m) r) (spelledWith Rank (figuresOf l) ss)) ms) (plan-is l g ss) (g .laid .tail-is)
   woven-with EndOffset g ss ms placed =
-      ap (λ (cs : List Cell). weave cs (spell (l .q) (places (l .m) (l .«index_tail»)) (spelledWith EndOffset (figuresOf l) ss)) ms) (long-plan-is l g ss placed)
+      ap (λ (cs : List Cell). weave cs (spell (l .q) (places (l .m) (l .«index_tail»)) (spelledWith EndOffset (figuresOf l) ss)) ms)
+      (long-plan-is l g ss placed)
       ∙ ap₂ (λ (m r : ℕ). weave (B′.plan (longOf (figuresOf l)) (startIn ss)) (spell (l .q) (places m r) (spelledWith EndOffset (figuresOf l) ss)) ms)
       (g .laid .m-is) (g .laid .tail-is)
 

@@ -63,7 +63,8 @@ module _ (q : ℕ) (ps : List Place) (value : ℕ) (h : 2 ≤ q) where
 
   pub start : (digits : List ℕ) → value < span q ps → length ps ≤ length digits → Spelling q ps value (length ps) value digits
   start digits l g =
-      let e : drop (length ps) (take (length ps) digits) ≡ [] = drop-of-length-le (take (length ps) digits) {i = length ps} (omega (arith, length-take (length ps) digits)) in
+      let e : drop (length ps) (take (length ps) digits) ≡ [] =
+      drop-of-length-le (take (length ps) digits) {i = length ps} (omega (arith, length-take (length ps) digits)) in
       record { below = rw (take-length ps) l; made = rw (e, take-length ps) (append-nil (spell q ps value)) }
 
   pub done : (left : ℕ) (digits : List ℕ) → Spelling q ps value 0 left digits → take (length ps) digits ≡ spell q ps value
@@ -81,7 +82,13 @@ place-is (suc m) r (suc i) h =
     by-le (suc i) r (λ _. getD (replicate r plain ++ places m r) i plain ≡ placeAt r (suc i))
     (λ l.
     let e : suc i % suc r ≡ suc i = mod-eq-of-lt {n = suc i} {m = suc r} (omega arith) in
-    rw (List·getD-append (replicate r plain) (places m r) plain i (omega (arith, length-replicate r plain)), getD-replicate r i plain plain l, e, eqb-other (suc i) 0 (omega arith)))
+    rw (
+      List·getD-append (replicate r plain) (places m r) plain i (omega (arith, length-replicate r plain)),
+      getD-replicate r i plain plain l,
+      e,
+      eqb-other
+          (suc i) 0 (omega arith),
+    ))
     (λ l.
     let j = i - r in
     let e : suc i ≡ suc r + j = omega arith in

@@ -17,7 +17,8 @@ use Rattle.jobs.specs.declared.Before.{Before}
 use Rattle.jobs.specs.declared.Before.the-variants.{WasAbsent, WasOpen, WasOnHold}
 use Rattle.jobs.specs.Jobs.{Kind, opening, cancelling, finishing, reinstating, holding, releasing, Call, isJob}
 use Rattle.jobs.specs.Letters.{kindOf, listKind, callBy, isListLetter}
-use Rattle.jobs.specs.Table.{isFree, holds, lookup, emptyTable, TableOut, refuse, accept, replaceFirst, put, add, twice, decide, openJob, openAt, cancelAt, finishAt, restored, reinstateAt, holdAt, releaseAt, callAs}
+use Rattle.jobs.specs.Table.{isFree, holds, lookup, emptyTable, TableOut, refuse, accept, replaceFirst, put, add, twice, decide, openJob, openAt, cancelAt}
+use Rattle.jobs.specs.Table.{finishAt, restored, reinstateAt, holdAt, releaseAt, callAs}
 use Rattle.ledger.specs.Calls.{callOut, answersFrom, tableFrom}
 use Rattle.ledger.specs.Simulation.{Start, empty, zero-open, zero-cancelled, zero-opened-cancelled, zero-on-hold-cancelled}
 use Rattle.ledger.proofs.Simulates.{simulation-from-start}

@@ -58,7 +58,8 @@ module _ (c : Candidates) (xs : List ℕ) (e : c ≡ candidatesOf xs) where
     pub candidates-more : c .count ≢ 0 → c .count ≢ 1 → record { count = c .count + 1; first = c .first; second = c .second } ≡ candidatesOf (xs ++ (x ∷ []))
     candidates-more f g = rw (count-is, first-is, second-is) (go xs (λ z. f (count-is ∙ z)) (λ z. g (count-is ∙ z)))
       where
-        go : (ys : List ℕ) → length ys ≢ 0 → length ys ≢ 1 → record { count = length ys + 1; first = getD ys 0 0; second = getD ys 1 0 } ≡ candidatesOf (ys ++ (x ∷ []))
+        go : (ys : List ℕ) → length ys ≢ 0 → length ys ≢ 1 → record { count = length ys + 1; first = getD ys 0 0; second = getD ys 1 0 } ≡ candidatesOf
+            (ys ++ (x ∷ []))
         go [] u v = absurd (u refl)
         go (y ∷ []) u v = absurd (v refl)
         go (y ∷ z ∷ zs) u v =
@@ -71,8 +72,11 @@ module _ (c : Candidates) (i : ℕ) (w : ℕ → Bool) (e : c ≡ candidatesOf (
   candidates-few = omega (arith, count-is c (members i 0 w) e, length-members i 0 w, count-le i 0 w)
 
   pub candidates-below : 0 < i → (c .first < i) × (c .second < i)
-  candidates-below h =
-      (omega (arith, ap (λ (y : Candidates). y .first) e, members-most i 0 0 w (omega arith)), omega (arith, ap (λ (y : Candidates). y .second) e, members-most i 0 1 w (omega arith)))
+  candidates-below h = (
+    omega (arith, ap (λ (y : Candidates). y .first) e, members-most i 0 0 w (omega arith)),
+    omega
+        (arith, ap (λ (y : Candidates). y .second) e, members-most i 0 1 w (omega arith)),
+  )
 
   pub candidates-out : w i ≡ false → c ≡ candidatesOf (members (i + 1) 0 w)
   candidates-out t = rw (members-on i w, t, append-nil (members i 0 w)) e
@@ -116,7 +120,8 @@ module _ (n : ℕ) (c : Candidates) (xs : List ℕ) (e : c ≡ candidatesOf xs) 
     two-is = rw (first-is c xs e, second-is c xs e) (go xs (sym (count-is c xs e) ∙ two))
       where
         go : (ys : List ℕ) → length ys ≡ 2
-            → later n ys ≡ cond (eqb (getD ys 1 0) (suc (getD ys 0 0))) (some (getD ys 1 0)) (cond (eqb (getD ys 0 0) 0 && eqb (suc (getD ys 1 0)) n) (some 0) none)
+            → later n ys ≡ cond (eqb (getD ys 1 0) (suc (getD ys 0 0))) (some (getD ys 1 0))
+            (cond (eqb (getD ys 0 0) 0 && eqb (suc (getD ys 1 0)) n) (some 0) none)
         go [] z = absurd (omega arith)
         go (y ∷ []) z = absurd (omega arith)
         go (y ∷ z ∷ []) u = refl
@@ -132,11 +137,13 @@ module _ (n : ℕ) (c : Candidates) (xs : List ℕ) (e : c ≡ candidatesOf xs) 
 
       pub later-short : c .first ≡ 0 → c .second + 1 ≢ n → numbered n n ≡ later n xs
       later-short z g =
-          rw (two-is, eqb-other (c .second) (suc (c .first)) (omega arith), eqb-same (c .first) 0 z, eqb-other (suc (c .second)) n (omega arith)) (numbered-out n n (omega arith))
+          rw (two-is, eqb-other (c .second) (suc (c .first)) (omega arith), eqb-same (c .first) 0 z, eqb-other (suc (c .second)) n (omega arith))
+          (numbered-out n n (omega arith))
 
       pub later-ends : c .first ≡ 0 → c .second + 1 ≡ n → numbered n 0 ≡ later n xs
       later-ends z g =
-          rw (two-is, eqb-other (c .second) (suc (c .first)) (omega arith), eqb-same (c .first) 0 z, eqb-same (suc (c .second)) n (omega arith)) (numbered-in n 0 (omega arith))
+          rw (two-is, eqb-other (c .second) (suc (c .first)) (omega arith), eqb-same (c .first) 0 z, eqb-same (suc (c .second)) n (omega arith))
+          (numbered-in n 0 (omega arith))
 
 -- ---- Parts
 

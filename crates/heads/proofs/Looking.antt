@@ -111,7 +111,8 @@ shown l w a h t e =
     record {
       finding = h;
       within = λ j g. rw (← same j g) (each-at (λ k. k < p * l .m) ks j (rw count g) (found-within p (l .m) looks ks found));
-      open-heads = λ j g. rw (← same j g) (not-true (looks (getD ks j 0)) (each-at (λ k. not (looks k) ≡ true) ks j (rw count g) (taken-bare p (l .m) looks ks found)));
+      open-heads = λ j g. rw (← same j g) (not-true (looks (getD ks j 0))
+          (each-at (λ k. not (looks k) ≡ true) ks j (rw count g) (taken-bare p (l .m) looks ks found)));
     }
   where
     p : ℕ

@@ -26,7 +26,8 @@ module _ (r : ℕ) (f : Params) (w ks : List ℕ) where
   -- the first 1 + r symbols of block j, lent as a part of the word
   module _ (j : ℕ) (part : List ℕ) (l : j < f .m) (long : f .m ≤ length ks) (size : length part ≡ suc r)
       (at : (i : ℕ) → i < suc r → getD part i 0 ≡ getD w (headOf f (getD ks j 0) + i) 0) where
-    one-block : allBelow (f .q) (headsWith r f w (drop j (take (f .m) ks))) ≡ (allBelow (f .q) part && allBelow (f .q) (headsWith r f w (drop (j + 1) (take (f .m) ks))))
+    one-block : allBelow (f .q) (headsWith r f w (drop j (take (f .m) ks)))
+        ≡ (allBelow (f .q) part && allBelow (f .q) (headsWith r f w (drop (j + 1) (take (f .m) ks))))
     unfolding flatMap
     one-block =
         let here = tabulate (suc r) (headOf f (getD ks j 0)) (λ x. getD w x 0) in

@@ -43,7 +43,8 @@ module _ (d : Coding) (es : List Entry) where
   pub read-twice : (w out : List ℕ) → twice es ≡ true → jobReadUnder d es w out ≡ withhold out invalid
   read-twice w out e = rw (e, both-false (d .inRange))
 
-  pub write-unfit : (at : Held) (payload out : List ℕ) (a : ℕ) → twice es ≡ false → figuresUnder d ≡ unserved a → jobWriteUnder d es at payload out ≡ unwritten out a
+  pub write-unfit : (at : Held) (payload out : List ℕ) (a : ℕ) → twice es ≡ false → figuresUnder d ≡ unserved a
+      → jobWriteUnder d es at payload out ≡ unwritten out a
   write-unfit at payload out a e r = figures-refused d es (unwritten out) _ a e r
 
   pub read-unfit : (w out : List ℕ) (a : ℕ) → twice es ≡ false → figuresUnder d ≡ unserved a → jobReadUnder d es w out ≡ withhold out a
@@ -52,7 +53,8 @@ module _ (d : Coding) (es : List Entry) where
 -- ---- Figures that fit, laid out
 
 -- what a caller learns of an answer that is a layout
-pub laid : (f : Figures) (es : List Entry) (answer : LayoutAnswer) (l : Layout) → answer ≡ Fit l → figuredAs answer ≡ figuresUnder (codingOf f) → LaidAs f answer
+pub laid : (f : Figures) (es : List Entry) (answer : LayoutAnswer) (l : Layout) → answer ≡ Fit l → figuredAs answer ≡ figuresUnder (codingOf f)
+    → LaidAs f answer
     → twice es ≡ false → (codingIn l ≡ codingOf f) × ServesTable l es
 laid f es answer l e told layout once = let own = serves f answer l e told layout in (own .0, record { serves = own .1; once = once })
 
@@ -119,7 +121,8 @@ module _ (d : Coding) (es : List Entry) (at : Held) (payload out : List ℕ) (r 
   from-starts = must (apart (d .burstLen) (d .codec .wordLen) 0 (inUse at)) (unwritten out badStarts) from-number
 
   from-lengths : jobWriteUnder d es at payload out
-      ≡ must (eqb (at .count) (d .bursts) && eqb (length payload) (payloadLen (d .codec .alphabet) (d .codec .messageLen)) && eqb (length out) (d .codec .wordLen)) (unwritten out wrongLength) from-starts
+      ≡ must (eqb (at .count) (d .bursts) && eqb (length payload) (payloadLen (d .codec .alphabet) (d .codec .messageLen)) && eqb (length out)
+      (d .codec .wordLen)) (unwritten out wrongLength) from-starts
   from-lengths = rw (r .range, r .once, r .fit, r .carries)
 
   pub write-count : at .count ≢ d .bursts → jobWriteUnder d es at payload out ≡ unwritten out wrongLength
@@ -127,17 +130,30 @@ module _ (d : Coding) (es : List Entry) (at : Held) (payload out : List ℕ) (r 
 
   module _ (c : at .count ≡ d .bursts) where
     pub write-bytes : length payload ≢ payloadLen (d .codec .alphabet) (d .codec .messageLen) → jobWriteUnder d es at payload out ≡ unwritten out wrongLength
-    write-bytes n = from-lengths ∙ rw (eqb-same (at .count) (d .bursts) c, eqb-other (length payload) (payloadLen (d .codec .alphabet) (d .codec .messageLen)) n)
+    write-bytes n =
+        from-lengths ∙ rw (eqb-same (at .count) (d .bursts) c, eqb-other (length payload) (payloadLen (d .codec .alphabet) (d .codec .messageLen)) n)
 
     module _ (y : length payload ≡ payloadLen (d .codec .alphabet) (d .codec .messageLen)) where
       pub write-length : length out ≢ d .codec .wordLen → jobWriteUnder d es at payload out ≡ unwritten out wrongLength
       write-length n =
-          from-lengths ∙ rw (eqb-same (at .count) (d .bursts) c, eqb-same (length payload) (payloadLen (d .codec .alphabet) (d .codec .messageLen)) y, eqb-other (length out) (d .codec .wordLen) n)
+          from-lengths
+          ∙ rw (
+            eqb-same (at .count) (d .bursts) c,
+            eqb-same (length payload) (payloadLen (d .codec .alphabet) (d .codec .messageLen)) y,
+            eqb-other
+                (length out) (d .codec .wordLen) n,
+          )
 
       module _ (o : length out ≡ d .codec .wordLen) where
         pub past-lengths : jobWriteUnder d es at payload out ≡ from-starts
         past-lengths =
-            from-lengths ∙ rw (eqb-same (at .count) (d .bursts) c, eqb-same (length payload) (payloadLen (d .codec .alphabet) (d .codec .messageLen)) y, eqb-same (length out) (d .codec .wordLen) o)
+            from-lengths
+            ∙ rw (
+              eqb-same (at .count) (d .bursts) c,
+              eqb-same (length payload) (payloadLen (d .codec .alphabet) (d .codec .messageLen)) y,
+              eqb-same
+                  (length out) (d .codec .wordLen) o,
+            )
 
         pub write-starts : apart (d .burstLen) (d .codec .wordLen) 0 (inUse at) ≡ false → jobWriteUnder d es at payload out ≡ unwritten out badStarts
         write-starts n = past-lengths ∙ rw n
@@ -172,12 +188,14 @@ module _ (out : List ℕ) where
       let last = whereOpen (jobStatus es payload) (unwritten out) done in
       let job = must (isJob (jobNumber payload)) (unwritten out numberZero) last in
       let starts = must (apart (d .burstLen) (d .codec .wordLen) 0 (inUse at)) (unwritten out badStarts) job in
-      let lengths = must (eqb (at .count) (d .bursts) && eqb (length payload) (payloadLen (d .codec .alphabet) k) && eqb (length out) (d .codec .wordLen)) (unwritten out wrongLength) starts in
+      let lengths = must (eqb (at .count) (d .bursts) && eqb (length payload) (payloadLen (d .codec .alphabet) k) && eqb (length out) (d .codec .wordLen))
+      (unwritten out wrongLength) starts in
       let five = must (carriesJob (d .codec .alphabet) k) (unwritten out badPayload) lengths in
       keeps (d .inRange && not (twice es)) invalid (must (d .fits) (unwritten out unfit) five)
       (keeps (d .fits) unfit five
       (keeps (carriesJob (d .codec .alphabet) k) badPayload lengths
-      (keeps (eqb (at .count) (d .bursts) && eqb (length payload) (payloadLen (d .codec .alphabet) k) && eqb (length out) (d .codec .wordLen)) wrongLength starts
+      (keeps (eqb (at .count) (d .bursts) && eqb (length payload) (payloadLen (d .codec .alphabet) k) && eqb (length out) (d .codec .wordLen)) wrongLength
+      starts
       (keeps (apart (d .burstLen) (d .codec .wordLen) 0 (inUse at)) badStarts job
       (keeps (isJob (jobNumber payload)) numberZero last
       (keeps (eqb (needsOpen (jobStatus es payload)) served) (needsOpen (jobStatus es payload)) done (λ d. absurd (d refl))))))))
@@ -188,9 +206,18 @@ pub read-length : (d : Coding) (es : List Entry) (w out : List ℕ) → ReadyUnd
     → jobReadUnder d es w out ≡ withhold out wrongLength
 unfolding jobReading
 read-length d es w out r n =
-    rw (r .range, r .once, r .fit, r .carries, eqb-other (length out) (payloadLen (d .codec .alphabet) (d .codec .messageLen)) n, both-false (eqb (length w) (d .codec .wordLen)))
+    rw (
+      r .range,
+      r .once,
+      r .fit,
+      r .carries,
+      eqb-other (length out) (payloadLen (d .codec .alphabet) (d .codec .messageLen)) n,
+      both-false
+          (eqb (length w) (d .codec .wordLen)),
+    )
 
-pub not-open : (es : List Entry) (out payload : List ℕ) (a : ℕ) → a ≡ needsOpen (jobStatus es payload) → a ≢ served → jobOfPayload es out payload ≡ withhold out a
+pub not-open : (es : List Entry) (out payload : List ℕ) (a : ℕ) → a ≡ needsOpen (jobStatus es payload) → a ≢ served
+    → jobOfPayload es out payload ≡ withhold out a
 not-open es out payload a n d = rw (← n, eqb-other a served d)
 
 pub handed : (es : List Entry) (out payload : List ℕ) → needsOpen (jobStatus es payload) ≡ served → jobOfPayload es out payload ≡ handOut payload

@@ -22,7 +22,8 @@ use Rattle.construction_a.proofs.Figures.{ranged}
 use Rattle.construction_a.proofs.DemandTwo.{demand-two}
 use Rattle.construction_b.specs.Figures.{LongParams, isPlacement as isPlacementB}
 use Rattle.construction_b.specs.Outcomes.{coding as codingB}
-use Rattle.construction_b.specs.DemandTwo.{Listed as ListedB, no-pattern as no-pattern-b, erased-index as erased-index-b, too-large as too-large-b, before-word, erased-message as erased-message-b}
+use Rattle.construction_b.specs.DemandTwo.{Listed as ListedB, no-pattern as no-pattern-b, erased-index as erased-index-b, too-large as too-large-b}
+use Rattle.construction_b.specs.DemandTwo.{before-word, erased-message as erased-message-b}
 use Rattle.construction_b.proofs.Figures.{ranged as ranged-b}
 use Rattle.construction_b.proofs.DemandTwo.{demand-two as demand-two-b}
 use Rattle.params.specs.Bridge.{given, givenLong, codingOf}
@@ -39,7 +40,8 @@ use Rattle.ledger.proofs.Striking.{left-decides}
 use Rattle.payloads.specs.Payload.{carriesJob, jobNumber, messageOf, payloadIn, spellsPayload}
 use Rattle.jobcodec.specs.JobWrite.{whereOpen, unless}
 use Rattle.jobcodec.specs.JobRead.{JobRead, handOut, withhold, jobIn, jobReading, jobReadUnder, jobReadOut}
-use Rattle.jobcodec.specs.DemandThree.{Gives, OnlyPair, BothFacts, isRefusal, isWordRefusal, isCallRefusal, HandsOut, Presented, Claim, ClaimA, DemandThreeUnder, DemandThree, DemandThreeB}
+use Rattle.jobcodec.specs.DemandThree.{Gives, OnlyPair, BothFacts, isRefusal, isWordRefusal, isCallRefusal, HandsOut, Presented, Claim, ClaimA}
+use Rattle.jobcodec.specs.DemandThree.{DemandThreeUnder, DemandThree, DemandThreeB}
 use Rattle.jobcodec.proofs.Examples.{figures, wordWith, buffer, opened, computed}
 use Rattle.payloads.proofs.Payload.{payload-back, payload-passes, payload-is, message-is}
 
@@ -132,12 +134,14 @@ module _ (c : Codec) (h : List Call) (w out : List ℕ) where
           after-holding = λ starts′ y′ u e. by-last (some holding) (same-last starts′ y′ (some holding) (u .gives) e);
           none-accepted = λ starts′ y′ u e. by-last none (same-last starts′ y′ none (u .gives) e);
           by-left = λ starts′ y′ u.
-              is ∙ ap (λ (z : List ℕ). unless (answerAfter (lastLeft h (jobNumber z))) (withhold out) (handOut z)) (sym (only .no-other starts′ y′ (u .gives) .1));
+              is ∙ ap (λ (z : List ℕ). unless (answerAfter (lastLeft h (jobNumber z))) (withhold out) (handOut z))
+              (sym (only .no-other starts′ y′ (u .gives) .1));
         }
 
 -- ---- The job reading, under any exact codec whose refusals are document 01's
 
-module _ (c : Codec) (exact : Exact c) (two : 2 ≤ c .alphabet) (listed : (w : List ℕ) (a : ℕ) → c .decode w ≡ refused a → (isRefusal a ≡ true) × (isWordRefusal a ≡ true))
+module _ (c : Codec) (exact : Exact c) (two : 2 ≤ c .alphabet) (listed : (w : List ℕ) (a : ℕ) → c .decode w ≡ refused a
+    → (isRefusal a ≡ true) × (isWordRefusal a ≡ true))
     (es : List Entry) (h : List Call) (g : Agrees es h) (w out : List ℕ) (found : Word c w) where
   -- "12 and 14 go by what is left"
   goes-by : (n : ℕ) → needsOpen (status h n) ≡ answerAfter (lastLeft h n)
@@ -206,7 +210,16 @@ turn-away d es w out once unpresented =
     (λ v. by-bool (eqb (length w) (c .wordLen))
     (λ n. by-bool (eqb (length out) K)
     (λ l. by-bool (allBelow (c .foundBound) w)
-    (λ s. absurd (unpresented (record { range = i; fit = g; carries = v; found = record { complete = eqb-true (length w) (c .wordLen) n; symbols = s }; lent = eqb-true (length out) K l })))
+    (λ s. absurd
+    (unpresented
+    (record {
+      range = i;
+      fit = g;
+      carries = v;
+      found = record { complete = eqb-true (length w) (c .wordLen) n; symbols = s };
+      lent =
+          eqb-true (length out) K l;
+    })))
     (λ s. (badSymbol, refl, rw (i, once, g, v, n, l, s))))
     (λ l. (wrongLength, refl, rw (i, once, g, v, n, l))))
     (λ n. (wrongLength, refl, rw (i, once, g, v, n))))
@@ -224,7 +237,8 @@ follows-under d reads before calls answers es w out follows =
       reading = λ p.
           let s = reads (p .range) (p .fit) in
           rw (follows .judged, accepted-by before calls, p .range, p .fit, follows .agrees .once)
-          (reading-hands-out (d .codec) (s .exactly) (s .two) (s .listed) es (ledgerFrom before calls) (follows .agrees) w out (p .found) (p .carries) (p .lent));
+          (reading-hands-out (d .codec) (s .exactly) (s .two) (s .listed) es (ledgerFrom before calls) (follows .agrees) w out (p .found) (p .carries)
+          (p .lent));
       turned-away = turn-away d es w out (follows .agrees .once);
     }
 

@@ -19,7 +19,8 @@ use Rattle.cells.specs.Plan.{cellOf}
 use Rattle.cells.specs.Digits.{span, spell, value, places}
 use Rattle.cells.specs.Erasures.{foundBound, hasErasure}
 use Rattle.construction_a.specs.Figures.{Params, params, inRange, parts, blockMin, leastTail, indexTail, fits, messageLen}
-use Rattle.construction_a.specs.Writing.{becomes, withBurst, withBursts, isBurst, next, partCount, partWith, chosen, beside, isChosen, isIndexIn, isIndex, indexBlocks, isFixed, kindAt, plan, word}
+use Rattle.construction_a.specs.Writing.{becomes, withBurst, withBursts, isBurst, next, partCount, partWith, chosen, beside, isChosen, isIndexIn, isIndex}
+use Rattle.construction_a.specs.Writing.{indexBlocks, isFixed, kindAt, plan, word}
 use Rattle.construction_a.specs.Reading.{looksFixed, later, bareParts, openBlocks, indexInPart, collect, indexFound, heads, written, agrees, readRank, read}
 use Rattle.construction_a.specs.Outcomes.{Held, held, Encoded, coding}
 use Rattle.construction_a.specs.DemandTwo.{constructionA}
@@ -191,7 +192,12 @@ pub record Computed : Type 0 where
   pub handed : jobReadOut figures (after opened) (wordWith 255) buffer .answer ≡ served
 
 pub computed : Computed
-unfolding all any sameList sum has first members tabulate top choose rankFrom unrankDown unrank apart inBurst placements reduceFrom expandFrom rankOf startsOf byteWidth payloadLen pieceLen pieceStart blockAt blockHead blockWith weave pick span spell value places inRange parts blockMin leastTail indexTail fits messageLen becomes withBurst withBursts isBurst next partCount partWith chosen beside isChosen isIndexIn isIndex indexBlocks isFixed cellOf kindAt plan word looksFixed later bareParts openBlocks indexInPart collect indexFound heads written agrees foundBound hasErasure readRank read comesTrue firstEntry replaceFirst put twice decide tableFrom carriesJob jobNumber messageOf payloadIn spellsPayload jobWriteOut jobReading jobReadOut transfer spelling writeOrder readOrder flatMap
+unfolding all any sameList sum has first members tabulate top choose rankFrom unrankDown unrank apart inBurst placements reduceFrom expandFrom rankOf
+    startsOf byteWidth payloadLen pieceLen pieceStart blockAt blockHead blockWith weave pick span spell value places inRange parts blockMin leastTail
+    indexTail fits messageLen becomes withBurst withBursts isBurst next partCount partWith chosen beside isChosen isIndexIn isIndex indexBlocks isFixed
+    cellOf kindAt plan word looksFixed later bareParts openBlocks indexInPart collect indexFound heads written agrees foundBound hasErasure readRank read
+    comesTrue firstEntry replaceFirst put twice decide tableFrom carriesJob jobNumber messageOf payloadIn spellsPayload jobWriteOut jobReading jobReadOut
+    transfer spelling writeOrder readOrder flatMap
 computed =
     record {
       transfer-holds = refl;

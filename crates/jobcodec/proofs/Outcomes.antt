@@ -50,7 +50,8 @@ module _ {A : Type 0} (d : Coding) (es : List Entry) (refuse : ℕ → A) (rest 
 
 -- where nothing is refused, a job is written as the encoder writes its message
 pub write-encodes : (d : Coding) (es : List Entry) (at : Held) (payload out : List ℕ) → ReadyUnder d es → Small d
-    → at .count ≡ d .bursts → IsPayload (d .codec .alphabet) (d .codec .messageLen) payload → length out ≡ d .codec .wordLen → apart (d .burstLen) (d .codec .wordLen) 0 (inUse at) ≡ true
+    → at .count ≡ d .bursts → IsPayload (d .codec .alphabet) (d .codec .messageLen) payload → length out ≡ d .codec .wordLen
+    → apart (d .burstLen) (d .codec .wordLen) 0 (inUse at) ≡ true
     → isJob (jobNumber payload) ≡ true → jobStatus es payload ≡ opened
     → jobWriteUnder d es at payload out ≡ encodeUnder d at (messageOf (d .codec .alphabet) (d .codec .messageLen) payload) out
 write-encodes d es at payload out r small count p lent placed job is-open =
@@ -65,7 +66,8 @@ write-encodes d es at payload out r small count p lent placed job is-open =
       placed,
       job,
       is-open,
-      eqb-same (length (messageOf (d .codec .alphabet) (d .codec .messageLen) payload)) (d .codec .messageLen) (length-message (d .codec .alphabet) (d .codec .messageLen) payload (p .count)),
+      eqb-same (length (messageOf (d .codec .alphabet) (d .codec .messageLen) payload)) (d .codec .messageLen)
+          (length-message (d .codec .alphabet) (d .codec .messageLen) payload (p .count)),
       message-symbols (d .codec .alphabet) (d .codec .messageLen) (small .alphabet-least) payload (p .bytes),
     )
 
@@ -81,7 +83,8 @@ module _ {A : Type 0} (refuse : ℕ → A) (go : List ℕ → A) where
       (yes : (ss ds : List ℕ) → made (accepted ss ds) ≡ must (spellsPayload (d .codec .alphabet) (d .codec .messageLen) ds) (refuse badPayload) (go ds)) where
     -- "3 4", the word's own refusals, 10, and on
     abbrev pub wordFirst : A
-    wordFirst = must (eqb (length w) (d .codec .wordLen)) (refuse wrongLength) (must (allBelow (d .codec .foundBound) w) (refuse badSymbol) (made (d .codec .decode w)))
+    wordFirst = must (eqb (length w) (d .codec .wordLen)) (refuse wrongLength)
+        (must (allBelow (d .codec .foundBound) w) (refuse badSymbol) (made (d .codec .decode w)))
 
     spelled-alike : (v : ℕ) (ds : List ℕ) (b : Bool) → must b (refuse badPayload) (go ds) ≡ afterSpelled (must b (refusal badPayload) (rankIs v)) ds
     spelled-alike v ds true = refl
@@ -89,7 +92,8 @@ module _ {A : Type 0} (refuse : ℕ → A) (go : List ℕ → A) where
 
     alike : (ms : List ℕ) (long symbols : Bool) (x : Reading)
         → let decoded = must (long && true) (unread ms wrongLength) (must symbols (unread ms badSymbol) (decodedFrom (d .burstLen) ms x)) in
-        must long (refuse wrongLength) (must symbols (refuse badSymbol) (made x)) ≡ afterSpelled (spelledAnswer (d .codec .alphabet) (d .codec .messageLen) decoded) (decoded .message)
+        must long (refuse wrongLength) (must symbols (refuse badSymbol) (made x)) ≡ afterSpelled
+        (spelledAnswer (d .codec .alphabet) (d .codec .messageLen) decoded) (decoded .message)
     alike ms false b x = refl
     alike ms true false x = refl
     alike ms true true (accepted ss ds) = yes ss ds ∙ spelled-alike (rankOf (d .burstLen) ss) ds (spellsPayload (d .codec .alphabet) (d .codec .messageLen) ds)
@@ -143,7 +147,8 @@ spelled-accepted q k ms v (rankIs u) e = go (spellsPayload q k ms) (ap accepts e
     go false e = sym e
 
 -- so it can be handed out into the lent payload
-pub holding : (l : Layout) (es : List Entry) (w ms ms′ out : List ℕ) → ReadableJob l es ms out → length ms′ ≡ length ms → ms′ ≡ decodeUnder (codingIn l) w ms .message
+pub holding : (l : Layout) (es : List Entry) (w ms ms′ out : List ℕ) → ReadableJob l es ms out → length ms′ ≡ length ms
+    → ms′ ≡ decodeUnder (codingIn l) w ms .message
     → (v : ℕ) → rankIs v ≡ spelledAnswer (l .q) (length ms) (decodeUnder (codingIn l) w ms) → SpellsJob (l .q) ms′ out
 holding l es w ms ms′ out h same lent v e =
     let d = codingIn l in

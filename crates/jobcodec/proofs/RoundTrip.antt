@@ -70,12 +70,14 @@ module _ (d : Coding) (es : List Entry) (at : Held) (payload out : List ℕ) whe
       let last = whereOpen (jobStatus es payload) (unwritten out) answered in
       let job = must (isJob (jobNumber payload)) (unwritten out numberZero) last in
       let starts = must (apart (d .burstLen) (c .wordLen) 0 (inUse at)) (unwritten out badStarts) job in
-      let lengths = must (eqb (at .count) (d .bursts) && eqb (length payload) (payloadLen q k) && eqb (length out) (c .wordLen)) (unwritten out wrongLength) starts in
+      let lengths = must (eqb (at .count) (d .bursts) && eqb (length payload) (payloadLen q k) && eqb (length out) (c .wordLen))
+      (unwritten out wrongLength) starts in
       let five = must (carriesJob q k) (unwritten out badPayload) lengths in
       let p₁ = passed (d .inRange && not (twice es)) out invalid (must (d .fits) (unwritten out unfit) five) refl e in
       let p₂ = passed (d .fits) out unfit five refl (p₁ .1) in
       let p₃ = passed (carriesJob q k) out badPayload lengths refl (p₂ .1) in
-      let p₄ = passed (eqb (at .count) (d .bursts) && eqb (length payload) (payloadLen q k) && eqb (length out) (c .wordLen)) out wrongLength starts refl (p₃ .1) in
+      let p₄ = passed (eqb (at .count) (d .bursts) && eqb (length payload) (payloadLen q k) && eqb (length out) (c .wordLen)) out wrongLength starts refl
+      (p₃ .1) in
       let p₅ = passed (apart (d .burstLen) (c .wordLen) 0 (inUse at)) out badStarts job refl (p₄ .1) in
       let p₆ = passed (isJob (jobNumber payload)) out numberZero last refl (p₅ .1) in
       let valid = both (d .inRange) (not (twice es)) (p₁ .0) in

@@ -9,7 +9,8 @@ use mathlib.Core.Option.{none, some}
 use Prim.Native.Nat.{ℕ}
 use lib.Dec.{eqb}
 use lib.ListN.{length}
-use Rattle.refusals.specs.Refusals.{served, invalid, unfit, wrongLength, badSymbol, noPattern, valueTooLarge, disagrees, erased, badPayload, jobCancelled, notOpen, jobHeld, refusals}
+use Rattle.refusals.specs.Refusals.{served, invalid, unfit, wrongLength, badSymbol, noPattern, valueTooLarge, disagrees, erased, badPayload, jobCancelled}
+use Rattle.refusals.specs.Refusals.{notOpen, jobHeld, refusals}
 use Rattle.combinatorics.specs.Lists.{any}
 use Rattle.cells.specs.Bytes.{payloadLen}
 use Rattle.cells.specs.Codec.{Codec, Word, LeadsTo}

@@ -160,7 +160,8 @@ module _ (new : Entry) where
         count = omega (arith, i .count);
       }
 
-  pub stored : (t : Entry → Bool) (es : List Entry) → any t es ≡ true → twice es ≡ false → Fresh es (firstEntry t es) new → Stored es (replaceFirst t new es) (firstEntry t es) new
+  pub stored : (t : Entry → Bool) (es : List Entry) → any t es ≡ true → twice es ≡ false → Fresh es (firstEntry t es) new
+      → Stored es (replaceFirst t new es) (firstEntry t es) new
   unfolding any firstEntry replaceFirst
   stored t [] a o fresh = absurd (false≢true a)
   stored t (e ∷ es) a o fresh =

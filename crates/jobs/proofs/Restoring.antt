@@ -13,7 +13,8 @@ use Rattle.jobs.specs.declared.Entry.the-variants.{Free, Open, OnHold, C
 use Rattle.jobs.specs.declared.Before.{Before}
 use Rattle.jobs.specs.declared.Before.the-variants.{WasAbsent, WasOpen, WasOnHold}
 use Rattle.jobs.specs.Jobs.{isJob}
-use Rattle.jobs.specs.Table.{isFree, holds, firstEntry, lookup, replaceFirst, accept, put, twice, decide, restored, cancelAt, holdAt, reinstateOut, releaseOut, Restores, TurnsBack}
+use Rattle.jobs.specs.Table.{isFree, holds, firstEntry, lookup, replaceFirst, accept, put, twice, decide, restored, cancelAt, holdAt, reinstateOut}
+use Rattle.jobs.specs.Table.{releaseOut, Restores, TurnsBack}
 use Rattle.jobs.proofs.Entries.{free-is, any-holds, entry-passes, holds-only, free-entry, free-here, free-there, Stored, stored}
 
 -- ---- Two stores at one place

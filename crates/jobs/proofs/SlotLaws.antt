@@ -93,7 +93,8 @@ module _ (t : JobTable) (long : length (t .slots) ≡ slotCount) (i : ℕ) where
 abbrev stored : JobTable → ℕ → Entry → JobTable
 stored t i x = record { slots = set (t .slots) i (record { entry = x }) }
 
-pub stored-entries : (ss : List Slot) (i : ℕ) (x : Entry) → map (λ (s : Slot). s .entry) (set ss i (record { entry = x })) ≡ set (map (λ (s : Slot). s .entry) ss) i x
+pub stored-entries : (ss : List Slot) (i : ℕ) (x : Entry) → map (λ (s : Slot). s .entry) (set ss i (record { entry = x })) ≡ set
+    (map (λ (s : Slot). s .entry) ss) i x
 stored-entries [] i x = refl
 stored-entries (s ∷ ss) zero x = refl
 stored-entries (s ∷ ss) (suc i) x = ap {B = List Entry} (λ r. s .entry ∷ r) (stored-entries ss i x)

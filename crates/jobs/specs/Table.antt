@@ -12,7 +12,8 @@ use Rattle.jobs.specs.declared.Entry.{Entry}
 use Rattle.jobs.specs.declared.Entry.the-variants.{Free, Open, OnHold, Cancelled}
 use Rattle.jobs.specs.declared.Before.{Before}
 use Rattle.jobs.specs.declared.Before.the-variants.{WasAbsent, WasOpen, WasOnHold}
-use Rattle.jobs.specs.Jobs.{slotCount, Kind, opening, cancelling, finishing, reinstating, holding, releasing, isJob, Status, unknown, opened, onHold, cancelled, isHeld, needsOpen}
+use Rattle.jobs.specs.Jobs.{slotCount, Kind, opening, cancelling, finishing, reinstating, holding, releasing, isJob, Status, unknown, opened, onHold}
+use Rattle.jobs.specs.Jobs.{cancelled, isHeld, needsOpen}
 
 -- document 02, ticket 7: "what it was for that number before its cancellation: open, or absent if it was unknown"; ticket 10: "and reinstating gives back
 -- held"

@@ -22,7 +22,8 @@ unfolding transposedTable
 length-transposed rows columns xs = length-tabulate (rows * columns) 0 (λ t. getD xs (source rows columns t) 0)
 
 -- what stood in row j, column i
-pub cell-at : (rows columns i j : ℕ) (xs : List ℕ) → i < columns → j < rows → getD (transposedTable rows columns xs) (i * rows + j) 0 ≡ getD xs (j * columns + i) 0
+pub cell-at : (rows columns i j : ℕ) (xs : List ℕ) → i < columns → j < rows
+    → getD (transposedTable rows columns xs) (i * rows + j) 0 ≡ getD xs (j * columns + i) 0
 unfolding transposedTable
 cell-at rows columns i j xs hi hj =
     let t = i * rows + j in
@@ -55,7 +56,8 @@ transposed-twice rows columns xs e =
         ∙ ap (λ (y : ℕ). getD xs y 0) d
 
 -- symbols below q stay so
-pub transposed-below : (q rows columns : ℕ) (xs : List ℕ) → length xs ≡ rows * columns → allBelow q xs ≡ true → allBelow q (transposedTable rows columns xs) ≡ true
+pub transposed-below : (q rows columns : ℕ) (xs : List ℕ) → length xs ≡ rows * columns → allBelow q xs ≡ true
+    → allBelow q (transposedTable rows columns xs) ≡ true
 unfolding transposedTable
 transposed-below q rows columns xs e h =
     let at : ℕ → ℕ = λ t. getD xs (source rows columns t) 0 in

@@ -33,8 +33,10 @@ use Rattle.construction_b.proofs.DemandTwo.{demand-two as demand-two-b}
 use Rattle.params.specs.declared.Figures.the-variants.{Ranked, Long}
 use Rattle.params.specs.Bridge.{given, givenLong}
 use Rattle.lanes.specs.Interleaving.{interleaved, deinterleaved, lane}
-use Rattle.lanes.specs.Lanes.{Wear, wearHas, isWorn, isShort, Worn, stripMap, wordMap, HasBursts, coverOf, Messages, coverAt, writtenWords, FoundStrip, LanesHold, LawOfLanes, LanesReadUnder, LanesRead}
-use Rattle.lanes.proofs.Interleaving.{length-transposed, transposed-below, lane-at, length-lane, lane-below, words-at, length-words, words-below, strip-cell, word-cell}
+use Rattle.lanes.specs.Lanes.{Wear, wearHas, isWorn, isShort, Worn, stripMap, wordMap, HasBursts, coverOf, Messages, coverAt, writtenWords}
+use Rattle.lanes.specs.Lanes.{FoundStrip, LanesHold, LawOfLanes, LanesReadUnder, LanesRead}
+use Rattle.lanes.proofs.Interleaving.{length-transposed, transposed-below, lane-at, length-lane, lane-below, words-at, length-words, words-below}
+use Rattle.lanes.proofs.Interleaving.{strip-cell, word-cell}
 use Rattle.lanes.proofs.Outcomes.{Passes, passes}
 
 -- ---- Maps
@@ -158,7 +160,8 @@ module _ (d n : ℕ) (ss : List Wear) where
 
   pub map-bits : (j : ℕ) → allBelow 2 (wordMap d n ss j) ≡ true
   unfolding wordMap
-  map-bits j = lane-below 2 n j (deinterleaved d n (stripMap d n ss)) (transposed-below 2 n d (stripMap d n ss) (length-strip-map ∙ mul-comm d n) strip-map-bits)
+  map-bits j = lane-below 2 n j (deinterleaved d n (stripMap d n ss))
+      (transposed-below 2 n d (stripMap d n ss) (length-strip-map ∙ mul-comm d n) strip-map-bits)
 
 module _ (k : Coding) (range : k .inRange ≡ true) (fit : k .fits ≡ true)
     (counts : k .placementCount ≡ placements (k .codec .wordLen) (k .bursts) (k .burstLen)) (bursts : HasBursts (k .codec) (k .bursts) (k .burstLen))

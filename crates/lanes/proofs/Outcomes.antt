@@ -39,7 +39,15 @@ pub record Passes (k : Coding) (d bound : ℕ) (from out : List ℕ) : Type 0 wh
 pub passes : (k : Coding) (d bound : ℕ) (from out filled : List ℕ) → Passes k d bound from out
     → rearranged k d bound from out filled ≡ record { answer = served; buffer = filled }
 passes k d bound from out filled p =
-    rw (p .range, p .fit, p .depth, eqb-same (length from) (d * k .codec .wordLen) (p .lent), eqb-same (length out) (d * k .codec .wordLen) (p .room), p .symbols)
+    rw (
+      p .range,
+      p .fit,
+      p .depth,
+      eqb-same (length from) (d * k .codec .wordLen) (p .lent),
+      eqb-same (length out) (d * k .codec .wordLen)
+          (p .room),
+      p .symbols,
+    )
 
 refused : {P : Type 0} (r : Rearranged) (a : ℕ) (out : List ℕ) → r ≡ record { answer = suc a; buffer = out } → r .answer ≡ served → P
 refused r a out e h = absurd (let z : _≡_ {A = ℕ} (suc a) 0 = sym (ap (λ (x : Rearranged). x .answer) e) ∙ h in omega arith)
@@ -53,7 +61,15 @@ passed k d bound from out filled h =
     (λ t. by-bool (eqb (length from) (d * k .codec .wordLen))
     (λ l. by-bool (eqb (length out) (d * k .codec .wordLen))
     (λ m. by-bool (allBelow bound from)
-    (λ s. record { range = i; fit = j; depth = t; lent = eqb-true (length from) (d * k .codec .wordLen) l; room = eqb-true (length out) (d * k .codec .wordLen) m; symbols = s })
+    (λ s. record {
+      range = i;
+      fit = j;
+      depth = t;
+      lent = eqb-true (length from) (d * k .codec .wordLen) l;
+      room =
+          eqb-true (length out) (d * k .codec .wordLen) m;
+      symbols = s;
+    })
     (λ s. refused r 3 out (rw (i, j, t, l, m, s)) h))
     (λ m. refused r 2 out (rw (i, j, t, l, m)) h))
     (λ l. refused r 2 out (rw (i, j, t, l)) h))

@@ -67,15 +67,22 @@ module _ (f : Params) (ok : Served f) (ss : List ℕ) (h : Placed (f .b) (f .n) 
     borne i l t =
         let each = same-flat (subSymbols f w) (λ _. rankDigits f ss) (bearers f ss) (λ j. length-symbols f w j ∙ sym (length-rank f ss)) digits-read in
         is-value (rank f ss) (subValue f w i)
-        (value-found f w i (rank f ss) rank-spelled (each-member (λ j. subSymbols f w j ≡ rankDigits f ss) (subBlocks f) 0 (bears f ss) each i (omega arith) (omega arith) t))
+        (value-found f w i (rank f ss) rank-spelled (each-member (λ j. subSymbols f w j ≡ rankDigits f ss) (subBlocks f) 0 (bears f ss) each i (omega arith)
+        (omega arith) t))
 
     -- so that the rank is found
     found-rank : found f w ≡ some (rank f ss)
     unfolding found common
     found-rank =
         let enough : suc (f .m) ≤ count (subBlocks f) 0 (λ i. isValue (rank f ss) (subValue f w i)) =
-        omega (arith, bearer-count f ok ss e, count-mono (subBlocks f) 0 (bears f ss) (λ i. isValue (rank f ss) (subValue f w i)) (λ i _ l. borne i (omega arith))) in
-        majority-is (subBlocks f) (suc (f .m)) (subValue f w) (omega arith) (omega arith) (rank f ss) (leb-holds (suc (f .m)) (count (subBlocks f) 0 (λ i. isValue (rank f ss) (subValue f w i))) enough)
+        omega (
+          arith,
+          bearer-count f ok ss e,
+          count-mono (subBlocks f) 0 (bears f ss) (λ i. isValue (rank f ss) (subValue f w i))
+              (λ i _ l. borne i (omega arith)),
+        ) in
+        majority-is (subBlocks f) (suc (f .m)) (subValue f w) (omega arith) (omega arith) (rank f ss)
+        (leb-holds (suc (f .m)) (count (subBlocks f) 0 (λ i. isValue (rank f ss) (subValue f w i))) enough)
 
     agreed : agrees f w (rank f ss) ss ≡ true
     unfolding agrees

@@ -59,7 +59,8 @@ writes f ok ss ms e l m =
     let some : 0 < f .q = omega (arith, ok .range .q-least) in
     let one : allBelow (f .q) (rankDigits f ss) ≡ true =
     spelled-plain (f .q) (subLen f) (rankDigits f ss) (spell-spelled (f .q) (rankPlaces f) (rank f ss) (rank-spelled f ok ss (p .0) (p .1))) in
-    let ds : allBelow (f .q) (digits f ss) ≡ true = all-flat (λ x. ltb x (f .q)) (λ _. true) (λ _. rankDigits f ss) (λ _ _. one) (bearers f ss) (all-true (bearers f ss)) in (
+    let ds : allBelow (f .q) (digits f ss) ≡ true = all-flat (λ x. ltb x (f .q)) (λ _. true) (λ _. rankDigits f ss) (λ _ _. one) (bearers f ss)
+    (all-true (bearers f ss)) in (
       length-woven (plan f ss) (digits f ss) ms ∙ length-tabulate (f .n) 0 (kindAt f ss),
       woven-below (f .q) (plan f ss) (digits f ss) ms some (below-at (f .q) (digits f ss) some ds) (below-at (f .q) ms some m),
     )
@@ -100,7 +101,8 @@ module _ (f : Params) (w : List ℕ) where
       go (some v) o =
           let ms = pick message (plan f (placementOf f v)) w in
           by-le (suc v) (placementCount f)
-          (λ t. must t (refused valueTooLarge) (must (agrees f w v (placementOf f v)) (refused disagrees) (must (not (hasErasure (f .q) ms)) (refused erased) (accepted (placementOf f v) ms)))
+          (λ t. must t (refused valueTooLarge) (must (agrees f w v (placementOf f v)) (refused disagrees)
+          (must (not (hasErasure (f .q) ms)) (refused erased) (accepted (placementOf f v) ms)))
           ≡ refused a → Listed f w a)
           (λ l. in-full v (agrees f w v (placementOf f v)) (hasErasure (f .q) ms) o l refl refl)
           (λ l e. subst (Listed f w) (same-number valueTooLarge a e) (too-large v (is-found v o) (omega arith)))

@@ -20,5 +20,7 @@ use Rattle.larsson.specs.Outcomes.{figuresOut}
 use Rattle.larsson.specs.Examples.{examples, ExamplesHold}
 
 pub examples-hold : ExamplesHold
-unfolding all any sameList sum firsts has first members tabulate top common majority choose rankFrom unrankDown unrank apart inBurst placements reduceFrom expandFrom rankOf startsOf pieceLen pieceStart weave pick span spell value inRange subLen gapTotal gapLen subStart fits messageLen untouched bears bearers inSub isBorne kindAt plan rankDigits digits word hasErasure subSymbols subValue found agrees readValue read figuresOut comesTrue examples flatMap
+unfolding all any sameList sum firsts has first members tabulate top common majority choose rankFrom unrankDown unrank apart inBurst placements reduceFrom
+    expandFrom rankOf startsOf pieceLen pieceStart weave pick span spell value inRange subLen gapTotal gapLen subStart fits messageLen untouched bears
+    bearers inSub isBorne kindAt plan rankDigits digits word hasErasure subSymbols subValue found agrees readValue read figuresOut comesTrue examples flatMap
 examples-hold = refl

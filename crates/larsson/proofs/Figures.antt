@@ -47,7 +47,13 @@ serve f i h =
 pub fitting : (f : Params) → f .m * f .b ≤ f .n → placementCount f ≤ maxCount → subBlocks f * subLen f ≤ f .n → f .b ≤ gapLen f 0 + 1 → fits f ≡ true
 unfolding fits
 fitting f total counted room short =
-    rw (leb-holds (f .m * f .b) (f .n) total, leb-holds (placementCount f) maxCount counted, leb-holds (subBlocks f * subLen f) (f .n) room, leb-holds (f .b) (gapLen f 0 + 1) short)
+    rw (
+      leb-holds (f .m * f .b) (f .n) total,
+      leb-holds (placementCount f) maxCount counted,
+      leb-holds (subBlocks f * subLen f) (f .n) room,
+      leb-holds
+          (f .b) (gapLen f 0 + 1) short,
+    )
 
 pub unfitting : (f : Params) → inRange f ≡ true → ¬ Served f → fits f ≡ false
 unfitting f i h = by-bool (fits f) (λ t. absurd (h (serve f i t))) (λ e. e)
@@ -78,7 +84,8 @@ pub rank-least : (f : Params) (r : ℕ) → placementCount f ≤ f .q ^ r → su
 unfolding subLen
 rank-least f r h =
     by-le (subLen f) r (λ _. subLen f ≤ r) (λ l. l)
-    (λ l. absurd (true≢false (sym (leb-holds (placementCount f) (f .q ^ r) h) ∙ first-false (f .n) 0 r (λ r. leb (placementCount f) (f .q ^ r)) (omega arith) l)))
+    (λ l. absurd (true≢false (sym (leb-holds (placementCount f) (f .q ^ r) h)
+    ∙ first-false (f .n) 0 r (λ r. leb (placementCount f) (f .q ^ r)) (omega arith) l)))
 
 -- the same by the places of the digits
 pub span-room : (f : Params) → Served f → placementCount f ≤ span (f .q) (rankPlaces f)

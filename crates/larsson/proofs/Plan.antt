@@ -12,7 +12,8 @@ use Rattle.combinatorics.specs.Stretch.{count, firsts, has, members, tabulate}
 use Rattle.combinatorics.proofs.Bursts.{Placed, burst-count}
 use Rattle.combinatorics.proofs.Cases.{by-le, by-eq, by-bool, leb-holds, leb-fails}
 use Rattle.combinatorics.proofs.Lists.{both}
-use Rattle.combinatorics.proofs.Stretch.{same, has-none, has-some, has-at, has-or, count-none, count-ext, count-or, count-one, count-not, count-firsts, members-none, members-append, members-blocks, members-firsts, length-members, length-tabulate, length-flat}
+use Rattle.combinatorics.proofs.Stretch.{same, has-none, has-some, has-at, has-or, count-none, count-ext, count-or, count-one, count-not, count-firsts}
+use Rattle.combinatorics.proofs.Stretch.{members-none, members-append, members-blocks, members-firsts, length-members, length-tabulate, length-flat}
 use Rattle.cells.specs.Cells.{burst, fixed, digit, message, is}
 use Rattle.cells.proofs.Cells.{kinds}
 use Rattle.construction_a.specs.Figures.{Params}

@@ -57,7 +57,8 @@ module _ (f : Params) (ok : Served f) (w : List ℕ) (small : (x : ℕ) → getD
       let s = rank-of-starts (f .n) (f .m) (f .b) (ok .range .b-least) (ok .total) v l in
       let each = member-each (λ i. subSymbols f w i ≡ rankDigits f ss) (subBlocks f) 0 (bears f ss)
       (λ i _ k t. found-value f w small i v (held v ss a i (omega arith) t) ∙ ap (spell (f .q) (rankPlaces f)) (sym (s .rank))) in
-      let picked : digits f ss ≡ pick digit (plan f ss) w = sym (flat-same (subSymbols f w) (λ _. rankDigits f ss) (bearers f ss) each) ∙ digits-are f w ok ss in
+      let picked : digits f ss ≡ pick digit (plan f ss) w = sym (flat-same (subSymbols f w) (λ _. rankDigits f ss) (bearers f ss) each)
+      ∙ digits-are f w ok ss in
       let clean : Clean (plan f ss) w = at-clean n 0 (kindAt f ss) w (λ x _ _ c. absurd (true≢false (sym c ∙ kind-fixed f ss x))) in
       record {
         placed = s .placed;
@@ -65,7 +66,8 @@ module _ (f : Params) (ok : Served f) (w : List ℕ) (small : (x : ℕ) → getD
         message = omega (arith, length-pick message n (kindAt f ss) w, messages-count f ok ss (s .placed) (s .count));
         symbols = whole-below (f .q) (pick message (plan f ss) w) (pick-below message n (kindAt f ss) w (foundBound (f .q)) small) heard;
         outside = λ x lx out.
-            rw picked (agree-at n 0 x (kindAt f ss) w (weave (plan f ss) (pick digit (plan f ss) w) (pick message (plan f ss) w)) (clean-agrees (plan f ss) w clean)
+            rw picked (agree-at n 0 x (kindAt f ss) w (weave (plan f ss) (pick digit (plan f ss) w) (pick message (plan f ss) w))
+            (clean-agrees (plan f ss) w clean)
             (omega arith) (omega arith) (kind-burst f ss x ∙ out));
       }
 
@@ -73,7 +75,8 @@ module _ (f : Params) (ok : Served f) (w : List ℕ) (small : (x : ℕ) → getD
   unfolding read readValue
   sound ss ms = go (found f w)
     where
-      in-full : (v : ℕ) (a b : Bool) → v < placementCount f → agrees f w v (placementOf f v) ≡ a → hasErasure (f .q) (pick message (plan f (placementOf f v)) w) ≡ b
+      in-full : (v : ℕ) (a b : Bool) → v < placementCount f → agrees f w v (placementOf f v) ≡ a
+          → hasErasure (f .q) (pick message (plan f (placementOf f v)) w) ≡ b
           → must a (refused disagrees) (must (not b) (refused erased) (accepted (placementOf f v) (pick message (plan f (placementOf f v)) w))) ≡ accepted ss ms
           → Accepted f w ss ms
       in-full v false b l c d e = not-accepted e
@@ -88,6 +91,7 @@ module _ (f : Params) (ok : Served f) (w : List ℕ) (small : (x : ℕ) → getD
       go (some v) =
           let ms′ = pick message (plan f (placementOf f v)) w in
           by-le (suc v) (placementCount f)
-          (λ t. must t (refused valueTooLarge) (must (agrees f w v (placementOf f v)) (refused disagrees) (must (not (hasErasure (f .q) ms′)) (refused erased) (accepted (placementOf f v) ms′)))
+          (λ t. must t (refused valueTooLarge) (must (agrees f w v (placementOf f v)) (refused disagrees)
+          (must (not (hasErasure (f .q) ms′)) (refused erased) (accepted (placementOf f v) ms′)))
           ≡ accepted ss ms → Accepted f w ss ms)
           (λ l. in-full v (agrees f w v (placementOf f v)) (hasErasure (f .q) ms′) l refl refl) (λ _ e. not-accepted e)

@@ -70,7 +70,8 @@ module _ (l : LarssonLayout) (g : LarssonLayoutFits l) where
     bearing h = record { layout = g; count = ap (λ (h : Held). h .count) is ∙ ranked-as .count; some = h }
 
     -- all that is known of it where its bearers agree
-    pub located : (w kinds : List ℕ) → BearersOf (larssonFiguresOf l) (startsIn p) kinds → read (larssonFiguresOf l) w ≡ readLarssonMessage (larssonFiguresOf l) w (placementOf (larssonFiguresOf l) v)
+    pub located : (w kinds : List ℕ) → BearersOf (larssonFiguresOf l) (startsIn p) kinds
+        → read (larssonFiguresOf l) w ≡ readLarssonMessage (larssonFiguresOf l) w (placementOf (larssonFiguresOf l) v)
         → LocatedAt (larssonFiguresOf l) w v p kinds
     located w kinds b e =
         let f = larssonFiguresOf l in

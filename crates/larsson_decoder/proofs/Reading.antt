@@ -51,8 +51,10 @@ module _ (l : LarssonLayout) (w : List ℕ) (g : FoundWord l w) (v : ℕ) (at : 
   whole-is =
       let f = larssonFiguresOf l in
       let ss = startsIn at in
-      message-covered (larsson f) (Listed f) (larsson-exact f (g .layout .range) (g .layout .fit)) (omega (arith, bound l (g .layout) .q-least)) (l .b) (kindAt f ss) w ss
-      (record { complete = g .complete; symbols = g .symbols }) (kind-burst f ss) (λ x. refl) (λ e. h .read-as ∙ rw (below-whole (l .q) (pick message (plan f ss) w) e))
+      message-covered (larsson f) (Listed f) (larsson-exact f (g .layout .range) (g .layout .fit)) (omega (arith, bound l (g .layout) .q-least)) (l .b)
+      (kindAt f ss) w ss
+      (record { complete = g .complete; symbols = g .symbols }) (kind-burst f ss) (λ x. refl)
+      (λ e. h .read-as ∙ rw (below-whole (l .q) (pick message (plan f ss) w) e))
 
   -- no value above q is left in it
   known : allBelow (foundBound (l .q)) (pick message (plan (larssonFiguresOf l) (startsIn at)) w) ≡ true

@@ -9,5 +9,6 @@ use Rattle.placements.proofs.Calls.{by-cover}
 use Rattle.larsson_params.specs.declared.LarssonLayout.{LarssonLayout}
 use Rattle.larsson_params.specs.Given.{larssonFiguresOf, LarssonLayoutFits}
 
-pub covers-within : (l : LarssonLayout) → LarssonLayoutFits l → (map : List ℕ) → coverWithin (l .n) (l .m) (l .b) map ≡ coverUnder (coding (larssonFiguresOf l)) map
+pub covers-within : (l : LarssonLayout) → LarssonLayoutFits l → (map : List ℕ)
+    → coverWithin (l .n) (l .m) (l .b) map ≡ coverUnder (coding (larssonFiguresOf l)) map
 covers-within l g map = by-cover (l .n) (l .m) (l .b) map ∙ rw (g .range, g .fit)

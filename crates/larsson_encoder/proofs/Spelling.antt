@@ -31,7 +31,8 @@ module _ (l : LarssonLayout) (at : Placement) (ms out : List ℕ) (g : LarssonWr
       let f = larssonFiguresOf l in
       let ok = served l (g .layout) in
       let p = placed-starts f (startsIn at) (g .placed) in
-      rankable {p = at} (l .n) (l .b) (omega (arith, g .count, ok .range .m-most)) (ok .range .n-most) (ok .range .b-least) (of-placed (l .b) (l .n) 0 (startsIn at) (p .0))
+      rankable {p = at} (l .n) (l .b) (omega (arith, g .count, ok .range .m-most)) (ok .range .n-most) (ok .range .b-least)
+      (of-placed (l .b) (l .n) 0 (startsIn at) (p .0))
       (omega (arith, rank-below f ok (startsIn at) (p .0) (p .1), ok .counted))
 
   pub few : l .«sub_len» ≤ 63
@@ -51,7 +52,8 @@ module _ (l : LarssonLayout) (at : Placement) (ms out : List ℕ) (g : LarssonWr
       }
 
   -- the digits that were spelled
-  pub behind-lead : (v : ℕ) (ds : List ℕ) → v ≡ rank (larssonFiguresOf l) (startsIn at) → take (1 * suc (l .«sub_len»)) ds ≡ spell (l .q) (places 1 (l .«sub_len»)) v
+  pub behind-lead : (v : ℕ) (ds : List ℕ) → v ≡ rank (larssonFiguresOf l) (startsIn at)
+      → take (1 * suc (l .«sub_len»)) ds ≡ spell (l .q) (places 1 (l .«sub_len»)) v
       → take (l .«sub_len» + 1) ds ≡ 1 ∷ rankDigits (larssonFiguresOf l) (startsIn at)
   behind-lead v ds e is =
       let f = larssonFiguresOf l in
@@ -65,13 +67,15 @@ module _ (l : LarssonLayout) (at : Placement) (ms out : List ℕ) (g : LarssonWr
   cleared e left is =
       let f = larssonFiguresOf l in
       let p = placed-starts f (startsIn at) (g .placed) in
-      is ∙ ap (λ (n : ℕ). replicate n 0) (g .room) ∙ sym (blank-word f (served l (g .layout)) (sym (g .layout .laid .sub-is) ∙ e) (startsIn at) ms (p .0) (p .1))
+      is ∙ ap (λ (n : ℕ). replicate n 0) (g .room) ∙ sym (blank-word f (served l (g .layout)) (sym (g .layout .laid .sub-is) ∙ e) (startsIn at) ms (p .0)
+      (p .1))
 
 -- ---- A call to write
 
 module _ (l : LarssonLayout) (at : Placement) (g : LarssonLayoutFits l) where
   -- a placement that passed the tests
-  pub placed-by : length (at .starts) ≡ maxBursts → at .count ≡ l .m → apart (l .b) (l .n) 0 (startsIn at) ≡ true → isPlacement (larssonFiguresOf l) (startsIn at) ≡ true
+  pub placed-by : length (at .starts) ≡ maxBursts → at .count ≡ l .m → apart (l .b) (l .n) 0 (startsIn at) ≡ true
+      → isPlacement (larssonFiguresOf l) (startsIn at) ≡ true
   placed-by sized count valid =
       starts-placed (larssonFiguresOf l) (startsIn at) (placed-of (l .b) (l .n) 0 (startsIn at) valid)
       (length-take-le (at .count) (at .starts) (omega (arith, sized, count, bound l g .m-most)) ∙ count)

@@ -14,7 +14,8 @@ use Rattle.larsson_params.specs.Answer.{larssonFiguredAs, LarssonLaidOut
 use Rattle.larsson_params.specs.Given.{larssonFiguresOf, LarssonLayoutFits}
 
 -- a layout that was answered has the figures, and they fit
-pub fit-learnt : (f : Params) (r : LarssonAnswer) (l : LarssonLayout) → r ≡ Fit l → larssonFiguredAs r ≡ figuresUnder (coding f) → LarssonLaidIn f r → (larssonFiguresOf l ≡ f) × LarssonLayoutFits l
+pub fit-learnt : (f : Params) (r : LarssonAnswer) (l : LarssonLayout) → r ≡ Fit l → larssonFiguredAs r ≡ figuresUnder (coding f) → LarssonLaidIn f r
+    → (larssonFiguresOf l ≡ f) × LarssonLayoutFits l
 fit-learnt f r l e answer told =
     let laid : LarssonLaidOut f l = subst (LarssonLaidIn f) e told in
     let same : larssonFiguresOf l ≡ f = rw (laid .n-is, laid .q-is, laid .m-is, laid .b-is) in

@@ -37,5 +37,6 @@ module _ (l : LarssonLayout) (g : LarssonLayoutFits l) where
   sub-most i h = omega (arith, sub-room i h, bound .n-most)
 
   -- and so by the table
-  pub starts-room : (starts : List ℕ) → StartsOf (larssonFiguresOf l) starts → (i : ℕ) → i < subBlocks (larssonFiguresOf l) → getD starts i 0 + l .«sub_len» ≤ l .n
+  pub starts-room : (starts : List ℕ) → StartsOf (larssonFiguresOf l) starts → (i : ℕ) → i < subBlocks (larssonFiguresOf l)
+      → getD starts i 0 + l .«sub_len» ≤ l .n
   starts-room starts h i w = omega (arith, h .0 i w, sub-room i w)

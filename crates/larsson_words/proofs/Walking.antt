@@ -148,5 +148,7 @@ module _ {f : Params} {w : Walk} {at : Placement} {starts kinds : List ℕ} (W :
   unfolding digits
   digits-of =
       let all : indexBefore kinds (subBlocks f) ≡ suc (f .m) =
-      count-ext (subBlocks f) 0 (λ i. eqb (getD kinds i 0) indexKind) (bears f (startsIn at)) (λ k _ l. index k (omega arith)) ∙ bearer-count f ok (startsIn at) count in
-      rw (W .walk-is, all, ← length-rank f (startsIn at)) (dealt-same (suc (f .m)) (rankDigits f (startsIn at)) (bearers f (startsIn at)) (bearers-many f ok (startsIn at) count))
+      count-ext (subBlocks f) 0 (λ i. eqb (getD kinds i 0) indexKind) (bears f (startsIn at)) (λ k _ l. index k (omega arith))
+      ∙ bearer-count f ok (startsIn at) count in
+      rw (W .walk-is, all, ← length-rank f (startsIn at)) (dealt-same (suc (f .m)) (rankDigits f (startsIn at)) (bearers f (startsIn at))
+      (bearers-many f ok (startsIn at) count))

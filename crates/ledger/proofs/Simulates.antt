@@ -15,11 +15,15 @@ use Rattle.jobs.specs.declared.Entry.the-variants.{Free, Open, OnHold, Cancelle
 use Rattle.jobs.specs.declared.Before.{Before}
 use Rattle.jobs.specs.declared.Before.the-variants.{WasAbsent, WasOpen, WasOnHold}
 use Rattle.jobs.specs.Jobs.{slotCount, Kind, opening, cancelling, finishing, reinstating, holding, releasing, Call, on, isJob, Status, unknown, isHeld}
-use Rattle.jobs.specs.Table.{standing, isFree, holds, lookup, used, emptyTable, TableOut, refuse, accept, replaceFirst, put, add, twice, decide, openJob, restored, callAs}
+use Rattle.jobs.specs.Table.{standing, isFree, holds, lookup, used, emptyTable, TableOut, refuse, accept, replaceFirst, put, add, twice, decide, openJob}
+use Rattle.jobs.specs.Table.{restored, callAs}
 use Rattle.ledger.specs.Calls.{callOut, answersFrom, tableFrom}
-use Rattle.ledger.specs.Ledger.{historyOf, after, statusOf, status, lawful, heldCount, judge, accepts, verdict, enter, verdictsFrom, ledgerFrom, acceptedBy}
-use Rattle.ledger.specs.Simulation.{Agrees, Simulation, Start, empty, zero-open, zero-cancelled, zero-opened-cancelled, zero-on-hold-cancelled, SimulationFromStart}
-use Rattle.jobs.proofs.Entries.{any-holds, entry-passes, holds-only, free-entry, Stored, stored, held-le, room-is, free-lookup, alone-lookup, alone-once, alone-used}
+use Rattle.ledger.specs.Ledger.{historyOf, after, statusOf, status, lawful, heldCount, judge, accepts, verdict, enter, verdictsFrom, ledgerFrom}
+use Rattle.ledger.specs.Ledger.{acceptedBy}
+use Rattle.ledger.specs.Simulation.{Agrees, Simulation, Start, empty, zero-open, zero-cancelled, zero-opened-cancelled, zero-on-hold-cancelled}
+use Rattle.ledger.specs.Simulation.{SimulationFromStart}
+use Rattle.jobs.proofs.Entries.{any-holds, entry-passes, holds-only, free-entry, Stored, stored, held-le, room-is, free-lookup, alone-lookup, alone-once}
+use Rattle.jobs.proofs.Entries.{alone-used}
 
 -- one call's outcome is what the ledger says
 pub record Alike (o : TableOut) (h : List Call) (c : Call) : Type 0 where

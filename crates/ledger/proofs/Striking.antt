@@ -8,7 +8,8 @@ use Rattle.combinatorics.specs.Lists.{all}
 use Rattle.combinatorics.proofs.Cases.{by-bool}
 use Rattle.combinatorics.proofs.Lists.{both}
 use Rattle.jobs.specs.Jobs.{Kind, opening, cancelling, finishing, reinstating, holding, releasing, Status, unknown, opened, onHold, cancelled, needsOpen}
-use Rattle.ledger.specs.Ledger.{after, statusOf, takesBack, strike, whatIsLeft, hasPair, StrikesPairs, newestOf, answerAfter, accepts, lawful, LeftDecides}
+use Rattle.ledger.specs.Ledger.{after, statusOf, takesBack, strike, whatIsLeft, hasPair, StrikesPairs, newestOf, answerAfter, accepts, lawful}
+use Rattle.ledger.specs.Ledger.{LeftDecides}
 
 -- ---- In any order
 

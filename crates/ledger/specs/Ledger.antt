@@ -9,7 +9,8 @@ use lib.ListN.{length}
 use Rattle.refusals.specs.Refusals.{served, jobCancelled, alreadyOpen, notOpen, tableFull, numberZero, notCancelled, jobHeld, notHeld, must}
 use Rattle.combinatorics.specs.Lists.{any}
 use Rattle.combinatorics.specs.Stretch.{bit}
-use Rattle.jobs.specs.Jobs.{slotCount, Kind, opening, cancelling, finishing, reinstating, holding, releasing, Call, isJob, Status, unknown, opened, onHold, cancelled, isHeld, needsOpen}
+use Rattle.jobs.specs.Jobs.{slotCount, Kind, opening, cancelling, finishing, reinstating, holding, releasing, Call, isJob, Status, unknown, opened, onHold}
+use Rattle.jobs.specs.Jobs.{cancelled, isHeld, needsOpen}
 
 -- the kinds of the accepted calls on a number, newest first
 unfoldable pub historyOf : List Call → ℕ → List Kind

@@ -30,7 +30,8 @@ module _ (f : Figures) (table starts payload out : List ℕ) where
     unfolding jobWriteBytesUnder
     write-state = unknown-state (codingOf f) table (unwritten out) _ size _
 
-    pub write-whole : statesKnown table ≡ true → jobWriteUnder (codingOf f) (tableIn table) (placementFrom (codingOf f .bursts) starts) payload out ≡ jobWriteBytesUnder (codingOf f) table starts payload out
+    pub write-whole : statesKnown table ≡ true → jobWriteUnder (codingOf f) (tableIn table) (placementFrom (codingOf f .bursts) starts) payload out
+        ≡ jobWriteBytesUnder (codingOf f) table starts payload out
     unfolding jobWriteBytesUnder
     write-whole s =
         whole-write f table starts (unwritten out) size s (λ (at : Held). jobWriteUnder (codingOf f) (tableIn table) at payload out) _ (λ at. refl)

@@ -19,7 +19,8 @@ use Rattle.jobs.specs.declared.Entry.the-variants.{Free, Open, OnHold, Cancelle
 use Rattle.jobs.specs.declared.Before.the-variants.{WasAbsent, WasOpen, WasOnHold}
 use Rattle.jobs.specs.Table.{emptyTable}
 use Rattle.payloads.specs.Payload.{jobNumber}
-use Rattle.lent.specs.Table.{slotLen, tableLen, stateCount, entryOf, stateAt, entryAt, statesKnown, tableIn, entryBytes, tableBytes, numberFits, IsTable, ReadsBack}
+use Rattle.lent.specs.Table.{slotLen, tableLen, stateCount, entryOf, stateAt, entryAt, statesKnown, tableIn, entryBytes, tableBytes, numberFits}
+use Rattle.lent.specs.Table.{IsTable, ReadsBack}
 use Rattle.lent.proofs.TableLaws.{entry-long}
 
 -- ---- One slot, with anything behind it

@@ -28,7 +28,8 @@ use Rattle.jobs.specs.Table.{emptyTable}
 use Rattle.jobs.proofs.SlotLaws.{stored-entries}
 use Rattle.payloads.specs.Payload.{jobNumber}
 use Rattle.payloads.specs.Given.{Spellable}
-use Rattle.lent.specs.Table.{slotLen, tableLen, stateCount, entryOf, stateAt, entryAt, states, statesKnown, tableIn, slotBytes, cancelledState, entryBytes, tableBytes}
+use Rattle.lent.specs.Table.{slotLen, tableLen, stateCount, entryOf, stateAt, entryAt, states, statesKnown, tableIn, slotBytes, cancelledState}
+use Rattle.lent.specs.Table.{entryBytes, tableBytes}
 
 -- ---- One slot, read
 
@@ -53,10 +54,12 @@ module _ (bytes : List ℕ) where
     in-states h = omega (arith, length-tabulate slotCount 0 (stateAt bytes))
 
     pub state-unknown : i < slotCount → 5 < stateAt bytes i → allBelow stateCount (drop i (states bytes)) ≡ false
-    state-unknown h k = all-fails (λ x. ltb x stateCount) (states bytes) i (in-states h) (rw (state-is h) (leb-fails (suc (stateAt bytes i)) stateCount (omega arith)))
+    state-unknown h k = all-fails (λ x. ltb x stateCount) (states bytes) i (in-states h)
+        (rw (state-is h) (leb-fails (suc (stateAt bytes i)) stateCount (omega arith)))
 
     pub state-known : i < slotCount → stateAt bytes i ≤ 5 → allBelow stateCount (drop i (states bytes)) ≡ allBelow stateCount (drop (i + 1) (states bytes))
-    state-known h k = all-later (λ x. ltb x stateCount) (states bytes) i (in-states h) (rw (state-is h) (leb-holds (suc (stateAt bytes i)) stateCount (omega arith)))
+    state-known h k = all-later (λ x. ltb x stateCount) (states bytes) i (in-states h)
+        (rw (state-is h) (leb-holds (suc (stateAt bytes i)) stateCount (omega arith)))
 
     pub states-over : slotCount ≤ i → allBelow stateCount (drop i (states bytes)) ≡ true
     states-over h = all-over (λ x. ltb x stateCount) (states bytes) i (omega (arith, length-tabulate slotCount 0 (stateAt bytes)))
@@ -81,7 +84,8 @@ module _ (bytes : List ℕ) where
   read-none es e = record { size = ap length e; made = refl }
 
   -- a slot's entry, as it is read
-  pub entry-is : (i number : ℕ) (x : Entry) → number ≡ jobNumber (take (length bytes - (i * slotLen + 1)) (drop (i * slotLen + 1) bytes)) → x ≡ entryOf (stateAt bytes i) number → x ≡ entryAt bytes i
+  pub entry-is : (i number : ℕ) (x : Entry) → number ≡ jobNumber (take (length bytes - (i * slotLen + 1)) (drop (i * slotLen + 1) bytes))
+      → x ≡ entryOf (stateAt bytes i) number → x ≡ entryAt bytes i
   entry-is i number x n e = e ∙ ap (entryOf (stateAt bytes i)) (n ∙ ap jobNumber (rest-is (i * slotLen + 1) bytes))
 
   pub read-turn : (t : JobTable) (i : ℕ) (x : Entry) → i < slotCount → Read bytes i (entries t) → x ≡ entryAt bytes i
@@ -163,7 +167,8 @@ module _ (es : List Entry) (many : length es ≡ slotCount) where
       let joined : take at bytes ++ (part ++ rest) ≡ (take at bytes ++ part) ++ rest = sym (append-assoc (take at bytes) part rest) in
       let next : take (i + 1) es ≡ take i es ++ (getD es i d ∷ []) = rw (add-one i) (take-suc es i d (omega arith)) in
       record {
-        size = ap length joined ∙ length-append (take at bytes ++ part) rest ∙ omega (arith, length-drop (at + slotLen - at) (drop at bytes), length-drop at bytes);
+        size = ap length joined ∙ length-append (take at bytes ++ part) rest
+            ∙ omega (arith, length-drop (at + slotLen - at) (drop at bytes), length-drop at bytes);
         made = ap (take ((i + 1) * slotLen)) joined ∙ take-at (take at bytes ++ part) rest ((i + 1) * slotLen) e
             ∙ ap₂ {C = List ℕ} _++_ (s .made) p ∙ sym (ap (flatMap entryBytes) next ∙ flat-snoc entryBytes (take i es) (getD es i d));
       }

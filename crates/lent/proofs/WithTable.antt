@@ -53,7 +53,8 @@ module _ {O : Type 0} (d : Coding) (table : List ℕ) (refuse : ℕ → O) (leng
   unfolding withoutTable
   other-table rest size =
       rw (eqb-other (length table) tableLen size, both-true (d .inRange))
-      (by-bool (d .inRange) (λ i. by-bool (d .fits) (λ h. by-bool (carriesJob (d .codec .alphabet) (d .codec .messageLen)) (λ k. rw (i, h, k)) (λ k. rw (i, h, k))) (λ h. rw (i, h))) (λ i. rw i))
+      (by-bool (d .inRange) (λ i. by-bool (d .fits) (λ h. by-bool (carriesJob (d .codec .alphabet) (d .codec .messageLen)) (λ k. rw (i, h, k))
+      (λ k. rw (i, h, k))) (λ h. rw (i, h))) (λ i. rw i))
 
   module _ (size : length table ≡ tableLen) where
     pub unknown-state : (rest : O) → statesKnown table ≡ false → refuse invalid ≡ withTable d table lengths refuse rest

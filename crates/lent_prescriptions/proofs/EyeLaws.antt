@@ -19,7 +19,8 @@ use Rattle.prescription.specs.Lens.{Lens, keeps}
 use Rattle.prescription.specs.Eyes.{lensOf}
 use Rattle.prescription.specs.Outcomes.{Answered, answered, transposeOut, equivalentOut}
 use Rattle.prescription.proofs.Counting.{holds}
-use Rattle.lent_prescriptions.specs.Eyes.{plusZero, isPlusZero, noEye, eyeFrom, eyeKind, eyeSphere, eyeCylinder, eyeAxis, marksOf, powersOf, EyesComeBack, powersLent, answerLent, transposeLent, powerLent, equivalentLentAs, equivalentLent}
+use Rattle.lent_prescriptions.specs.Eyes.{plusZero, isPlusZero, noEye, eyeFrom, eyeKind, eyeSphere, eyeCylinder, eyeAxis, marksOf, powersOf}
+use Rattle.lent_prescriptions.specs.Eyes.{EyesComeBack, powersLent, answerLent, transposeLent, powerLent, equivalentLentAs, equivalentLent}
 use Rattle.lent_prescriptions.proofs.Filling.{stored-all}
 
 -- ---- Plus zero

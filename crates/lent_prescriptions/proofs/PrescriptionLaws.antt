@@ -28,7 +28,8 @@ use Rattle.prescriptioncodec.specs.PrescriptionWrite.{numberLen, numberBytes, p
 use Rattle.prescriptioncodec.specs.PrescriptionRead.{HandedOut, prescriptionReading, prescriptionReadUnder}
 use Rattle.lent_prescriptions.specs.Eyes.{eyeKind, eyeAxis, eyeSphere, eyeCylinder, powersLent, answerLent}
 use Rattle.lent.specs.Jobs.{withoutTable}
-use Rattle.lent_prescriptions.specs.Prescriptions.{prescriptionWriteBytesUnder, handedMarks, handedPowers, haveRoom, prescriptionReadLent, prescriptionReadBytesUnder, withoutRoom}
+use Rattle.lent_prescriptions.specs.Prescriptions.{prescriptionWriteBytesUnder, handedMarks, handedPowers, haveRoom, prescriptionReadLent}
+use Rattle.lent_prescriptions.specs.Prescriptions.{prescriptionReadBytesUnder, withoutRoom}
 use Rattle.lent.specs.Starts.{placementFrom}
 use Rattle.lent.specs.Table.{tableLen, statesKnown, tableIn}
 use Rattle.lent_prescriptions.proofs.Filling.{stored-all}
@@ -96,17 +97,20 @@ module _ (marks : List ℕ) (powers : List Float) where
     read-without-room h =
         by-bool (twice es) (λ t. rw (t, both-false (d .inRange)))
         (λ t. by-bool (d .inRange)
-        (λ i. by-bool (d .fits) (λ n. by-bool (carriesJob (d .codec .alphabet) (d .codec .messageLen)) (λ k. rw (t, i, n, k, h)) (λ k. rw (t, i, n, k))) (λ n. rw (t, i, n)))
+        (λ i. by-bool (d .fits) (λ n. by-bool (carriesJob (d .codec .alphabet) (d .codec .messageLen)) (λ k. rw (t, i, n, k, h)) (λ k. rw (t, i, n, k)))
+        (λ n. rw (t, i, n)))
         (λ i. rw (t, i)))
 
     pub read-with-room : haveRoom marks powers ≡ true → {o : Answered HandedOut} → o ≡ prescriptionReadUnder d es w
-        → answerLent (λ h. handedMarks (h .number) (h .prescription)) (λ h. handedPowers (h .prescription)) marks powers o ≡ prescriptionReadLent d es w marks powers
+        → answerLent (λ h. handedMarks (h .number) (h .prescription)) (λ h. handedPowers (h .prescription)) marks powers o ≡ prescriptionReadLent d es w
+        marks powers
     unfolding prescriptionReading prescriptionReadLent
     read-with-room h {o} e =
         rw e
         (by-bool (twice es) (λ t. rw (t, both-false (d .inRange)))
         (λ t. by-bool (d .inRange)
-        (λ i. by-bool (d .fits) (λ n. by-bool (carriesJob (d .codec .alphabet) (d .codec .messageLen)) (λ k. rw (t, i, n, k, h)) (λ k. rw (t, i, n, k))) (λ n. rw (t, i, n)))
+        (λ i. by-bool (d .fits) (λ n. by-bool (carriesJob (d .codec .alphabet) (d .codec .messageLen)) (λ k. rw (t, i, n, k, h)) (λ k. rw (t, i, n, k)))
+        (λ n. rw (t, i, n)))
         (λ i. rw (t, i))))
 
 -- ---- With a table in bytes
@@ -122,7 +126,8 @@ module _ (f : Figures) (table starts : List ℕ) (n : ℕ) (p : Prescription) (o
     write-state = unknown-state (codingOf f) table (unwritten out) _ size _
 
     pub write-whole : statesKnown table ≡ true
-        → prescriptionWriteUnder (codingOf f) (tableIn table) (placementFrom (codingOf f .bursts) starts) n p out ≡ prescriptionWriteBytesUnder (codingOf f) table starts n p out
+        → prescriptionWriteUnder (codingOf f) (tableIn table) (placementFrom (codingOf f .bursts) starts) n p out ≡ prescriptionWriteBytesUnder
+        (codingOf f) table starts n p out
     unfolding prescriptionWriteBytesUnder
     write-whole s =
         whole-write f table starts (unwritten out) size s (λ (at : Held). prescriptionWriteUnder (codingOf f) (tableIn table) at n p out) _ (λ at. refl)

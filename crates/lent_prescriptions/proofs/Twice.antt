@@ -17,7 +17,8 @@ use Rattle.prescription.specs.Outcomes.{answered, orRefused, transposeOut}
 use Rattle.prescription.proofs.InMemory.{eye-holds}
 use Rattle.prescription.proofs.LensOfEye.{lens-back, transposes}
 use Rattle.prescription.proofs.Lenses.{transposed-keeps, transposed-back}
-use Rattle.lent_prescriptions.specs.Eyes.{plusZero, isPlusZero, eyeFrom, eyeKind, eyeSphere, eyeCylinder, eyeAxis, marksOf, powersOf, PowersLent, powersLent, answerLent, transposeLent, TransposesBack}
+use Rattle.lent_prescriptions.specs.Eyes.{plusZero, isPlusZero, eyeFrom, eyeKind, eyeSphere, eyeCylinder, eyeAxis, marksOf, powersOf, PowersLent}
+use Rattle.lent_prescriptions.specs.Eyes.{powersLent, answerLent, transposeLent, TransposesBack}
 use Rattle.lent_prescriptions.proofs.EyeLaws.{eyes-come-back}
 
 -- ---- The eye that values of 64 bits give has floats of 64 bits

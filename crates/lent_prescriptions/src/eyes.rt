@@ -1,7 +1,8 @@
 // An eye as numbers: its kind, its powers in dioptres and its axis in degrees. Inner functions of transposing, the spherical equivalent and
 // prescriptions for other languages. Assumes nothing.
 ghost use mathlib.Core.Path.{_≡_};
-ghost use Rattle.lent_prescriptions.specs.Eyes.{isPlusZero, eyeFrom, eyeKind, eyeSphere, eyeCylinder, eyeAxis, powersLent, transposeLent, powerLent, equivalentLent};
+ghost use Rattle.lent_prescriptions.specs.Eyes.{isPlusZero, eyeFrom, eyeKind, eyeSphere, eyeCylinder, eyeAxis, powersLent, transposeLent, powerLent};
+ghost use Rattle.lent_prescriptions.specs.Eyes.{equivalentLent};
 use prescription::eyes::Eye;
 use prescription::eyes::EyeAnswer;
 use prescription::eyes::PowerAnswer;

@@ -12,7 +12,8 @@ use Rattle.text.proofs.Line.{Put, put-none, put-then}
 use Rattle.lines.specs.Lines.{space, lineFeed, spaced}
 
 -- what is put at the start of a line
-pub put-first : (text before next : List ℕ) (end : ℕ) → length text ≤ length before → next ≡ overwrite 0 text before → end ≡ length text → Put 0 text before next end
+pub put-first : (text before next : List ℕ) (end : ℕ) → length text ≤ length before → next ≡ overwrite 0 text before → end ≡ length text
+    → Put 0 text before next end
 put-first text before next end h e n =
     put-then 0 [] text before before next 0 end (omega arith) (put-none 0 before) e (omega (arith, n))
 

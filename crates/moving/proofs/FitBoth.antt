@@ -66,7 +66,8 @@ module _ (f : Params) (strip moved a : ℕ) (refuse : ℕ → Encoded) (rest : E
 
 -- ---- Figures that fit both
 
-module _ (newer : Layout) (older : LarssonLayout) (serves : Serves newer) (fitting : LarssonLayoutFits older) (alike : codingIn newer ≡ codingA (larssonFiguresOf older)) where
+module _ (newer : Layout) (older : LarssonLayout) (serves : Serves newer) (fitting : LarssonLayoutFits older)
+    (alike : codingIn newer ≡ codingA (larssonFiguresOf older)) where
   is : HasNumbers (codingIn newer) newer
   is = numbers-in newer serves
 
@@ -141,7 +142,8 @@ unfolding messageLenLarsson
 older-short older g = omega (arith, g .laid .len-is, ranged (larssonFiguresOf older) (g .range) .n-most)
 
 -- the orders of both ways are past "1 2"
-pub past-both : (f : Params) (es : List Entry) (newer : Layout) (older : LarssonLayout) (strip moved : ℕ) → larssonFiguresOf older ≡ f → BothReady newer older strip moved
+pub past-both : (f : Params) (es : List Entry) (newer : Layout) (older : LarssonLayout) (strip moved : ℕ) → larssonFiguresOf older ≡ f
+    → BothReady newer older strip moved
     → twice es ≡ false → Past f es
 past-both f es newer older strip moved same r once =
     subst (λ (p : Params). Past p es) same

@@ -1,7 +1,8 @@
 -- Products that stop at a cap: stopping on the way changes nothing at the end. Assumes nothing.
 use mathlib.Core.Path.{_≡_, sym, ap, _∙_}
 use Prim.Native.Nat.{ℕ, zero, suc, _*_, _/_, _^_, _≤_, _<_, min}
-use native.Mathlib.Nat.{min-le-left, min-eq-left, min-eq-right, mul-comm, mul-assoc, pow-zero, pow-suc, le-mul-of-pos-right, div-mul-le-self, mul-le-mul-right, lt-div-mul-add}
+use native.Mathlib.Nat.{min-le-left, min-eq-left, min-eq-right, mul-comm, mul-assoc, pow-zero, pow-suc, le-mul-of-pos-right, div-mul-le-self}
+use native.Mathlib.Nat.{mul-le-mul-right, lt-div-mul-add}
 use native.Mathlib.Omega.{arith}
 use lib.Dec.{leb}
 use Rattle.combinatorics.proofs.Cases.{by-le, leb-holds, leb-fails}

@@ -29,9 +29,27 @@ use Rattle.params.proofs.LongFitting.{long-shaped}
 -- the layout's numbers
 pub has-numbers : (f : Figures) (l : Layout) → LaidAs f (Fit l) → HasNumbers (codingOf f) l
 has-numbers (Ranked p) l is =
-    record { word-is = is .n-is; alphabet-is = is .q-is; bursts-is = is .m-is; burst-is = is .b-is; count-is = is .count-is; tail-is = is .tail-is; len-is = is .len-is }
+    record {
+      word-is = is .n-is;
+      alphabet-is = is .q-is;
+      bursts-is = is .m-is;
+      burst-is = is .b-is;
+      count-is = is .count-is;
+      tail-is = is .tail-is;
+      len-is =
+          is .len-is;
+    }
 has-numbers (Long p) l is =
-    record { word-is = is .n-is; alphabet-is = is .q-is; bursts-is = is .m-is; burst-is = is .b-is; count-is = is .count-is; tail-is = is .tail-is; len-is = is .len-is }
+    record {
+      word-is = is .n-is;
+      alphabet-is = is .q-is;
+      bursts-is = is .m-is;
+      burst-is = is .b-is;
+      count-is = is .count-is;
+      tail-is = is .tail-is;
+      len-is =
+          is .len-is;
+    }
 
 pub small : (f : Figures) → codingOf f .inRange ≡ true → Small (codingOf f)
 unfolding messageLen B.messageLen

@@ -80,7 +80,8 @@ module _ {f : Params} {p r : ℕ} (h : Fitted f p r) where
   parted = h .searched .parted
 
   fit : fits f ≡ true
-  fit = fitting f (parted .total) (parted .counted) (omega (arith, min-is parted, tail-is (h .searched), h .room)) (omega (arith, min-is parted, tail-is (h .searched), h .short))
+  fit = fitting f (parted .total) (parted .counted) (omega (arith, min-is parted, tail-is (h .searched), h .room))
+      (omega (arith, min-is parted, tail-is (h .searched), h .short))
 
   pub taken-fits : f .m * (f .b + p + r - 1) ≤ f .n
   taken-fits = rw (parted .p-is, tail-is (h .searched)) (message-room f (serve f (parted .range) fit))

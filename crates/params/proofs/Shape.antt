@@ -80,7 +80,13 @@ module _ (l : Layout) (g : Shaped l) where
   head-room k h =
       let b = bound in
       let room : l .«index_tail» < l .n / (l .parts * l .m) = rw (g .parts-is) min-room in
-      omega (arith, room, block-next (l .n) (l .parts) (l .m) k (b .m-least), block-most (l .n) (l .parts) (l .m) (suc k) (omega (arith, b .parts-least)) (b .m-least) h)
+      omega (
+        arith,
+        room,
+        block-next (l .n) (l .parts) (l .m) k (b .m-least),
+        block-most (l .n) (l .parts) (l .m) (suc k) (omega (arith, b .parts-least))
+            (b .m-least) h,
+      )
 
   -- no block starts past the word's end
   pub heads-small : (heads : List ℕ) → HeadsOf (figuresOf l) heads → (k : ℕ) → k ≤ blocks (figuresOf l) → getD heads k 0 ≤ maxWord

@@ -52,7 +52,8 @@ module _ (q : ℕ) (two : 2 ≤ q) where
       let b = both (ltb y byteValues) (allBelow byteValues ys) h in
       let front : drop (j * w) ms ≡ s ++ (ss ++ rest) = e ∙ append-assoc s ss rest in
       let one : byteAt q ms j ≡ y =
-      ap (value q (bytePlaces q)) front ∙ value-front q (bytePlaces q) s (ss ++ rest) (length-spell q (bytePlaces q) y) ∙ value-spell q (bytePlaces q) y (byte-span y (b .0)) in
+      ap (value q (bytePlaces q)) front ∙ value-front q (bytePlaces q) s (ss ++ rest) (length-spell q (bytePlaces q) y)
+      ∙ value-spell q (bytePlaces q) y (byte-span y (b .0)) in
       let n : suc j * w ≡ j * w + w = omega arith in
       let next : drop (suc j * w) ms ≡ ss ++ rest = rw (n, ← drop-drop w (j * w) ms, front) (drop-at s (ss ++ rest) w (length-byte q y)) in
       rw (one, bytes-back ys rest ms (suc j) (b .1) next)
@@ -179,5 +180,6 @@ unfolding jobNumber
 number-below y l h =
     let ps = replicate 4 plain in
     let t : length (take 4 y) ≡ 4 = length-take-le 4 y l in
-    let v : value byteValues ps y ≡ value byteValues ps (take 4 y) = ap (value byteValues ps) (sym (take-append-drop 4 y)) ∙ value-front byteValues ps (take 4 y) (drop 4 y) t in
+    let v : value byteValues ps y ≡ value byteValues ps (take 4 y) =
+    ap (value byteValues ps) (sym (take-append-drop 4 y)) ∙ value-front byteValues ps (take 4 y) (drop 4 y) t in
     rw (v, ← span-plain byteValues 4) (value-lt byteValues ps (take 4 y) (plain-spelled byteValues 4 (take 4 y) t (all-take (λ x. ltb x byteValues) 4 y h)))

@@ -8,7 +8,8 @@ use native.Mathlib.Numerals.{add-one}
 use native.Mathlib.Omega.{arith}
 use borrow.Rule.Slice.PartMut.{putMid}
 use lib.Dec.{ltb, eqb}
-use lib.ListN.{length, getD, take, drop, set, replicate, length-set, length-append, length-drop, length-replicate, drop-of-length-le, replicate-append-replicate}
+use lib.ListN.{length, getD, take, drop, set, replicate, length-set, length-append, length-drop, length-replicate, drop-of-length-le}
+use lib.ListN.{replicate-append-replicate}
 use lib.Seq.{take-all, take-at, take-suc, length-take-le, drop-cons, drop-set-lt, getD-set-same, lt-length-set}
 use Rattle.combinatorics.specs.Lists.{all, allBelow}
 use Rattle.combinatorics.proofs.Cases.{by-eq, leb-holds, leb-fails}
@@ -93,7 +94,11 @@ module _ (q w : ℕ) (symbols : List ℕ) (few : q ≤ byteValues) where
         let same : horner q (replicate (suc (w - (i + 1))) plain) (getD symbols i 0 ∷ drop (i + 1) symbols) v ≡ value q (replicate w plain) symbols =
         subst (λ (n : ℕ). horner q (replicate n plain) (getD symbols i 0 ∷ drop (i + 1) symbols) v ≡ value q (replicate w plain) symbols) e
         (rw (add-one i, ← drop-cons symbols i 0 k) (s .same)) in
-        record { below = next-below (s .below); same = sym (ap (λ (y : ℕ). horner q (replicate (w - (i + 1)) plain) (drop (i + 1) symbols) (v * q + y)) z) ∙ same }
+        record {
+          below = next-below (s .below);
+          same = sym (ap (λ (y : ℕ). horner q (replicate (w - (i + 1)) plain) (drop (i + 1) symbols) (v * q + y)) z)
+              ∙ same;
+        }
 
     -- so many bytes are enough
     pub taken-fits : (most : ℕ) → i < w → w ≤ most → Taken q w symbols i v → v * q + getD symbols i 0 < byteValues ^ most
@@ -212,7 +217,8 @@ module _ (q w count k : ℕ) (payload : List ℕ) (long : length payload ≡ cou
         given = same-measure q w count ms (take at ms ++ (part ++ rest)) same (s .given);
         size = same ∙ s .size;
         made = ap (take ((i + 1) * w)) joined ∙ take-at (take at ms ++ part) rest ((i + 1) * w) e
-            ∙ ap₂ {C = List ℕ} _++_ (s .made) one ∙ sym (ap (flatMap (spell q (replicate w plain))) next ∙ flat-snoc (spell q (replicate w plain)) (take i payload) (getD payload i 0));
+            ∙ ap₂ {C = List ℕ} _++_ (s .made) one ∙ sym (ap (flatMap (spell q (replicate w plain))) next
+            ∙ flat-snoc (spell q (replicate w plain)) (take i payload) (getD payload i 0));
       }
 
   -- and the leftovers are cleared

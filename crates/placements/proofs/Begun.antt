@@ -31,7 +31,8 @@ begun-next f j h =
     let z : maxBursts - j ≡ suc (maxBursts - suc j) = omega arith in
     let e : 0 + j ≡ j = omega arith in
     rw (add-one j, z, tabulate-next j 0 f, e)
-    (set-at (tabulate j 0 f) 0 (replicate (maxBursts - suc j) 0) (f j) j (length-tabulate j 0 f) ∙ sym (append-snoc (tabulate j 0 f) (f j) (replicate (maxBursts - suc j) 0)))
+    (set-at (tabulate j 0 f) 0 (replicate (maxBursts - suc j) 0) (f j) j (length-tabulate j 0 f)
+    ∙ sym (append-snoc (tabulate j 0 f) (f j) (replicate (maxBursts - suc j) 0)))
 
 pub begun-all : (f : ℕ → ℕ) (m : ℕ) → record { starts = begun f m; count = m } ≡ held (tabulate m 0 f)
 begun-all f m = rw (length-tabulate m 0 f)

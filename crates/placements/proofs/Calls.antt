@@ -30,7 +30,8 @@ pub room-of : (f : Params) → Served f → Room (f .n) (f .m) (f .b)
 room-of f ok = record { short = ok .range .n-most; few = ok .range .m-most; some = ok .long; within = ok .total }
 
 -- a placement that passed the test for refusal 5
-pub rankable : {p : Placement} (n b : ℕ) → p .count ≤ maxBursts → n ≤ maxWord → 1 ≤ b → apart b n 0 (startsIn p) ≡ true → rankOf b (startsIn p) ≤ maxCount → Rankable p b
+pub rankable : {p : Placement} (n b : ℕ) → p .count ≤ maxBursts → n ≤ maxWord → 1 ≤ b → apart b n 0 (startsIn p) ≡ true → rankOf b (startsIn p) ≤ maxCount
+    → Rankable p b
 rankable {p} n b few short some valid small = record { few = few; some = some; valid = apart-longer b n maxWord 0 (startsIn p) short valid; small = small }
 
 pub starts-held : {p : Placement} (ss : List ℕ) → heldAs p ≡ held ss → startsIn p ≡ ss

@@ -19,7 +19,8 @@ pub record Filling (all todo : List ℕ) (m i : ℕ) (p : Placement) : Type 0 wh
   pub size : length (p .starts) ≡ maxBursts
   pub fills : reverseAux todo (drop i (p .starts)) ≡ all ++ replicate (maxBursts - m) 0
 
-pub fill-first : (all todo : List ℕ) (m : ℕ) → ((rest : List ℕ) → reverseAux todo rest ≡ all ++ rest) → Filling all todo m m (placementOf m (replicate maxBursts 0))
+pub fill-first : (all todo : List ℕ) (m : ℕ) → ((rest : List ℕ) → reverseAux todo rest ≡ all ++ rest)
+    → Filling all todo m m (placementOf m (replicate maxBursts 0))
 fill-first all todo m h = record {
   count = refl;
   size = refl;
@@ -31,7 +32,8 @@ pub fill-turn : {all todo : List ℕ} {m i : ℕ} {p : Placement} (s : ℕ) (ts 
 fill-turn {all} {todo} {m} {i} {p} s ts f e some few = record {
   count = f .count;
   size = length-set (p .starts) (i - 1) s ∙ f .size;
-  fills = ap (reverseAux ts) (fill-next (p .starts) i s some (omega (arith, f .size))) ∙ ap (λ (ds : List ℕ). reverseAux ds (drop i (p .starts))) (sym e) ∙ f .fills;
+  fills = ap (reverseAux ts) (fill-next (p .starts) i s some (omega (arith, f .size))) ∙ ap (λ (ds : List ℕ). reverseAux ds (drop i (p .starts))) (sym e)
+      ∙ f .fills;
 }
 
 pub fill-last : {all : List ℕ} {m : ℕ} {p : Placement} → Filling all [] m 0 p → length all ≡ m → heldAs p ≡ held all

@@ -17,7 +17,8 @@ use Rattle.placements.specs.Bridge.{startsIn, PlacesBursts}
 use Rattle.placements.specs.declared.Placement.{Placement}
 
 -- a placement that passed the tests for refusals 3 and 5
-pub placing-of : (l : Layout) (at : Placement) → length (at .starts) ≡ maxBursts → Shaped l → at .count ≡ l .m → apart (l .b) (l .n) 0 (startsIn at) ≡ true → PlacesBursts l at
+pub placing-of : (l : Layout) (at : Placement) → length (at .starts) ≡ maxBursts → Shaped l → at .count ≡ l .m → apart (l .b) (l .n) 0 (startsIn at) ≡ true
+    → PlacesBursts l at
 unfolding isPlacement
 placing-of l at sized g e valid =
     let count : length (startsIn at) ≡ l .m = length-take-le (at .count) (at .starts) (omega (arith, in-range l g .m-most, sized)) ∙ e in

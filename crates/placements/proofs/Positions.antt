@@ -67,7 +67,8 @@ module _ (b q from to : ℕ) (w ss : List ℕ) (within : to ≤ length w) (free 
       let k : i < to - from = omega (arith, part-length) in
       rw (part-at i k)
       (by-bool (ltb (getD w (from + i) 0) q) (λ e. leb-true (suc (getD w (from + i) 0)) q e)
-      (λ e. absurd (true≢false (sym (covers-of (length w) b (erasedAt q w) ss t (from + i) (omega arith) (ap not e)) ∙ free (from + i) (omega arith) (omega arith))))))
+      (λ e. absurd (true≢false (sym (covers-of (length w) b (erasedAt q w) ss t (from + i) (omega arith) (ap not e))
+      ∙ free (from + i) (omega arith) (omega arith))))))
 
   pub part-covered : Covers (erasedAt q w) b from ss → allBelow q part ≡ true → Covers (erasedAt q w) b to ss
   part-covered c e x l h =
@@ -112,7 +113,8 @@ module _ (b q : ℕ) (w ss : List ℕ) (from s : ℕ) (rest : List ℕ) (t : Tes
       }
 
 -- behind the last burst
-pub tested-end : (b q : ℕ) (w ss : List ℕ) (from : ℕ) → Tested b q w ss from [] → allBelow q (take (length w - from) (drop from w)) ≡ covers (length w) b (erasedAt q w) ss
+pub tested-end : (b q : ℕ) (w ss : List ℕ) (from : ℕ) → Tested b q w ss from []
+    → allBelow q (take (length w - from) (drop from w)) ≡ covers (length w) b (erasedAt q w) ss
 tested-end b q w ss from t =
     by-bool (allBelow q (take (length w - from) (drop from w)))
     (λ e. e ∙ sym (of-covers (length w) b (erasedAt q w) ss (part-covered b q from (length w) w ss (omega arith) free (t .covered) e)))

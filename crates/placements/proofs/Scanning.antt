@@ -41,7 +41,8 @@ module _ {n m b : ℕ} {worn : ℕ → Bool} {i start end : ℕ} {p : Placement}
       → Scanning n m b worn (i - 1) s e (placementOf (p .count) (set (p .starts) (i - 1) s))
   scan-turn most {s} {e} is at =
       let r = burst-room worn b i start some (f .room) in
-      let next = fill-turn (burstStart worn b i start) (greedyDown worn b (i - 1) (burstStart worn b i start)) (f .starts) (greedy-next worn b i start some) some (omega (arith, f .few)) in
+      let next = fill-turn (burstStart worn b i start) (greedyDown worn b (i - 1) (burstStart worn b i start)) (f .starts)
+      (greedy-next worn b i start some) some (omega (arith, f .few)) in
       record {
         few = omega (arith, f .few);
         room = rw is (r .0);

@@ -15,7 +15,8 @@ use Rattle.prescription.specs.declared.eyes.Eye.the-variants.{Plano, Sph
 use Rattle.prescription.specs.declared.texts.Prescription.{Prescription}
 use Rattle.prescription.specs.Fractions.{fraction, countOf}
 use Rattle.prescription.specs.Lens.{Lens, plano, sphere, toric, keeps}
-use Rattle.prescription.specs.Eyes.{lensOf, eyeOf, eyeFits, isDistance, Prescribed, KeepsRules, joinedEyes, prescribedOf, prescriptionOf, prescriptionFits}
+use Rattle.prescription.specs.Eyes.{lensOf, eyeOf, eyeFits, isDistance, Prescribed, KeepsRules, joinedEyes, prescribedOf, prescriptionOf}
+use Rattle.prescription.specs.Eyes.{prescriptionFits}
 use Rattle.prescription.specs.Stored.{fieldsOf}
 use Rattle.prescription.specs.Counts.{storedOf}
 use Rattle.prescription.specs.Laws.{HeldExactly}

@@ -175,7 +175,8 @@ toric-stored x y u v w a h k n =
     ∙ stored-must (keeps (toric S C a)) (toric S C a)
     ∙ ap (λ (z : Bool). must (inPowerRange S && inPowerRange (S +ℤ C) && not z && (leb 1 a && leb a 180)) none (some (fields 2 (bitsOf S) (bitsOf C) a)))
     (sym (bits-zero C (c .small)))
-    ∙ ap (λ (z : ℤ). must (inPowerRange z && inPowerRange (S +ℤ C) && not (eqb (bitsOf C) 0) && (leb 1 a && leb a 180)) none (some (fields 2 (bitsOf S) (bitsOf C) a)))
+    ∙ ap (λ (z : ℤ). must (inPowerRange z && inPowerRange (S +ℤ C) && not (eqb (bitsOf C) 0) && (leb 1 a && leb a 180)) none
+    (some (fields 2 (bitsOf S) (bitsOf C) a)))
     (sym (count-of-bits S (s .small)))
     ∙ ap (λ (z : ℤ). must (inPowerRange (countIn (bitsOf S)) && inPowerRange z && not (eqb (bitsOf C) 0) && (leb 1 a && leb a 180)) none
     (some (fields 2 (bitsOf S) (bitsOf C) a))) (sym sum ∙ sym (count-of-bits (t .count) (t .small)) ∙ ap countIn (sym (t .bits)))
@@ -219,7 +220,8 @@ module _ (s t c a : ℕ) where
   cylinder-fails h = sym (ap (λ (b : Bool). b && (leb 1 a && leb a 180)) (no-third (inPowerRange (countIn s)) (inPowerRange (countIn t)) (not (eqb c 0)) h))
 
   pub axis-fails : leb 1 a ≡ false → false ≡ toricKeeps s t c a
-  axis-fails h = sym (no-third (inPowerRange (countIn s) && inPowerRange (countIn t)) (not (eqb c 0)) (leb 1 a && leb a 180) (ap (λ (b : Bool). b && leb a 180) h))
+  axis-fails h = sym (no-third (inPowerRange (countIn s) && inPowerRange (countIn t)) (not (eqb c 0)) (leb 1 a && leb a 180)
+      (ap (λ (b : Bool). b && leb a 180) h))
 
   pub last-decides : inPowerRange (countIn s) ≡ true → inPowerRange (countIn t) ≡ true → not (eqb c 0) ≡ true → leb 1 a ≡ true → leb a 180 ≡ toricKeeps s t c a
   last-decides h k l m = rw (h, k, l, m)

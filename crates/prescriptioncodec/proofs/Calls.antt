@@ -29,7 +29,8 @@ use Rattle.jobcodec.proofs.Outcomes.{both-false, figures-refused}
 use Rattle.prescription.specs.declared.texts.Prescription.{Prescription}
 use Rattle.prescription.specs.Eyes.{Prescribed, prescribedOf}
 use Rattle.prescription.specs.Stored.{textOf, storedLen}
-use Rattle.prescriptioncodec.specs.PrescriptionWrite.{numberLen, numberBytes, prescriptionPayload, minPayload, writeOpen, writePrescribed, asJob, prescriptionWriteUnder}
+use Rattle.prescriptioncodec.specs.PrescriptionWrite.{numberLen, numberBytes, prescriptionPayload, minPayload, writeOpen, writePrescribed, asJob}
+use Rattle.prescriptioncodec.specs.PrescriptionWrite.{prescriptionWriteUnder}
 
 -- the text of t bytes has t
 pub text-length : (t : ℕ) (x : Prescribed) → storedLen ≤ t → length (textOf t x) ≡ t
@@ -65,7 +66,8 @@ writes-job d es at n p x out h e =
     let count = eqb (at .count) (d .bursts) in
     let room = eqb (length out) (c .wordLen) in
     let front : (lengths : Bool) (rest : Encoded) → Encoded = λ lengths rest.
-    must (d .inRange && not (twice es)) (unwritten out invalid) (must (d .fits) (unwritten out unfit) (must (carriesJob (c .alphabet) k) (unwritten out badPayload)
+    must (d .inRange && not (twice es)) (unwritten out invalid)
+    (must (d .fits) (unwritten out unfit) (must (carriesJob (c .alphabet) k) (unwritten out badPayload)
     (must lengths (unwritten out wrongLength) (must (apart (d .burstLen) (c .wordLen) 0 (inUse at)) (unwritten out badStarts) rest)))) in
     ap (λ (b : Bool). front (count && room) (must b (unwritten out badPrescription) (writePrescribed d es at n (prescribedOf p) out))) (le-leb minPayload K h)
     ∙ ap (λ (o : Option Prescribed). front (count && room) (writePrescribed d es at n o out)) e
@@ -92,7 +94,8 @@ module _ (d : Coding) (es : List Entry) (at : Held) (n : ℕ) (p : Prescription)
 
     module _ (counted : at .count ≡ d .bursts) where
       pub write-length : length out ≢ d .codec .wordLen → prescriptionWriteUnder d es at n p out ≡ unwritten out wrongLength
-      write-length other = rw (r .range, r .once, r .fit, r .carries, eqb-same (at .count) (d .bursts) counted, eqb-other (length out) (d .codec .wordLen) other)
+      write-length other =
+          rw (r .range, r .once, r .fit, r .carries, eqb-same (at .count) (d .bursts) counted, eqb-other (length out) (d .codec .wordLen) other)
 
       module _ (lent : length out ≡ d .codec .wordLen) where
         past-lengths : prescriptionWriteUnder d es at n p out
@@ -105,7 +108,8 @@ module _ (d : Coding) (es : List Entry) (at : Held) (n : ℕ) (p : Prescription)
         write-starts e = past-lengths ∙ rw e
 
         module _ (placed : apart (d .burstLen) (d .codec .wordLen) 0 (inUse at) ≡ true) where
-          pub write-short : payloadLen (d .codec .alphabet) (d .codec .messageLen) < minPayload → prescriptionWriteUnder d es at n p out ≡ unwritten out badPrescription
+          pub write-short : payloadLen (d .codec .alphabet) (d .codec .messageLen) < minPayload
+              → prescriptionWriteUnder d es at n p out ≡ unwritten out badPrescription
           write-short h = past-lengths ∙ rw (placed, leb-fails minPayload (payloadLen (d .codec .alphabet) (d .codec .messageLen)) h)
 
           -- every test is passed but the prescription's own
@@ -113,7 +117,8 @@ module _ (d : Coding) (es : List Entry) (at : Held) (n : ℕ) (p : Prescription)
               → prescriptionWriteUnder d es at n p out ≡ asJob d es at n (payloadLen (d .codec .alphabet) (d .codec .messageLen)) out (prescribedOf p)
           write-as-job h = go (prescribedOf p) refl
             where
-              go : (o : Option Prescribed) → prescribedOf p ≡ o → prescriptionWriteUnder d es at n p out ≡ asJob d es at n (payloadLen (d .codec .alphabet) (d .codec .messageLen)) out o
+              go : (o : Option Prescribed) → prescribedOf p ≡ o
+                  → prescriptionWriteUnder d es at n p out ≡ asJob d es at n (payloadLen (d .codec .alphabet) (d .codec .messageLen)) out o
               go none e = past-lengths ∙ rw (placed, le-leb minPayload (payloadLen (d .codec .alphabet) (d .codec .messageLen)) h, e)
               go (some x) e = writes-job d es at n p x out h e
 

@@ -45,7 +45,8 @@ module _ (p : Prescription) (y text : List ℕ) (r : ℕ) (long : minPayload ≤
   text-told =
       let enough : storedLen ≤ length (drop numberLen y) = omega (arith, length-drop numberLen y) in
       told ∙ ap (writeTextOut p) (rest-is numberLen y)
-      ∙ ap (λ b. must b (writtenText badPrescription (drop numberLen y)) (writtenOr (drop numberLen y) (prescribedOf p))) (le-leb storedLen (length (drop numberLen y)) enough)
+      ∙ ap (λ b. must b (writtenText badPrescription (drop numberLen y)) (writtenOr (drop numberLen y) (prescribedOf p)))
+      (le-leb storedLen (length (drop numberLen y)) enough)
 
   module _ (d : Coding) (es : List Entry) (at : Held) (n K : ℕ) (out : List ℕ) where
     pub text-refused : r ≢ served → unwritten out r ≡ asJob d es at n K out (prescribedOf p)
@@ -74,7 +75,8 @@ module _ (p : Prescription) (y text : List ℕ) (r : ℕ) (long : minPayload ≤
             sixteen : badPrescription ≡ served → ⊥
             sixteen h = omega (arith, h)
         go (some x) e =
-            ap (λ (z : List ℕ). jobWriteUnder d es at (front ++ z) out) (behind ∙ ap (λ (x : Written). x .text) e ∙ ap (λ (t : ℕ). textOf t x) (length-drop numberLen y ∙ ap (λ (k : ℕ). k - numberLen) (sym many)))
+            ap (λ (z : List ℕ). jobWriteUnder d es at (front ++ z) out)
+            (behind ∙ ap (λ (x : Written). x .text) e ∙ ap (λ (t : ℕ). textOf t x) (length-drop numberLen y ∙ ap (λ (k : ℕ). k - numberLen) (sym many)))
             ∙ ap (λ (z : List ℕ). jobWriteUnder d es at (z ++ textOf (K - numberLen) x) out) spelt
 
 -- ---- The number

@@ -55,13 +55,16 @@ module _ (d : Coding) (es : List Entry) (w : List ℕ) where
       → prescriptionReadUnder d es w ≡ afterSpelled refused (λ ds. ofPayload es (payloadIn (d .codec .alphabet) (d .codec .messageLen) ds)) (answerAs said) ms′
   spelled-word ms ms′ ready room r said is e lent =
       word-first ready
-      ∙ spelled-decodes refused (λ ds. ofPayload es (payloadIn (d .codec .alphabet) (d .codec .messageLen) ds)) d w (prescriptionIn (d .codec .alphabet) (d .codec .messageLen) es) (λ a. refl) (λ ss ds. refl)
+      ∙ spelled-decodes refused (λ ds. ofPayload es (payloadIn (d .codec .alphabet) (d .codec .messageLen) ds)) d w
+      (prescriptionIn (d .codec .alphabet) (d .codec .messageLen) es) (λ a. refl) (λ ss ds. refl)
       ms ms′ (ready .range) (ready .fit) room r said is e lent
 
 -- the same by the layout's own q
 pub read-spelled : (l : Layout) (g : Serves l) (es : List Entry) (w ms ms′ : List ℕ) → ReadyUnder (codingIn l) es → length ms ≡ codingIn l .codec .messageLen
-    → (r said : WordAnswer) → r ≡ said → answerAs r ≡ spelledAnswer (l .q) (length ms) (decodeUnder (codingIn l) w ms) → ms′ ≡ decodeUnder (codingIn l) w ms .message
-    → prescriptionReadUnder (codingIn l) es w ≡ afterSpelled refused (λ ds. ofPayload es (payloadIn (l .q) (codingIn l .codec .messageLen) ds)) (answerAs said) ms′
+    → (r said : WordAnswer) → r ≡ said → answerAs r ≡ spelledAnswer (l .q) (length ms) (decodeUnder (codingIn l) w ms)
+    → ms′ ≡ decodeUnder (codingIn l) w ms .message
+    → prescriptionReadUnder (codingIn l) es w ≡ afterSpelled refused (λ ds. ofPayload es (payloadIn (l .q) (codingIn l .codec .messageLen) ds))
+    (answerAs said) ms′
 read-spelled l g es w ms ms′ ready room r said is e lent =
     let d = codingIn l in
     let q = numbers-in l g .alphabet-is in
@@ -98,7 +101,8 @@ module _ (es : List Entry) (payload : List ℕ) where
     unfolding readTextOut
     handed n = go (prescribedIn (drop numberLen payload)) found
       where
-        go : (o : Option Prescribed) → answered p ≡ orRefused prescriptionOf o → answered (record { number = jobNumber payload; prescription = p }) ≡ handPrescription es payload o
+        go : (o : Option Prescribed) → answered p ≡ orRefused prescriptionOf o
+            → answered (record { number = jobNumber payload; prescription = p }) ≡ handPrescription es payload o
         go none e = absurd (Option·none-ne-some p (sym (ap (λ (r : Answered Prescription). r .value) e)))
         go (some x) e =
             let same : some p ≡ some (prescriptionOf x) = ap (λ (r : Answered Prescription). r .value) e in

@@ -53,7 +53,8 @@ bits-below : (c : ℤ) → natAbs c ≤ 480 → bitsOf c < 65536
 bits-below (pos n) h = omega arith
 bits-below (negsuc n) h = omega arith
 
-six-below : (f : StoredEye) (xs : List ℕ) → f .kind < 256 → f .sphere < 65536 → f .cylinder < 65536 → f .axis < 256 → allBelow 256 xs ≡ true → allBelow 256 (bytesOf f ++ xs) ≡ true
+six-below : (f : StoredEye) (xs : List ℕ) → f .kind < 256 → f .sphere < 65536 → f .cylinder < 65536 → f .axis < 256 → allBelow 256 xs ≡ true
+    → allBelow 256 (bytesOf f ++ xs) ≡ true
 six-below f xs k s c a h =
     cons-below (f .kind) _ k (cons-below (f .sphere / 256) _ (omega arith) (cons-below (f .sphere % 256) _ (omega arith)
     (cons-below (f .cylinder / 256) _ (omega arith) (cons-below (f .cylinder % 256) _ (omega arith) (cons-below (f .axis) xs a h)))))
@@ -61,10 +62,12 @@ six-below f xs k s c a h =
 eye-below : (l : Lens) (xs : List ℕ) → keeps l ≡ true → allBelow 256 xs ≡ true → allBelow 256 (bytesOf (fieldsOf l) ++ xs) ≡ true
 unfolding fieldsOf
 eye-below plano xs k h = six-below (fieldsOf plano) xs (omega arith) (omega arith) (omega arith) (omega arith) h
-eye-below (sphere p) xs k h = six-below (fieldsOf (sphere p)) xs (omega arith) (bits-below p (let l = sphere-kept p k in omega arith)) (omega arith) (omega arith) h
+eye-below (sphere p) xs k h = six-below (fieldsOf (sphere p)) xs (omega arith) (bits-below p (let l = sphere-kept p k in omega arith)) (omega arith)
+    (omega arith) h
 eye-below (toric s c a) xs k h =
     let t = toric-kept s c a k in
-    six-below (fieldsOf (toric s c a)) xs (omega arith) (bits-below s (let l = t .sphere-in in omega arith)) (bits-below c (cylinder-in s c a t)) (let l = t .high in omega arith) h
+    six-below (fieldsOf (toric s c a)) xs (omega arith) (bits-below s (let l = t .sphere-in in omega arith)) (bits-below c (cylinder-in s c a t))
+    (let l = t .high in omega arith) h
 
 distance-below : (h : ℕ) → isDistance h ≡ true → h < 256
 distance-below h e = let l = leb→le h 160 (subst T (sym (both (leb 80 h) (leb h 160) e .1)) tt) in omega arith
@@ -84,7 +87,8 @@ payload-below : (K n : ℕ) (x : Prescribed) → n < 2 ^ 32 → KeepsRules x →
 unfolding prescriptionPayload numberBytes
 payload-below K n x h k =
     all-append (λ y. ltb y 256) (spell byteValues (replicate numberLen plain) n) (textOf (K - numberLen) x)
-    (spelled-plain byteValues numberLen (spell byteValues (replicate numberLen plain) n) (spell-spelled byteValues (replicate numberLen plain) n (number-fits n h)))
+    (spelled-plain byteValues numberLen (spell byteValues (replicate numberLen plain) n)
+    (spell-spelled byteValues (replicate numberLen plain) n (number-fits n h)))
     (text-below (K - numberLen) x k)
 
 number-length : (n : ℕ) → length (spell byteValues (replicate numberLen plain) n) ≡ 4
@@ -93,7 +97,8 @@ number-length n = length-spell byteValues (replicate numberLen plain) n ∙ leng
 pub number-back : (K n : ℕ) (x : Prescribed) → n < 2 ^ 32 → jobNumber (prescriptionPayload K n x) ≡ n
 unfolding jobNumber prescriptionPayload numberBytes
 number-back K n x h =
-    value-front byteValues (replicate 4 plain) (spell byteValues (replicate numberLen plain) n) (textOf (K - numberLen) x) (length-spell byteValues (replicate numberLen plain) n)
+    value-front byteValues (replicate 4 plain) (spell byteValues (replicate numberLen plain) n) (textOf (K - numberLen) x)
+    (length-spell byteValues (replicate numberLen plain) n)
     ∙ value-spell byteValues (replicate numberLen plain) n (number-fits n h)
 
 pub text-of-payload : (K n : ℕ) (x : Prescribed) → drop numberLen (prescriptionPayload K n x) ≡ textOf (K - numberLen) x
@@ -131,7 +136,8 @@ written-told d es at n p out e =
 -- ---- Reading it back
 
 module _ (d : Coding) (reads : ReadsWhereFit d) (es : List Entry) (at : Held) (n : ℕ) (p : Prescription) (x : Prescribed) (out : List ℕ)
-    (enough : minPayload ≤ payloadLen (d .codec .alphabet) (d .codec .messageLen)) (number : n < 2 ^ 32) (is : prescribedOf p ≡ some x) (sized : length (at .starts) ≡ maxBursts) where
+    (enough : minPayload ≤ payloadLen (d .codec .alphabet) (d .codec .messageLen)) (number : n < 2 ^ 32) (is : prescribedOf p ≡ some x)
+    (sized : length (at .starts) ≡ maxBursts) where
   prescription-reads : (w : List ℕ) → prescriptionWriteUnder d es at n p out .answer ≡ served → Word (d .codec) w
       → ((i : ℕ) → i < d .codec .wordLen → d .codec .spoilt (inUse at) i ≡ false → getD w i 0 ≡ getD (prescriptionWriteUnder d es at n p out .word) i 0)
       → prescriptionReadUnder d es w ≡ answered (record { number = n; prescription = prescriptionOf x })

@@ -27,7 +27,8 @@ use Rattle.jobs.specs.Letters.{kindOf, isLetter}
 use Rattle.jobs.proofs.Letters.{no-kind}
 use Rattle.records.specs.Session.{Session}
 use Rattle.lines.specs.Lines.{letterS, letterL, letterW, letterR}
-use Rattle.records.specs.Records.{recordHeadLen, isMarked, letterOf, ifFit, current, payloadLenOf, writeLen, readLen, recordLen, maxRecord, isWhole, readable, reach, begunLen, neededFor}
+use Rattle.records.specs.Records.{recordHeadLen, isMarked, letterOf, ifFit, current, payloadLenOf, writeLen, readLen, recordLen, maxRecord, isWhole}
+use Rattle.records.specs.Records.{readable, reach, begunLen, neededFor}
 use Rattle.records.specs.declared.CurrentAnswer.{CurrentAnswer}
 use Rattle.records.specs.declared.CurrentAnswer.the-variants.{Missing as NoFigures, Laid}
 use Rattle.records.specs.Bridge.{IsCurrent, Current, orZero}
@@ -94,7 +95,8 @@ unfolding recordLen
 record-most s letter = go (eqb letter letterS) (eqb letter letterL) (isLetter letter) (eqb letter letterW) (eqb letter letterR)
   where
     go : (a l b c d : Bool)
-        → orZero (cond a (some (recordHeadLen + 6)) (cond l (some (recordHeadLen + 5)) (cond b (some (recordHeadLen + 4)) (cond c (writeLen (current (s .figures))) (cond d (readLen (current (s .figures))) none))))) ≤ maxRecord
+        → orZero (cond a (some (recordHeadLen + 6)) (cond l (some (recordHeadLen + 5))
+        (cond b (some (recordHeadLen + 4)) (cond c (writeLen (current (s .figures))) (cond d (readLen (current (s .figures))) none))))) ≤ maxRecord
     go true l b c d = omega arith
     go false true b c d = omega arith
     go false false true c d = omega arith
@@ -129,7 +131,9 @@ unfolding recordLen
 reaches s letter = go (eqb letter letterS) (eqb letter letterL) (isLetter letter) (eqb letter letterW) (eqb letter letterR)
   where
     go : (a l b c d : Bool)
-        → recordHeadLen ≤ reach (cond a (some (recordHeadLen + 6)) (cond l (some (recordHeadLen + 5)) (cond b (some (recordHeadLen + 4)) (cond c (writeLen (current (s .figures))) (cond d (readLen (current (s .figures))) none)))))
+        → recordHeadLen ≤ reach (cond a (some (recordHeadLen + 6))
+        (cond l (some (recordHeadLen + 5)) (cond b (some (recordHeadLen + 4))
+        (cond c (writeLen (current (s .figures))) (cond d (readLen (current (s .figures))) none)))))
     go true l b c d = omega arith
     go false true b c d = omega arith
     go false false true c d = omega arith
@@ -264,7 +268,12 @@ whole-long s letter bytes h = whole-reaches bytes (recordLen s letter) (reaches 
 module _ (last : Option Figures) (f : Figures) (l : Layout) (is : IsCurrent last f l) (bytes : List ℕ) where
   pub write-long : isWhole bytes (writeLen (current last)) ≡ true → recordHeadLen + 2 * l .m ≤ length bytes
   write-long h =
-      omega (arith, whole-len bytes (writeLen (current last)) (recordHeadLen + 2 * codingOf f .bursts + payloadLenOf f) (ap writeLen (is .are)) h, is .numbers .bursts-is)
+      omega (
+        arith,
+        whole-len bytes (writeLen (current last)) (recordHeadLen + 2 * codingOf f .bursts + payloadLenOf f)
+            (ap writeLen (is .are)) h,
+        is .numbers .bursts-is,
+      )
 
   pub read-long : isWhole bytes (readLen (current last)) ≡ true → recordHeadLen ≤ length bytes
   read-long h = omega (arith, whole-len bytes (readLen (current last)) (recordHeadLen + codingOf f .codec .wordLen) (ap readLen (is .are)) h)

@@ -1,6 +1,8 @@
 // The refusal numbers of documents 01 and 02, one name each. Assumes nothing.
 ghost use mathlib.Core.Path.{_≡_};
-ghost use Rattle.refusals.specs.Refusals.{served, invalid, unfit, wrongLength, badSymbol, badStarts, uncovered, noPattern, valueTooLarge, disagrees, badPayload, badRecord, badPrescription, badDepth, erased, noMajority, surplusBytes, jobCancelled, alreadyOpen, notOpen, tableFull, numberZero, notCancelled, jobHeld, notHeld, refusals};
+ghost use Rattle.refusals.specs.Refusals.{served, invalid, unfit, wrongLength, badSymbol, badStarts, uncovered, noPattern, valueTooLarge, disagrees};
+ghost use Rattle.refusals.specs.Refusals.{badPayload, badRecord, badPrescription, badDepth, erased, noMajority, surplusBytes, jobCancelled};
+ghost use Rattle.refusals.specs.Refusals.{alreadyOpen, notOpen, tableFull, numberZero, notCancelled, jobHeld, notHeld, refusals};
 
 // The numbers stand under this name; 0 stands for an accepted call.
 pub struct Refusal {}

@@ -75,7 +75,8 @@ module _ (f : Figures) (at : Held) (ms ds w out : List ℕ) (h : Writable (codin
 
   pub is-written : encodeUnder (codingOf f) at ms w .word ≡ codingOf f .codec .encode (inUse at) ms
   is-written =
-      ap (λ (o : Encoded). o .word) (encode-served d at ms w (h .range) (h .fit) (h .count) (h .sent) (h .word-len) (apart-of f (inUse at) (h .placed)) (h .symbols))
+      ap (λ (o : Encoded). o .word) (encode-served d at ms w (h .range) (h .fit) (h .count) (h .sent) (h .word-len) (apart-of f (inUse at) (h .placed))
+      (h .symbols))
 
   -- what is written, and what is found once it is damaged
   abbrev codeword : List ℕ
@@ -95,7 +96,8 @@ module _ (f : Figures) (at : Held) (ms ds w out : List ℕ) (h : Writable (codin
 
   found-below : allBelow (d .codec .foundBound) found ≡ true
   found-below =
-      damaged-below (inBurst (d .burstLen) (inUse at)) ds codeword (d .codec .alphabet) (d .codec .foundBound) (omega (arith, small f (h .range) .alphabet-least)) (more-found f)
+      damaged-below (inBurst (d .burstLen) (inUse at)) ds codeword (d .codec .alphabet) (d .codec .foundBound)
+      (omega (arith, small f (h .range) .alphabet-least)) (more-found f)
       (h .damage-symbols)
       (reads f (h .range) (h .fit) .written (inUse at) ms (h .placed) (h .sent) (h .symbols) .1)
 
@@ -111,4 +113,5 @@ module _ (f : Figures) (at : Held) (ms ds w out : List ℕ) (h : Writable (codin
   pub reads-back : decodeUnder (codingOf f) found out ≡ readBack (codingOf f) (inUse at) ms
   reads-back =
       decode-read d found out (h .range) (h .fit) found-len (h .read-len) found-below
-      ∙ ap (decodedFrom (d .burstLen) out) (reads f (h .range) (h .fit) .exactly found (inUse at) ms (record { complete = found-len; symbols = found-below }) .1 leads)
+      ∙ ap (decodedFrom (d .burstLen) out) (reads f (h .range) (h .fit) .exactly found (inUse at) ms
+      (record { complete = found-len; symbols = found-below }) .1 leads)

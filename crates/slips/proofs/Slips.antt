@@ -15,7 +15,8 @@ use Rattle.combinatorics.proofs.Stretch.{members-ext, length-members}
 use Rattle.cells.specs.Cells.{Cell, burst, fixed, digit, message, is, weave, pick}
 use Rattle.cells.specs.Codec.{Codec, accepted, Word, LeadsTo, Exact}
 use Rattle.cells.specs.Digits.{spell, places}
-use Rattle.cells.proofs.Cells.{Clean, pick-at, pick-alike, pick-small, length-pick, no-burst, digits-woven, message-woven, woven-clean, clean-at, at-clean, clean-agrees, agree-at}
+use Rattle.cells.proofs.Cells.{Clean, pick-at, pick-alike, pick-small, length-pick, no-burst, digits-woven, message-woven, woven-clean, clean-at, at-clean}
+use Rattle.cells.proofs.Cells.{clean-agrees, agree-at}
 use Rattle.cells.proofs.Digits.{length-spell, length-places}
 use Rattle.cells.proofs.Erasures.{found-least}
 use Rattle.cells.proofs.Plan.{kind-burst, digit-count as digits-in}
@@ -105,7 +106,8 @@ module _ (c : Codec) (kind : List ℕ → ℕ → Cell) (digits : List ℕ → L
         outside = λ x lx out.
             rw (planned .woven starts (pick message (tabulate (c .wordLen) 0 (kind starts)) w′), ← digits-there)
             (agree-at (c .wordLen) 0 x (kind starts) w′
-            (weave (tabulate (c .wordLen) 0 (kind starts)) (pick digit (tabulate (c .wordLen) 0 (kind starts)) w′) (pick message (tabulate (c .wordLen) 0 (kind starts)) w′))
+            (weave (tabulate (c .wordLen) 0 (kind starts)) (pick digit (tabulate (c .wordLen) 0 (kind starts)) w′)
+            (pick message (tabulate (c .wordLen) 0 (kind starts)) w′))
             (clean-agrees (tabulate (c .wordLen) 0 (kind starts)) w′ clean) (omega arith) (omega arith) (planned .bursts starts (l .placement) x ∙ out));
       }
 
@@ -118,7 +120,8 @@ module _ (c : Codec) (kind : List ℕ → ℕ → Cell) (digits : List ℕ → L
             let k : x < c .wordLen = omega (arith, s .complete) in
             by-bool (is message (kind starts x))
             (λ t. omega (arith, s .symbols x k t, planned .found))
-            (λ t. rw (s .elsewhere x k t) (below-at (c .foundBound) w (some-below (c .foundBound) w (seen .symbols) (omega (arith, seen .complete))) (seen .symbols) x)));
+            (λ t. rw (s .elsewhere x k t) (below-at (c .foundBound) w (some-below (c .foundBound) w (seen .symbols) (omega (arith, seen .complete)))
+            (seen .symbols) x)));
       }
 
   -- the cells that differ

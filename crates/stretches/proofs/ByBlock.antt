@@ -54,7 +54,8 @@ module _ {g : Frame} {b : ℕ} {ss : List ℕ} (w : Walkable g b ss) where
       by-le (suc j) k (λ _. j ≡ k) (λ q. absurd (omega (arith, t .past, rises (suc j) k q (omega arith))))
       (λ q. by-le (suc k) j (λ _. j ≡ k) (λ r. absurd (omega (arith, t .reach, t .below, rises (suc k) j r (omega (arith, t .below))))) (λ r. omega arith))
 
-  pub kind-is : (k x : ℕ) → k < g .blocks → g .head k ≤ x → x < g .head (suc k) → kindIn g x ≡ cellOf (g .tail) (g .runs x) (g .isIndex k) (g .isBurst k) (x - g .head k)
+  pub kind-is : (k x : ℕ) → k < g .blocks → g .head k ≤ x → x < g .head (suc k)
+      → kindIn g x ≡ cellOf (g .tail) (g .runs x) (g .isIndex k) (g .isBurst k) (x - g .head k)
   kind-is k x l a c = rw (in-block k x l a c)
 
   -- a start before the word's end is a burst's
@@ -234,7 +235,8 @@ module _ {g : Frame} {b : ℕ} {ss : List ℕ} (w : Walkable g b ss) where
                       within = omega (arith, s, inside);
                       counted = omega arith;
                       behind = λ j r.
-                          by-le (suc j) i (λ _. getD ss j 0 + b ≤ nextStart (g .wordLen) ss i + b) (λ d. omega (arith, e .between .behind j d, e .between .ahead))
+                          by-le (suc j) i (λ _. getD ss j 0 + b ≤ nextStart (g .wordLen) ss i + b)
+                          (λ d. omega (arith, e .between .behind j d, e .between .ahead))
                           (λ d. let same : j ≡ i = omega arith in rw (same, s) (omega arith));
                       ahead = rw (add-one i) (omega (arith, s, start-next i n));
                     };
@@ -320,7 +322,8 @@ module _ {w : Walk} {at : Placement} {heads kinds : List ℕ} (ok : Walks w at h
   head-len k l = go (getD kinds k 0) (ok .three k l)
     where
       go : (kind : ℕ) → kind ≤ indexKind
-          → cond (eqb kind indexKind) (suc (w .«head_len» - 1)) (cond (eqb kind burstKind) 0 1) ≡ cond (eqb kind indexKind) (w .«head_len») (cond (eqb kind fixedKind) 1 0)
+          → cond (eqb kind indexKind) (suc (w .«head_len» - 1)) (cond (eqb kind burstKind) 0 1) ≡ cond (eqb kind indexKind) (w .«head_len»)
+          (cond (eqb kind fixedKind) 1 0)
       go zero q = refl
       go (suc zero) q = refl
       go (suc (suc zero)) q = len-is
@@ -329,7 +332,8 @@ module _ {w : Walk} {at : Placement} {heads kinds : List ℕ} (ok : Walks w at h
   -- the plan that the walk goes by is one whose cells are, block by block, what the tables say
   pub plan-by : (kd : ℕ → Cell)
       → ((k x : ℕ) → k < w .blocks → getD heads k 0 ≤ x → x < getD heads (suc k) 0
-      → kd x ≡ cellOf (w .«head_len» - 1) (inBurst (w .b) (startsIn at) x) (eqb (getD kinds k 0) indexKind) (eqb (getD kinds k 0) burstKind) (x - getD heads k 0))
+      → kd x ≡ cellOf (w .«head_len» - 1) (inBurst (w .b) (startsIn at) x) (eqb (getD kinds k 0) indexKind) (eqb (getD kinds k 0) burstKind)
+      (x - getD heads k 0))
       → planIn (frameBy w heads kinds (startsIn at)) ≡ tabulate (w .n) 0 kd
   plan-by kd same =
       same-plan (w .n) 0 (kindIn (frameBy w heads kinds (startsIn at))) kd

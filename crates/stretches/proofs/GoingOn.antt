@@ -53,5 +53,6 @@ cells-taken {w} {at} {heads} {kinds} {ws} {out} {out′} {from} {here} R to up i
       walks = R .walks;
       whole = R .whole;
       so-far =
-          taken-turn (w .n) (kindIn (frameBy w heads kinds (startsIn at))) ws (from .at) to (from .taken) out (R .so-far) up in-word message same refl (R .whole) out′ (m .size) (m .made);
+          taken-turn (w .n) (kindIn (frameBy w heads kinds (startsIn at))) ws (from .at) to (from .taken) out (R .so-far) up in-word message same refl
+          (R .whole) out′ (m .size) (m .made);
     }

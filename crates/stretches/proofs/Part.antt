@@ -18,7 +18,8 @@ part-made x to out part body h l k e =
     ∙ ap (λ (r : List ℕ). take x out ++ r) (take-append-le (to - x) part rest k ∙ e)
 
 -- what is behind the part is not touched, and nothing before it
-pub part-put : (x to : ℕ) (out part body : List ℕ) → x ≤ to → to ≤ length out → length part ≡ length (take (length out - x) (drop x out)) → take (to - x) part ≡ body
+pub part-put : (x to : ℕ) (out part body : List ℕ) → x ≤ to → to ≤ length out → length part ≡ length (take (length out - x) (drop x out))
+    → take (to - x) part ≡ body
     → (take to (putMid x (length out - x) out part) ≡ take x out ++ body) × (length (putMid x (length out - x) out part) ≡ length out)
 part-put x to out part body up room size made =
     let whole : length part ≡ length out - x = size ∙ ap length (rest-is x out) ∙ length-drop x out in

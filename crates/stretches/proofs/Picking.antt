@@ -18,7 +18,8 @@ module _ (n : ℕ) (kd : ℕ → Cell) (w : List ℕ) where
   unfolding tabulate pick tally
   taken-start out e = record { made = refl; count = refl; size = e }
 
-  module _ (x to taken : ℕ) (out : List ℕ) (s : Taken n kd w x out taken) (l : x ≤ to) (h : to ≤ n) (kind : Cell) (same : (y : ℕ) → x ≤ y → y < to → kd y ≡ kind) where
+  module _ (x to taken : ℕ) (out : List ℕ) (s : Taken n kd w x out taken) (l : x ≤ to) (h : to ≤ n) (kind : Cell)
+      (same : (y : ℕ) → x ≤ y → y < to → kd y ≡ kind) where
     longer : tabulate to 0 kd ≡ tabulate x 0 kd ++ replicate (to - x) kind
     longer = plan-stretch x to kd kind l same
 
@@ -36,25 +37,29 @@ module _ (n : ℕ) (kd : ℕ → Cell) (w : List ℕ) where
         record {
           made =
               s .made
-              ∙ sym (picked ∙ ap (λ (r : List ℕ). pick message (tabulate x 0 kd) w ++ r) (pick-other message kind (to - x) (drop x w) o) ∙ append-nil (pick message (tabulate x 0 kd) w));
+              ∙ sym (picked ∙ ap (λ (r : List ℕ). pick message (tabulate x 0 kd) w ++ r) (pick-other message kind (to - x) (drop x w) o)
+              ∙ append-nil (pick message (tabulate x 0 kd) w));
           count = omega (arith, s .count, counted, tally-other message kind (to - x) o);
           size = s .size;
         }
 
     -- one of message cells is copied; what lies behind it may be anything
-    pub taken-turn : is message kind ≡ true → length w ≡ n → (out′ : List ℕ) → length out′ ≡ length out → take (taken + (to - x)) out′ ≡ take taken out ++ take (to - x) (drop x w)
+    pub taken-turn : is message kind ≡ true → length w ≡ n → (out′ : List ℕ) → length out′ ≡ length out
+        → take (taken + (to - x)) out′ ≡ take taken out ++ take (to - x) (drop x w)
         → Taken n kd w to out′ (taken + (to - x))
     taken-turn c whole out′ d put =
         record {
           made =
               put ∙ ap (λ (r : List ℕ). r ++ take (to - x) (drop x w)) (s .made)
-              ∙ sym (picked ∙ ap (λ (r : List ℕ). pick message (tabulate x 0 kd) w ++ r) (pick-same message kind (to - x) (drop x w) c (omega (arith, whole, length-drop x w))));
+              ∙ sym (picked ∙ ap (λ (r : List ℕ). pick message (tabulate x 0 kd) w ++ r)
+              (pick-same message kind (to - x) (drop x w) c (omega (arith, whole, length-drop x w))));
           count = omega (arith, s .count, counted, tally-same message kind (to - x) c);
           size = s .size ∙ sym d;
         }
 
   -- there is room for one stretch more
-  pub taken-room : (x to taken : ℕ) (out : List ℕ) → Taken n kd w x out taken → x ≤ to → to ≤ n → ((y : ℕ) → x ≤ y → y < to → kd y ≡ message) → taken + (to - x) ≤ length out
+  pub taken-room : (x to taken : ℕ) (out : List ℕ) → Taken n kd w x out taken → x ≤ to → to ≤ n → ((y : ℕ) → x ≤ y → y < to → kd y ≡ message)
+      → taken + (to - x) ≤ length out
   taken-room x to taken out s l h same = omega (arith, s .count, s .size, message-most n kd x to l h same)
 
   pub taken-done : (taken : ℕ) (out : List ℕ) → Taken n kd w n out taken → out ≡ pick message (tabulate n 0 kd) w

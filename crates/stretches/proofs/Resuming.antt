@@ -49,8 +49,10 @@ module _ {w : Walk} {at : Placement} {heads kinds ds ms out : List ℕ} {x index
 
     goes-on : (kind indexed′ sent′ : ℕ) (out′ : List ℕ) → Kind (cellNamed kind) x to → kind ≤ 3
         → Enough (cellNamed kind) (to - x) (drop (indexed * w .«head_len») (digitsBy w kinds ds)) (drop sent ms)
-        → take to out′ ≡ take x out ++ content (cellNamed kind) (to - x) (drop (indexed * w .«head_len») (digitsBy w kinds ds)) (drop sent ms) → length out′ ≡ length out
-        → indexed′ * w .«head_len» ≡ indexed * w .«head_len» + cond (eqb kind 2) (to - x) 0 → sent′ ≡ sent + cond (eqb kind 3) (to - x) 0 → On out′ to indexed′ sent′
+        → take to out′ ≡ take x out ++ content (cellNamed kind) (to - x) (drop (indexed * w .«head_len») (digitsBy w kinds ds)) (drop sent ms)
+        → length out′ ≡ length out
+        → indexed′ * w .«head_len» ≡ indexed * w .«head_len» + cond (eqb kind 2) (to - x) 0 → sent′ ≡ sent + cond (eqb kind 3) (to - x) 0
+        → On out′ to indexed′ sent′
     goes-on kind indexed′ sent′ out′ same few enough made size a b =
         record {
           walks = R .walks;
@@ -58,7 +60,8 @@ module _ {w : Walk} {at : Placement} {heads kinds ds ms out : List ℕ} {x index
           message-lent = R .message-lent;
           filled =
               rw (a, b)
-              (filled-turn (w .n) (kindIn (frameBy w heads kinds (startsIn at))) (digitsBy w kinds ds) ms x to kind (indexed * w .«head_len») sent out out′ (R .filled) up same few enough made
+              (filled-turn (w .n) (kindIn (frameBy w heads kinds (startsIn at))) (digitsBy w kinds ds) ms x to kind (indexed * w .«head_len») sent out out′
+              (R .filled) up same few enough made
               (size ∙ R .filled .size));
         }
 
@@ -88,11 +91,13 @@ module _ {w : Walk} {at : Placement} {heads kinds ds ms out : List ℕ} {x index
 -- ---- By what the functions that fill give back
 
 module _ {w : Walk} {at : Placement} {heads kinds ds ms out out′ : List ℕ} {from here : Filling} (R : FilledTo w at heads kinds ds ms out from) where
-  pub message-filled : (to : ℕ) → from .at ≤ to → to ≤ w .n → Cells (frameBy w heads kinds (startsIn at)) message (from .at) to → MessageFilled ms out out′ to from here
+  pub message-filled : (to : ℕ) → from .at ≤ to → to ≤ w .n → Cells (frameBy w heads kinds (startsIn at)) message (from .at) to
+      → MessageFilled ms out out′ to from here
       → FilledTo w at heads kinds ds ms out′ here
   message-filled to up in-word same m = rw (m .at-is, m .indexed-is) (message-on R to up in-word (here .sent) out′ same (m .made) (m .size) (m .sent-is))
 
-  pub burst-filled : from .at + w .b ≤ w .n → Cells (frameBy w heads kinds (startsIn at)) burst (from .at) (from .at + w .b) → BurstFilled (w .b) out out′ from here
+  pub burst-filled : from .at + w .b ≤ w .n → Cells (frameBy w heads kinds (startsIn at)) burst (from .at) (from .at + w .b)
+      → BurstFilled (w .b) out out′ from here
       → FilledTo w at heads kinds ds ms out′ here
   burst-filled in-word same m =
       let len : from .at + w .b - from .at ≡ w .b = omega arith in

@@ -26,7 +26,8 @@ use Rattle.sub_blocks.proofs.Voting.{small}
 
 module _ (l : LarssonLayout) (w : List ℕ) (i : ℕ) where
   -- what Horner's rule gives for its symbols
-  pub spelled-is : (part : List ℕ) → part ≡ subSymbols (larssonFiguresOf l) w i → 0 * span (l .q) (plainPlaces part) + value (l .q) (plainPlaces part) part ≡ spelledAt (larssonFiguresOf l) w i
+  pub spelled-is : (part : List ℕ) → part ≡ subSymbols (larssonFiguresOf l) w i
+      → 0 * span (l .q) (plainPlaces part) + value (l .q) (plainPlaces part) part ≡ spelledAt (larssonFiguresOf l) w i
   unfolding spelledAt
   spelled-is part e =
       let xs = subSymbols (larssonFiguresOf l) w i in
@@ -42,11 +43,13 @@ kind-test true = refl
 kind-test false = refl
 
 -- by what an array of kinds says of a placement's bearers
-pub agrees-by : (l : LarssonLayout) (w : List ℕ) (i : ℕ) → FoundWord l w → SubBlockValued (larssonFiguresOf l) w i → (ss kinds : List ℕ) → BearersOf (larssonFiguresOf l) ss kinds
+pub agrees-by : (l : LarssonLayout) (w : List ℕ) (i : ℕ) → FoundWord l w → SubBlockValued (larssonFiguresOf l) w i → (ss kinds : List ℕ)
+    → BearersOf (larssonFiguresOf l) ss kinds
     → not (has (subBlocks (larssonFiguresOf l)) 0 (Other l w i kinds)) ≡ agrees (larssonFiguresOf l) w (spelledAt (larssonFiguresOf l) w i) ss
 unfolding agrees
 agrees-by l w i g h ss kinds is =
     let f = larssonFiguresOf l in
     let v = spelledAt f w i in
     ap not (has-ext (subBlocks f) 0 (Other l w i kinds) (λ x. bears f ss x && not (isValue v (subValue f w x)))
-    (λ x _ k. ap₂ (λ (a b : Bool). a && not b) (ap (λ (y : ℕ). eqb y indexKind) (is x (omega arith)) ∙ kind-test (bears f ss x)) (sym (holds-same f w (small l w g) x i v (h .valued)))))
+    (λ x _ k. ap₂ (λ (a b : Bool). a && not b) (ap (λ (y : ℕ). eqb y indexKind) (is x (omega arith)) ∙ kind-test (bears f ss x))
+    (sym (holds-same f w (small l w g) x i v (h .valued)))))

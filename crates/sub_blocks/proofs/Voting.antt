@@ -46,7 +46,8 @@ module _ (f : ℕ → ℕ) (a b : ℕ) where
   pub stretches-differ : (n j : ℕ) → j < n → f (a + j) ≢ f (b + j) → sameList (tabulate n a f) (tabulate n b f) ≡ false
   stretches-differ n j l d =
       by-bool (sameList (tabulate n a f) (tabulate n b f))
-      (λ t. absurd (d (sym (tabulate-at n a j f l) ∙ ap (λ (xs : List ℕ). getD xs j 0) (list-same (tabulate n a f) (tabulate n b f) t) ∙ tabulate-at n b j f l)))
+      (λ t. absurd (d (sym (tabulate-at n a j f l) ∙ ap (λ (xs : List ℕ). getD xs j 0) (list-same (tabulate n a f) (tabulate n b f) t)
+      ∙ tabulate-at n b j f l)))
       (λ t. t)
 
 -- ---- The sub-blocks of a found word
@@ -56,7 +57,8 @@ module _ (l : LarssonLayout) (w : List ℕ) (g : FoundWord l w) where
   small = below-at (foundBound (l .q)) w (omega (arith, found-least (l .q), bound l (g .layout) .q-least)) (g .symbols)
 
   -- one of them, by where it starts
-  pub symbols-from : (i from : ℕ) → from ≡ subStart (larssonFiguresOf l) i → tabulate (l .«sub_len») from (λ x. getD w x 0) ≡ subSymbols (larssonFiguresOf l) w i
+  pub symbols-from : (i from : ℕ) → from ≡ subStart (larssonFiguresOf l) i
+      → tabulate (l .«sub_len») from (λ x. getD w x 0) ≡ subSymbols (larssonFiguresOf l) w i
   unfolding subSymbols
   symbols-from i from e = rw (e, g .layout .laid .sub-is)
 
@@ -65,7 +67,8 @@ module _ (l : LarssonLayout) (w : List ℕ) (g : FoundWord l w) where
       → take (from + l .«sub_len» - from) (drop from w) ≡ subSymbols (larssonFiguresOf l) w i
   part-is i from h e =
       let n : from + l .«sub_len» - from ≡ l .«sub_len» = omega arith in
-      (rw n (take-is (l .«sub_len») from (drop from w) (λ x. getD w x 0) (omega (arith, e, length-drop from w, sub-room l (g .layout) i h, g .complete)) (λ j _. getD-drop from w j 0)))
+      (rw n (take-is (l .«sub_len») from (drop from w) (λ x. getD w x 0) (omega (arith, e, length-drop from w, sub-room l (g .layout) i h, g .complete))
+      (λ j _. getD-drop from w j 0)))
       ∙ symbols-from i from e
 
   module _ (i : ℕ) where
@@ -92,20 +95,24 @@ module _ (l : LarssonLayout) (w : List ℕ) (g : FoundWord l w) where
         let v = spelledAt f w i in
         let is = has-value e in
         let each : count (subBlocks f) 0 (λ j. isValue v (subValue f w j)) ≡ count (subBlocks f) 0 (λ j. sameList (subSymbols f w j) (subSymbols f w i)) =
-        count-ext (subBlocks f) 0 (λ j. isValue v (subValue f w j)) (λ j. sameList (subSymbols f w j) (subSymbols f w i)) (λ j _ _. holds-same f w small j i v is) in
+        count-ext (subBlocks f) 0 (λ j. isValue v (subValue f w j)) (λ j. sameList (subSymbols f w j) (subSymbols f w i))
+        (λ j _ _. holds-same f w small j i v is) in
         rw is (ap (ltb (l .m)) (n ∙ sym each))
 
     -- a search that comes to a common value has the majority
     pub majority-here : i < subBlocks (larssonFiguresOf l)
-        → hasCommon (subBlocks (larssonFiguresOf l)) (suc (l .m)) (subValue (larssonFiguresOf l) w) (subValue (larssonFiguresOf l) w i) ≡ true → MajorityAt (larssonFiguresOf l) w i
+        → hasCommon (subBlocks (larssonFiguresOf l)) (suc (l .m)) (subValue (larssonFiguresOf l) w) (subValue (larssonFiguresOf l) w i) ≡ true
+        → MajorityAt (larssonFiguresOf l) w i
     majority-here h t =
         let f = larssonFiguresOf l in
         let is : subValue f w i ≡ some (spelledAt f w i) =
-        by-bool (allBelow (l .q) (subSymbols f w i)) has-value (λ e. absurd (true≢false (sym t ∙ ap (hasCommon (subBlocks f) (suc (l .m)) (subValue f w)) (no-value e)))) in
+        by-bool (allBelow (l .q) (subSymbols f w i)) has-value (λ e. absurd
+        (true≢false (sym t ∙ ap (hasCommon (subBlocks f) (suc (l .m)) (subValue f w)) (no-value e)))) in
         record { holding = λ _. record { within = h; valued = is }; taken = λ _. found-at f w i (spelledAt f w i) is t; nowhere = λ k. absurd (omega arith) }
 
   -- and one that has seen the first m + 1 knows that there is none
-  pub majority-none : ((i : ℕ) → i < suc (l .m) → hasCommon (subBlocks (larssonFiguresOf l)) (suc (l .m)) (subValue (larssonFiguresOf l) w) (subValue (larssonFiguresOf l) w i) ≡ false)
+  pub majority-none : ((i : ℕ) → i < suc (l .m) → hasCommon (subBlocks (larssonFiguresOf l)) (suc (l .m)) (subValue (larssonFiguresOf l) w)
+      (subValue (larssonFiguresOf l) w i) ≡ false)
       → MajorityAt (larssonFiguresOf l) w (2 * l .m + 1)
   majority-none h =
       record { holding = λ k. absurd (omega arith); taken = λ k. absurd (omega arith); nowhere = λ _. found-nowhere (larssonFiguresOf l) w h }

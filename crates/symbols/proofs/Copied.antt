@@ -9,14 +9,16 @@ use Rattle.combinatorics.proofs.Lists.{fill-turn}
 use borrow.Rule.Slice.PartMut.{putMid}
 
 -- one symbol more, by way of a list that starts with it too
-pub fill-over : (out room t : List ℕ) (i size : ℕ) → i < size → size ≤ length room → i < length out → size ≤ length t → take size room ≡ take size t → take i out ≡ take i t
+pub fill-over : (out room t : List ℕ) (i size : ℕ) → i < size → size ≤ length room → i < length out → size ≤ length t → take size room ≡ take size t
+    → take i out ≡ take i t
     → take (i + 1) (set out i (getD room i 0)) ≡ take (i + 1) t
 fill-over out room t i size h r o l e f =
     let same : getD room i 0 ≡ getD t i 0 = sym (getD-take size room i 0 h) ∙ ap (λ (x : List ℕ). getD x i 0) e ∙ getD-take size t i 0 h in
     rw same (fill-turn out t i o (omega arith) f)
 
 -- a part more: what is copied so far, and the first symbols of a part from there on; what lies behind them may be anything
-pub copied-turn : (d n : ℕ) (out t part : List ℕ) → d ≤ length out → n ≤ length part → take d out ≡ take d t → take n part ≡ take n (take (length t - d) (drop d t))
+pub copied-turn : (d n : ℕ) (out t part : List ℕ) → d ≤ length out → n ≤ length part → take d out ≡ take d t
+    → take n part ≡ take n (take (length t - d) (drop d t))
     → take (d + n) (putMid d (length out - d) out part) ≡ take (d + n) t
 copied-turn d n out t part l k e f =
     let p = take d out in
@@ -47,7 +49,8 @@ first-zeros zero m l = refl
 first-zeros (suc n) zero l = absurd (omega arith)
 first-zeros (suc n) (suc m) l = ap (λ (r : List ℕ). 0 ∷ r) (first-zeros n m (omega arith))
 
-pub cleared-front : (len : ℕ) (out part rest : List ℕ) → len ≤ length out → part ≡ replicate (length (take len out)) 0 → take len (part ++ rest) ≡ replicate len 0
+pub cleared-front : (len : ℕ) (out part rest : List ℕ) → len ≤ length out → part ≡ replicate (length (take len out)) 0
+    → take len (part ++ rest) ≡ replicate len 0
 cleared-front len out part rest l e =
     let z : part ≡ replicate len 0 = rw (← length-take-le len out l) e in
     take-at part rest len (ap length z ∙ length-replicate {A = ℕ} len 0) ∙ z

@@ -19,7 +19,8 @@ use Rattle.payloads.specs.Payload.{jobNumber}
 use Rattle.records.proofs.Lengths.{reaches}
 use Rattle.records.specs.Session.{Session, atStart, maxRecords}
 use Rattle.lines.specs.Lines.{stopLine, endLine, letterS, letterL, letterW, letterR}
-use Rattle.records.specs.Records.{recordHeadLen, letterOf, isMarked, isEmpty, current, writeLen, readLen, recordLen, isWhole, readable, figuresIn, longFiguresIn, reach}
+use Rattle.records.specs.Records.{recordHeadLen, letterOf, isMarked, isEmpty, current, writeLen, readLen, recordLen, isWhole, readable, figuresIn}
+use Rattle.records.specs.Records.{longFiguresIn, reach}
 use Rattle.transfer.specs.Steps.{Step, stopped, ended, figuresStep, callStep, writeOut, readOut, serveOut, stepOut}
 use Rattle.transfer.specs.Program.{nextRecord, behind, printedFrom, printed, Steps, lastStep, step, StepsPrint}
 
@@ -47,7 +48,9 @@ module _ (s : Session) (bytes : List ℕ) where
   serve-goes letter = go (eqb letter letterS) (eqb letter letterL) (isLetter letter) (eqb letter letterW) (eqb letter letterR)
     where
       go : (a l b c d : Bool)
-          → isWhole bytes (cond a (some (recordHeadLen + 6)) (cond l (some (recordHeadLen + 5)) (cond b (some (recordHeadLen + 4)) (cond c (writeLen (current (s .figures))) (cond d (readLen (current (s .figures))) none))))) ≡ true
+          → isWhole bytes
+          (cond a (some (recordHeadLen + 6)) (cond l (some (recordHeadLen + 5))
+          (cond b (some (recordHeadLen + 4)) (cond c (writeLen (current (s .figures))) (cond d (readLen (current (s .figures))) none))))) ≡ true
           → Goes s (cond a (figuresStep s letter (figuresIn bytes) (figuresUnder (codingOf (figuresIn bytes))))
           (cond l (figuresStep s letter (longFiguresIn bytes) (figuresUnder (codingOf (longFiguresIn bytes))))
           (cond b (callStep s letter (callBy (kindOf letter) (s .table) (jobNumber (drop recordHeadLen bytes))))
@@ -170,10 +173,12 @@ module _ (last : List ℕ) where
         let e : stepOf s input ≡ stopped s = step-is s input false (leb-fails (suc (s .count)) maxRecords (omega arith)) ∙ rw more in
         rw more (sym (ap (λ (o : Step). o .line) e))
     stops-by (suc left) h stop =
-        go (readable s (nextRecord s input)) (λ r. readable-goes s (nextRecord s input) r) (step-is s input true (leb-holds (suc (s .count)) maxRecords (omega arith)) ∙ rw more)
+        go (readable s (nextRecord s input)) (λ r. readable-goes s (nextRecord s input) r)
+        (step-is s input true (leb-holds (suc (s .count)) maxRecords (omega arith)) ∙ rw more)
       where
         go : (r : Bool) → (r ≡ true → Goes s (servedOf s input)) → stepOf s input ≡ must r (stopped s) (servedOf s input)
-            → cond (isEmpty input) last (must r stopLine (servedOf s input .line ++ printedFrom last left (servedOf s input .next) (behind s input))) ≡ stepOf s input .line
+            → cond (isEmpty input) last (must r stopLine (servedOf s input .line ++ printedFrom last left (servedOf s input .next) (behind s input)))
+            ≡ stepOf s input .line
         go true g e = absurd (true≢false (sym stop ∙ ap (λ (o : Step). o .stops) e ∙ g refl .goes))
         go false g e = rw more (sym (ap (λ (o : Step). o .line) e))
 

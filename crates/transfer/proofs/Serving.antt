@@ -40,7 +40,8 @@ module _ (r : StepAnswer) (before line : List ℕ) where
         → Shown r before line (goesOn (nextSession s (s .figures) (s .table)) (refusalLine letter a)) → Shown r before line (jobStep s letter a′ fields)
     shown-refused a a′ fields e h is =
         subst (λ (x : ℕ). Shown r before line (jobStep s letter x fields)) e
-        (subst (λ (t : Bool). Shown r before line (goesOn (nextSession s (s .figures) (s .table)) (must t (refusalLine letter a) (servedLine letter fields)))) (sym (eqb-other a served h)) is)
+        (subst (λ (t : Bool). Shown r before line (goesOn (nextSession s (s .figures) (s .table))
+        (must t (refusalLine letter a) (servedLine letter fields)))) (sym (eqb-other a served h)) is)
 
     pub shown-served : (a a′ : ℕ) (fields fields′ : List (List ℕ)) → a ≡ a′ → a ≡ served → fields ≡ fields′
         → Shown r before line (goesOn (nextSession s (s .figures) (s .table)) (servedLine letter fields)) → Shown r before line (jobStep s letter a′ fields′)
@@ -54,11 +55,15 @@ module _ (r : StepAnswer) (before line : List ℕ) where
 pub read-number : (d : Coding) (es : List Entry) (w out : List ℕ) → jobReadUnder d es w out .answer ≡ served → 4 ≤ length out
 unfolding jobReading
 read-number d es w out =
-    go (d .inRange && not (twice es)) (d .fits) (carriesJob (d .codec .alphabet) (d .codec .messageLen)) (carries-five (d .codec .alphabet) (d .codec .messageLen)) (eqb (length w) (d .codec .wordLen))
-    (eqb (length out) (payloadLen (d .codec .alphabet) (d .codec .messageLen))) (eqb-true (length out) (payloadLen (d .codec .alphabet) (d .codec .messageLen))) _
+    go (d .inRange && not (twice es)) (d .fits) (carriesJob (d .codec .alphabet) (d .codec .messageLen))
+    (carries-five (d .codec .alphabet) (d .codec .messageLen)) (eqb (length w) (d .codec .wordLen))
+    (eqb (length out) (payloadLen (d .codec .alphabet) (d .codec .messageLen)))
+    (eqb-true (length out) (payloadLen (d .codec .alphabet) (d .codec .messageLen))) _
   where
-    go : (a b c : Bool) → (c ≡ true → 5 ≤ payloadLen (d .codec .alphabet) (d .codec .messageLen)) → (x e : Bool) → (e ≡ true → length out ≡ payloadLen (d .codec .alphabet) (d .codec .messageLen)) → (rest : JobRead)
-        → must a (withhold out invalid) (must b (withhold out unfit) (must c (withhold out badPayload) (must (x && e) (withhold out wrongLength) rest))) .answer ≡ served
+    go : (a b c : Bool) → (c ≡ true → 5 ≤ payloadLen (d .codec .alphabet) (d .codec .messageLen)) → (x e : Bool)
+        → (e ≡ true → length out ≡ payloadLen (d .codec .alphabet) (d .codec .messageLen)) → (rest : JobRead)
+        → must a (withhold out invalid) (must b (withhold out unfit)
+        (must c (withhold out badPayload) (must (x && e) (withhold out wrongLength) rest))) .answer ≡ served
         → 4 ≤ length out
     go false b c k x e l rest h = absurd (omega (arith, h))
     go true false c k x e l rest h = absurd (omega (arith, h))

@@ -63,7 +63,8 @@ readStep s out = jobStep s letterR (out .answer) (hex (take 4 (out .payload)) �
 -- the lent word holds 0 before it is written, and the lent payload before it is read: what a refused job leaves there is not printed
 abbrev pub writeOut : Session → List ℕ → Option Figures → Step
 writeOut s bytes none = stopped s
-writeOut s bytes (some f) = writeStep s (jobWriteUnder (codingOf f) (s .table) (recordStarts f bytes) (payloadOf f bytes) (replicate (codingOf f .codec .wordLen) 0))
+writeOut s bytes (some f) = writeStep s (jobWriteUnder (codingOf f) (s .table) (recordStarts f bytes) (payloadOf f bytes)
+    (replicate (codingOf f .codec .wordLen) 0))
 
 abbrev pub readOut : Session → List ℕ → Option Figures → Step
 readOut s bytes none = stopped s

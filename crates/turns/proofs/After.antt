@@ -71,10 +71,12 @@ module _ (s : State) where
       go true b e = sym e
       go false b e = refl
 
-  pub write-done : (b : Bool) → b ≡ true → record { session = s .session; from = s .from; to = s .to; gathered = 0; phase = s .phase; repeats = s .repeats } ≡ afterWrite s b
+  pub write-done : (b : Bool) → b ≡ true → record { session = s .session; from = s .from; to = s .to; gathered = 0; phase = s .phase; repeats = s .repeats }
+      ≡ afterWrite s b
   write-done b e = rw e
 
-  pub write-failed : (b : Bool) → b ≡ false → record { session = s .session; from = s .from; to = s .to; gathered = 0; phase = Done; repeats = s .repeats } ≡ afterWrite s b
+  pub write-failed : (b : Bool) → b ≡ false → record { session = s .session; from = s .from; to = s .to; gathered = 0; phase = Done; repeats = s .repeats }
+      ≡ afterWrite s b
   write-failed b e = rw e
 
 pub moved-some : (n : ℕ) (got : ℤ) → ltZ (pos 0) got ≡ true → Moved n got → natAbs got ≤ n
@@ -87,7 +89,8 @@ wants-none g p q e f = rw (e, f)
 pub wants-some : (g : ℕ) (p : Phase) → g ≢ 0 → Write ≡ wantsAt g p
 wants-some g p n = rw (eqb-other g 0 n)
 
-pub shown-at : (r : StepAnswer) (before line bytes : List ℕ) (s : Session) (p q : Phase) → p ≡ q → Shown r before line (stepAt q s bytes) → Shown r before line (stepAt p s bytes)
+pub shown-at : (r : StepAnswer) (before line bytes : List ℕ) (s : Session) (p q : Phase) → p ≡ q → Shown r before line (stepAt q s bytes)
+    → Shown r before line (stepAt p s bytes)
 shown-at r before line bytes s p q e h = rw e h
 
 -- where no read is wanted all stays where it is

@@ -70,10 +70,15 @@ module _ (s : Session) (w : List ℕ) where
   pub step-is-next : stepOut s (take (neededFor s w) w) ≡ stepOut s (nextRecord s w)
   step-is-next =
       short-or-not
-      (λ h. rw (take-all (neededFor s w) w (omega (arith, needed-least s w)), take-all (reach (recordLen s (letterOf w))) w (omega (arith, reaches s (letterOf w)))))
+      (λ h. rw (
+        take-all (neededFor s w) w (omega (arith, needed-least s w)),
+        take-all (reach (recordLen s (letterOf w))) w
+            (omega (arith, reaches s (letterOf w))),
+      ))
       (λ h. by-bool (isMarked w)
       (λ e. rw (needed-marked s w h e))
-      (λ e. unmarked (neededFor s w) (omega (arith, needed-unmarked s w e)) h e ∙ sym (unmarked (reach (recordLen s (letterOf w))) (reaches s (letterOf w)) h e)))
+      (λ e. unmarked (neededFor s w) (omega (arith, needed-unmarked s w e)) h e
+      ∙ sym (unmarked (reach (recordLen s (letterOf w))) (reaches s (letterOf w)) h e)))
 
   pub behind-is : stepOut s (nextRecord s w) .stops ≡ false → drop (neededFor s w) w ≡ behind s w
   behind-is goes =

@@ -88,7 +88,8 @@ write-some p g = go (eqb (length g) 0)
     go false e = refl
 
 module _ (v : View) (rests : isServable v ≡ false) (short : length (v .waiting) ≤ bufferLen) where
-  came-less : (bytes : List ℕ) → wantsOf v ≡ Read → 0 < length bytes → length (v .waiting ++ bytes) ≤ bufferLen → left (advanceOut (afterEvent v (came bytes))) < left v
+  came-less : (bytes : List ℕ) → wantsOf v ≡ Read → 0 < length bytes → length (v .waiting ++ bytes) ≤ bufferLen
+      → left (advanceOut (afterEvent v (came bytes))) < left v
   came-less bytes want some fits =
       let o = reads v rests want .open-still in
       let b : baseOf (afterEvent v (came bytes)) < baseOf v = rw o (omega (arith, length-append (v .waiting) bytes)) in

@@ -26,7 +26,8 @@ module _ (from rest : ℕ) (before : List ℕ) where
       front-same : getD line (from + i) 0 ≡ getD moved i 0
       front-same =
           let n : 0 + length (take i moved) + 0 ≡ i = omega (arith, p .behind-is) in
-          let same : drop i line ≡ drop i before = ap (λ (l : List ℕ). drop i l) (p .put) ∙ (rw n at (overwrite-drop 0 before (take i moved) 0 (omega arith))) in
+          let same : drop i line ≡ drop i before = ap (λ (l : List ℕ). drop i l) (p .put)
+          ∙ (rw n at (overwrite-drop 0 before (take i moved) 0 (omega arith))) in
           let k : from + i ≡ i + from = omega arith in
           rw (k, ← getD-drop i line from 0, same, getD-drop i before from 0, ← k, getD-take rest (drop from before) i 0 l, getD-drop from before i 0)
 

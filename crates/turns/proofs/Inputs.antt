@@ -12,7 +12,9 @@ use Rattle.turns.specs.declared.Phase.the-variants.{Open, Ended, Failed}
 use Rattle.turns.specs.declared.Wants.{Wants}
 use Rattle.turns.specs.declared.Wants.the-variants.{Read, Write, Stop}
 use Rattle.turns.specs.View.{View, wantsOf, servedOut, advanceOut}
-use Rattle.turns.specs.Trace.{Event, came, ended, failed, written, Answers, afterEvent, viewAfter, IsTrace, brought, allTaken, MayCome, printedTo, Close, atEnd, broken, closing, printedBy, joined, TraceOver, begins, reading, closed, writing, AllSome, WholeTrace, InputPrints}
+use Rattle.turns.specs.Trace.{Event, came, ended, failed, written, Answers, afterEvent, viewAfter, IsTrace, brought, allTaken, MayCome, printedTo}
+use Rattle.turns.specs.Trace.{Close, atEnd, broken, closing, printedBy, joined, TraceOver, begins, reading, closed, writing, AllSome, WholeTrace}
+use Rattle.turns.specs.Trace.{InputPrints}
 use Rattle.turns.proofs.Serving.{advance-keeps, turnsAt, serves-less, reads}
 use Rattle.turns.proofs.Printing.{after-rests, phase-later, open-before, trace-prints}
 use Rattle.turns.proofs.Ending.{unwrittenYet, at-most, write-some}
@@ -33,7 +35,8 @@ advanced u =
 writes-less : (v : View) → wantsOf v ≡ Write → writes (advanceOut (afterEvent v written)) < writes v
 writes-less v want =
     let g = write-some (v .phase) (v .gathered) want in
-    ⊎-elim (λ e. subst (λ (y : View). writes y < writes v) (sym e) (omega arith)) (λ l. omega (arith, at-most (advanceOut (afterEvent v written) .gathered))) (advanced (afterEvent v written))
+    ⊎-elim (λ e. subst (λ (y : View). writes y < writes v) (sym e) (omega arith))
+    (λ l. omega (arith, at-most (advanceOut (afterEvent v written) .gathered))) (advanced (afterEvent v written))
 
 -- by what is wanted
 by-wants : {P : Type 0} (w : Wants) → (w ≡ Read → P) → (w ≡ Write → P) → (w ≡ Stop → P) → P
@@ -58,7 +61,8 @@ close-printed broken input = refl
 
 module _ (close : Close) (all : List (List ℕ)) (out : List ℕ) where
   -- behind the last read
-  closing-trace : (n : ℕ) (es : List Event) → IsTrace es → TraceOver close all [] es → MayCome es [] (lastLine close) → allTaken es ≡ true → (viewAfter es .phase ≡ Open → ⊥)
+  closing-trace : (n : ℕ) (es : List Event) → IsTrace es → TraceOver close all [] es → MayCome es [] (lastLine close) → allTaken es ≡ true
+      → (viewAfter es .phase ≡ Open → ⊥)
       → printedTo (lastLine close) (brought es ++ []) ≡ out → writes (viewAfter es) < n → WholeTrace close all out
   closing-trace zero es ran p m t shut is l = absurd (omega arith)
   closing-trace (suc n) es ran p m t shut is l =
@@ -74,15 +78,26 @@ module _ (close : Close) (all : List (List ℕ)) (out : List ℕ) where
   Traces rs = (es : List Event) → IsTrace es → TraceOver close all rs es → ((rest last : List ℕ) → MayCome es rest last) → allTaken es ≡ true
       → printedTo (lastLine close) (brought es ++ joined rs) ≡ out → WholeTrace close all out
 
-  reading-trace : (rs : List (List ℕ)) → ((es : List Event) → IsTrace es → TraceOver close all rs es → ((rest last : List ℕ) → MayCome es rest last) → allTaken es ≡ true
-      → printedTo (lastLine close) (brought es ++ joined rs) ≡ out → wantsOf (viewAfter es) ≡ Read → WholeTrace close all out) → (n : ℕ) (es : List Event) → IsTrace es → TraceOver close all rs es
-      → ((rest last : List ℕ) → MayCome es rest last) → allTaken es ≡ true → printedTo (lastLine close) (brought es ++ joined rs) ≡ out → writes (viewAfter es) < n → WholeTrace close all out
+  reading-trace : (rs : List (List ℕ)) → ((es : List Event) → IsTrace es → TraceOver close all rs es → ((rest last : List ℕ) → MayCome es rest last)
+      → allTaken es ≡ true
+      → printedTo (lastLine close) (brought es ++ joined rs) ≡ out → wantsOf (viewAfter es) ≡ Read → WholeTrace close all out) → (n : ℕ) (es : List Event)
+      → IsTrace es → TraceOver close all rs es
+      → ((rest last : List ℕ) → MayCome es rest last) → allTaken es ≡ true → printedTo (lastLine close) (brought es ++ joined rs) ≡ out
+      → writes (viewAfter es) < n → WholeTrace close all out
   reading-trace rs next zero es ran p any t is l = absurd (omega arith)
   reading-trace rs next (suc n) es ran p any t is l =
       by-wants (wantsOf (viewAfter es)) (λ w. next es ran p any t is w)
       (λ w. reading-trace rs next n (written ∷ es) (ran, answers-at (wantsOf (viewAfter es)) Write written w tt) (writing p) any t
       (ap (λ (x : List ℕ). printedTo (lastLine close) (x ++ joined rs)) (append-nil (brought es)) ∙ is) (omega (arith, writes-less (viewAfter es) w)))
-      (λ w. record { events = es; left = rs; trace = ran; over = p; stops = w; hands = trace-prints es ran (joined rs) (lastLine close) (any (joined rs) (lastLine close)) .whole w t ∙ is })
+      (λ w. record {
+        events = es;
+        left = rs;
+        trace = ran;
+        over = p;
+        stops = w;
+        hands =
+            trace-prints es ran (joined rs) (lastLine close) (any (joined rs) (lastLine close)) .whole w t ∙ is;
+      })
 
 may-close : (close : Close) (es : List Event) → MayCome (closing close ∷ es) [] (lastLine close)
 may-close atEnd es = (refl, refl)
@@ -112,7 +127,8 @@ traces : (close : Close) (all : List (List ℕ)) (out : List ℕ) (rs : List (Li
 traces close all out [] some es ran p any t is =
     reading-trace close all out []
     (λ fs ran′ p′ any′ t′ is′ w.
-    closing-trace close all out (suc (writes (viewAfter (closing close ∷ fs)))) (closing close ∷ fs) (ran′, answers-at (wantsOf (viewAfter fs)) Read (closing close) w (close-read close)) (closed p′)
+    closing-trace close all out (suc (writes (viewAfter (closing close ∷ fs)))) (closing close ∷ fs)
+    (ran′, answers-at (wantsOf (viewAfter fs)) Read (closing close) w (close-read close)) (closed p′)
     (may-close close fs) (close-taken close fs ∙ t′) (close-shut close fs)
     (ap (λ (x : List ℕ). printedTo (lastLine close) (x ++ [])) (close-brought close fs) ∙ is′) (omega arith))
     (suc (writes (viewAfter es))) es ran p any t is (omega arith)

@@ -42,7 +42,8 @@ module _ (s : Session) (w rest : List ℕ) (h : neededFor s w ≤ length w) wher
       by-bool (isMarked w)
       (λ e. rw (same-letter, take-append-le (reach (recordLen s (letterOf w))) w rest (within e)))
       (λ e.
-      unmarked s (w ++ rest) (reach (recordLen s (letterOf (w ++ rest)))) (reaches s (letterOf (w ++ rest))) (omega (arith, long, length-append w rest)) (same-mark ∙ e)
+      unmarked s (w ++ rest) (reach (recordLen s (letterOf (w ++ rest)))) (reaches s (letterOf (w ++ rest))) (omega (arith, long, length-append w rest))
+      (same-mark ∙ e)
       ∙ sym (unmarked s w (reach (recordLen s (letterOf w))) (reaches s (letterOf w)) long e))
 
   pub same-behind : stepOut s (nextRecord s w) .stops ≡ false → behind s (w ++ rest) ≡ behind s w ++ rest

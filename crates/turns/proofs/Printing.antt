@@ -23,7 +23,8 @@ use Rattle.turns.specs.declared.Phase.the-variants.{Open, Ended, Failed,
 use Rattle.turns.specs.declared.Wants.{Wants}
 use Rattle.turns.specs.declared.Wants.the-variants.{Read, Write, Stop}
 use Rattle.turns.specs.View.{View, wantsOf, needs, readyAt, roomAt, isServable, stepAt, stepFor, phaseAfter, advanceOut}
-use Rattle.turns.specs.Trace.{Event, came, ended, interrupted, failed, written, unwritten, Answers, afterEvent, viewAfter, IsTrace, brought, handed, allTaken, MayCome, printedTo, TracePrints}
+use Rattle.turns.specs.Trace.{Event, came, ended, interrupted, failed, written, unwritten, Answers, afterEvent, viewAfter, IsTrace, brought, handed}
+use Rattle.turns.specs.Trace.{allTaken, MayCome, printedTo, TracePrints}
 use Rattle.turns.proofs.Cut.{step-is-next, behind-is}
 use Rattle.turns.proofs.Pieces.{same-step, same-behind, cut-stops}
 use Rattle.turns.proofs.Serving.{done-rests, advance-keeps, advance-rests, advance-ends, begin-rests, Reading, reads, stops-written}
@@ -58,7 +59,8 @@ module _ (whole done rest last : List ℕ) where
   module _ (s : Session) (w g : List ℕ) (o : Step) (h : s .count ≤ maxRecords) (some : isEmpty (w ++ rest) ≡ false) (is : stepOf s (w ++ rest) ≡ o) where
     stop-kept : o .stops ≡ true → whole ≡ done ++ (g ++ printedOn last s (w ++ rest)) → whole ≡ done ++ ((g ++ o .line) ++ [])
     stop-kept stop e =
-        let p : printedOn last s (w ++ rest) ≡ o .line = printed-stops last s (w ++ rest) some h (ap (λ (x : Step). x .stops) is ∙ stop) ∙ ap (λ (x : Step). x .line) is in
+        let p : printedOn last s (w ++ rest) ≡ o .line = printed-stops last s (w ++ rest) some h (ap (λ (x : Step). x .stops) is ∙ stop)
+        ∙ ap (λ (x : Step). x .line) is in
         e ∙ ap (λ (x : List ℕ). done ++ (g ++ x)) p ∙ ap (λ (x : List ℕ). done ++ x) (sym (append-nil (g ++ o .line)))
 
     goes-kept : (left : List ℕ) → o .stops ≡ false → behind s (w ++ rest) ≡ left ++ rest → whole ≡ done ++ (g ++ printedOn last s (w ++ rest))
@@ -77,7 +79,8 @@ module _ (whole done rest last : List ℕ) where
 
   -- the next record is there as a whole
   open-keeps : (s : Session) (w g : List ℕ) → neededFor s w ≤ length w → KeptAt Open s w g
-      → KeptAt (phaseAfter Open (stepOut s (take (neededFor s w) w) .stops)) (stepOut s (take (neededFor s w) w) .next) (drop (neededFor s w) w) (g ++ stepOut s (take (neededFor s w) w) .line)
+      → KeptAt (phaseAfter Open (stepOut s (take (neededFor s w) w) .stops)) (stepOut s (take (neededFor s w) w) .next) (drop (neededFor s w) w)
+      (g ++ stepOut s (take (neededFor s w) w) .line)
   open-keeps s w g l k = go (stepOut s (take (neededFor s w) w) .stops) refl
     where
       is : stepOf s (w ++ rest) ≡ stepOut s (take (neededFor s w) w)
@@ -107,7 +110,8 @@ module _ (whole done rest last : List ℕ) where
 
   -- no more will come
   ended-keeps : (s : Session) (w g : List ℕ) → KeptAt Ended s w g
-      → KeptAt (phaseAfter Ended (stepOut s (take (neededFor s w) w) .stops)) (stepOut s (take (neededFor s w) w) .next) (drop (neededFor s w) w) (g ++ stepOut s (take (neededFor s w) w) .line)
+      → KeptAt (phaseAfter Ended (stepOut s (take (neededFor s w) w) .stops)) (stepOut s (take (neededFor s w) w) .next) (drop (neededFor s w) w)
+      (g ++ stepOut s (take (neededFor s w) w) .line)
   ended-keeps s [] g k = ended-none s g (neededFor s []) k
   ended-keeps s (x ∷ xs) g k = go (stepOut s (take (neededFor s (x ∷ xs)) (x ∷ xs)) .stops) refl
     where
@@ -121,13 +125,16 @@ module _ (whole done rest last : List ℕ) where
       some = not-empty (x ∷ xs) (λ e. omega arith)
 
       go : (b : Bool) → stepOut s (take (neededFor s (x ∷ xs)) (x ∷ xs)) .stops ≡ b
-          → KeptAt (phaseAfter Ended b) (stepOut s (take (neededFor s (x ∷ xs)) (x ∷ xs)) .next) (drop (neededFor s (x ∷ xs)) (x ∷ xs)) (g ++ stepOut s (take (neededFor s (x ∷ xs)) (x ∷ xs)) .line)
+          → KeptAt (phaseAfter Ended b) (stepOut s (take (neededFor s (x ∷ xs)) (x ∷ xs)) .next) (drop (neededFor s (x ∷ xs)) (x ∷ xs))
+          (g ++ stepOut s (take (neededFor s (x ∷ xs)) (x ∷ xs)) .line)
       go true e = (tt, stop-kept s (x ∷ xs) g (stepOut s (take (neededFor s (x ∷ xs)) (x ∷ xs))) (k .0 .0) some is e (k .1))
       go false e =
           let f : stepOut s (nextRecord s (x ∷ xs)) .stops ≡ false = ap (λ (t : Step). t .stops) (sym (step-is-next s (x ∷ xs))) ∙ e in
           let b : behind s ((x ∷ xs) ++ rest) ≡ drop (neededFor s (x ∷ xs)) (x ∷ xs) ++ rest =
-          ap (λ (t : List ℕ). behind s t) all ∙ sym (behind-is s (x ∷ xs) f) ∙ sym (append-nil (drop (neededFor s (x ∷ xs)) (x ∷ xs))) ∙ ap (λ (t : List ℕ). drop (neededFor s (x ∷ xs)) (x ∷ xs) ++ t) (sym (k .0 .1)) in
-          let r = goes-kept s (x ∷ xs) g (stepOut s (take (neededFor s (x ∷ xs)) (x ∷ xs))) (k .0 .0) some is (drop (neededFor s (x ∷ xs)) (x ∷ xs)) e b (k .1) in
+          ap (λ (t : List ℕ). behind s t) all ∙ sym (behind-is s (x ∷ xs) f) ∙ sym (append-nil (drop (neededFor s (x ∷ xs)) (x ∷ xs)))
+          ∙ ap (λ (t : List ℕ). drop (neededFor s (x ∷ xs)) (x ∷ xs) ++ t) (sym (k .0 .1)) in
+          let r = goes-kept s (x ∷ xs) g (stepOut s (take (neededFor s (x ∷ xs)) (x ∷ xs))) (k .0 .0) some is (drop (neededFor s (x ∷ xs)) (x ∷ xs)) e b
+          (k .1) in
           ((r .0, k .0 .1, k .0 .2), r .1)
 
   -- a read failed: what is there of the next record is cut
@@ -139,13 +146,15 @@ module _ (whole done rest last : List ℕ) where
       printed-stops last s ((x ∷ xs) ++ rest) (not-empty (x ∷ xs) (λ e. omega arith)) (k .0) (ap (λ (t : Step). t .stops) is) ∙ ap (λ (t : Step). t .line) is
 
   failed-keeps : (s : Session) (w g : List ℕ) → KeptAt Failed s w g → whole ≡ done ++ ((g ++ stopLine) ++ [])
-  failed-keeps s w g k = k .1 ∙ ap (λ (t : List ℕ). done ++ (g ++ t)) (failed-prints s w (k .0)) ∙ ap (λ (t : List ℕ). done ++ t) (sym (append-nil (g ++ stopLine)))
+  failed-keeps s w g k = k .1 ∙ ap (λ (t : List ℕ). done ++ (g ++ t)) (failed-prints s w (k .0))
+      ∙ ap (λ (t : List ℕ). done ++ t) (sym (append-nil (g ++ stopLine)))
 
   at-least : (a b : ℕ) → leb a b ≡ true → a ≤ b
   at-least a b = by-le a b (λ t. t ≡ true → a ≤ b) (λ h _. h) (λ _ e. absurd (false≢true e))
 
   serve-keeps : (p : Phase) (s : Session) (w g : List ℕ) → readyAt p (neededFor s w) (length w) ≡ true → KeptAt p s w g
-      → KeptAt (phaseAfter p (stepAt p s (take (neededFor s w) w) .stops)) (stepAt p s (take (neededFor s w) w) .next) (drop (neededFor s w) w) (g ++ stepAt p s (take (neededFor s w) w) .line)
+      → KeptAt (phaseAfter p (stepAt p s (take (neededFor s w) w) .stops)) (stepAt p s (take (neededFor s w) w) .next) (drop (neededFor s w) w)
+      (g ++ stepAt p s (take (neededFor s w) w) .line)
   serve-keeps Open s w g h k = open-keeps s w g (at-least (neededFor s w) (length w) h) k
   serve-keeps Ended s w g h k = ended-keeps s w g k
   serve-keeps Failed s w g h k = (tt, failed-keeps s w g k)
@@ -154,7 +163,8 @@ module _ (whole done rest last : List ℕ) where
   pub keeps : (v : View) → Kept v → Kept (advanceOut v)
   keeps v k =
       advance-keeps Kept
-      (λ x e. serve-keeps (x .phase) (x .session) (x .waiting) (x .gathered) (both (roomAt (length (x .gathered))) (readyAt (x .phase) (needs x) (length (x .waiting))) e .1)) v k
+      (λ x e. serve-keeps (x .phase) (x .session) (x .waiting) (x .gathered)
+      (both (roomAt (length (x .gathered))) (readyAt (x .phase) (needs x) (length (x .waiting))) e .1)) v k
 
 -- ---- How the phase goes
 
@@ -228,18 +238,21 @@ done-kept whole done rest last Ended s w g e f k = let z : _≡_ {A = ℕ} 0 1 =
 done-kept whole done rest last Failed s w g e f k = let z : _≡_ {A = ℕ} 0 1 = cc in absurd (omega arith)
 
 -- a write moves what was gathered to what was handed over
-written-kept : (whole done rest last : List ℕ) (p : Phase) (s : Session) (w g : List ℕ) → KeptAt whole done rest last p s w g → KeptAt whole (done ++ g) rest last p s w []
+written-kept : (whole done rest last : List ℕ) (p : Phase) (s : Session) (w g : List ℕ) → KeptAt whole done rest last p s w g
+    → KeptAt whole (done ++ g) rest last p s w []
 written-kept whole done rest last p s w g k = (k .0, k .1 ∙ sym (append-assoc done g (toCome rest last p s w)))
 
 -- a read brought bytes
-came-kept : (whole done bytes rest last : List ℕ) (s : Session) (w : List ℕ) → (s .count ≤ maxRecords) × (whole ≡ done ++ printedOn last s (w ++ (bytes ++ rest)))
+came-kept : (whole done bytes rest last : List ℕ) (s : Session) (w : List ℕ)
+    → (s .count ≤ maxRecords) × (whole ≡ done ++ printedOn last s (w ++ (bytes ++ rest)))
     → (p : Phase) (g : List ℕ) → p ≡ Open → g ≡ [] → KeptAt whole done rest last p s (w ++ bytes) g
 came-kept whole done bytes rest last s w k p g e f =
     rw (e, f) (k .0, k .1 ∙ ap (λ (x : List ℕ). done ++ printedOn last s x) (sym (append-assoc w bytes rest)))
 
 module _ (es : List Event) (is-trace : IsTrace es) (so : (rest last : List ℕ) → MayCome es rest last → At es rest last) where
   -- of a trace that goes on
-  kept-of : (rest last : List ℕ) → MayCome es rest last → (wantsOf (viewAfter es) ≡ Stop → ⊥) → (allTaken es ≡ true) × Kept (printedTo last (brought es ++ rest)) (handed es) rest last (viewAfter es)
+  kept-of : (rest last : List ℕ) → MayCome es rest last → (wantsOf (viewAfter es) ≡ Stop → ⊥)
+      → (allTaken es ≡ true) × Kept (printedTo last (brought es ++ rest)) (handed es) rest last (viewAfter es)
   kept-of rest last m n = go (so rest last m)
     where
       go : At es rest last → (allTaken es ≡ true) × Kept (printedTo last (brought es ++ rest)) (handed es) rest last (viewAfter es)
@@ -257,26 +270,34 @@ module _ (es : List Event) (is-trace : IsTrace es) (so : (rest last : List ℕ) 
         × (printedTo last (brought es ++ rest) ≡ handed es ++ printedOn last (viewAfter es .session) (viewAfter es .waiting ++ rest))
     read-kept rest last =
         let k = kept-of rest last (open-any es (is .open-still) rest last) read-not-stop in
-        let o = open-kept (printedTo last (brought es ++ rest)) (handed es) rest last (viewAfter es .phase) (viewAfter es .session) (viewAfter es .waiting) (viewAfter es .gathered) (is .open-still) (is .written-all) (k .1) in
+        let o = open-kept (printedTo last (brought es ++ rest)) (handed es) rest last (viewAfter es .phase) (viewAfter es .session) (viewAfter es .waiting)
+        (viewAfter es .gathered) (is .open-still) (is .written-all) (k .1) in
         (k .0, o .0, o .1)
 
     at-came : (bytes rest last : List ℕ) → At (came bytes ∷ es) rest last
     at-came bytes rest last =
         let k = read-kept (bytes ++ rest) last in
-        let whole : printedTo last ((brought es ++ bytes) ++ rest) ≡ printedTo last (brought es ++ (bytes ++ rest)) = ap (λ (x : List ℕ). printedTo last x) (append-assoc (brought es) bytes rest) in
-        let e : printedTo last ((brought es ++ bytes) ++ rest) ≡ (handed es ++ []) ++ printedOn last (viewAfter es .session) (viewAfter es .waiting ++ (bytes ++ rest)) =
-        whole ∙ k .2 ∙ ap (λ (x : List ℕ). x ++ printedOn last (viewAfter es .session) (viewAfter es .waiting ++ (bytes ++ rest))) (sym (append-nil (handed es))) in
+        let whole : printedTo last ((brought es ++ bytes) ++ rest) ≡ printedTo last (brought es ++ (bytes ++ rest)) =
+        ap (λ (x : List ℕ). printedTo last x) (append-assoc (brought es) bytes rest) in
+        let e : printedTo last ((brought es ++ bytes) ++ rest) ≡ (handed es ++ []) ++ printedOn last (viewAfter es .session)
+        (viewAfter es .waiting ++ (bytes ++ rest)) =
+        whole ∙ k .2 ∙ ap (λ (x : List ℕ). x ++ printedOn last (viewAfter es .session) (viewAfter es .waiting ++ (bytes ++ rest)))
+        (sym (append-nil (handed es))) in
         going (k .0)
         (keeps (printedTo last ((brought es ++ bytes) ++ rest)) (handed es ++ []) rest last (afterEvent (viewAfter es) (came bytes))
-        (came-kept (printedTo last ((brought es ++ bytes) ++ rest)) (handed es ++ []) bytes rest last (viewAfter es .session) (viewAfter es .waiting) (k .1, e) (viewAfter es .phase) (viewAfter es .gathered) (is .open-still) (is .written-all)))
+        (came-kept (printedTo last ((brought es ++ bytes) ++ rest)) (handed es ++ []) bytes rest last (viewAfter es .session) (viewAfter es .waiting)
+        (k .1, e) (viewAfter es .phase) (viewAfter es .gathered) (is .open-still) (is .written-all)))
 
     -- the same bytes, and nothing more
-    closing : (rest last : List ℕ) → rest ≡ [] → printedTo last ((brought es ++ []) ++ rest) ≡ (handed es ++ []) ++ ([] ++ printedOn last (viewAfter es .session) (viewAfter es .waiting ++ rest))
+    closing : (rest last : List ℕ) → rest ≡ [] → printedTo last ((brought es ++ []) ++ rest) ≡ (handed es ++ []) ++
+        ([] ++ printedOn last (viewAfter es .session) (viewAfter es .waiting ++ rest))
     closing rest last r =
         let k = read-kept rest last in
-        ap (λ (x : List ℕ). printedTo last (x ++ rest)) (append-nil (brought es)) ∙ k .2 ∙ ap (λ (x : List ℕ). x ++ printedOn last (viewAfter es .session) (viewAfter es .waiting ++ rest)) (sym (append-nil (handed es)))
+        ap (λ (x : List ℕ). printedTo last (x ++ rest)) (append-nil (brought es)) ∙ k .2
+        ∙ ap (λ (x : List ℕ). x ++ printedOn last (viewAfter es .session) (viewAfter es .waiting ++ rest)) (sym (append-nil (handed es)))
 
-    shut : (g : List ℕ) → g ≡ [] → (rest last : List ℕ) → rest ≡ [] → printedTo last ((brought es ++ []) ++ rest) ≡ (handed es ++ []) ++ (g ++ printedOn last (viewAfter es .session) (viewAfter es .waiting ++ rest))
+    shut : (g : List ℕ) → g ≡ [] → (rest last : List ℕ) → rest ≡ []
+        → printedTo last ((brought es ++ []) ++ rest) ≡ (handed es ++ []) ++ (g ++ printedOn last (viewAfter es .session) (viewAfter es .waiting ++ rest))
     shut g f rest last r = rw f (closing rest last r)
 
     at-ended : (rest last : List ℕ) → (rest ≡ []) × (last ≡ endLine) → At (ended ∷ es) rest last
@@ -304,7 +325,8 @@ module _ (es : List Event) (is-trace : IsTrace es) (so : (rest last : List ℕ) 
         (keeps (printedTo last ((brought es ++ []) ++ rest)) (handed es ++ []) rest last (viewAfter es) (
           k .1 .0,
           same-brought ∙ k .1 .1
-              ∙ ap (λ (x : List ℕ). x ++ (viewAfter es .gathered ++ toCome rest last (viewAfter es .phase) (viewAfter es .session) (viewAfter es .waiting))) (sym (append-nil (handed es))),
+              ∙ ap (λ (x : List ℕ). x ++ (viewAfter es .gathered ++ toCome rest last (viewAfter es .phase) (viewAfter es .session) (viewAfter es .waiting)))
+              (sym (append-nil (handed es))),
         ))
 
     at-written : At (written ∷ es) rest last
@@ -312,7 +334,8 @@ module _ (es : List Event) (is-trace : IsTrace es) (so : (rest last : List ℕ) 
         let k = kept-of rest last m n in
         going (k .0)
         (keeps (printedTo last ((brought es ++ []) ++ rest)) (handed es ++ viewAfter es .gathered) rest last (afterEvent (viewAfter es) written)
-        (let w = written-kept (printedTo last (brought es ++ rest)) (handed es) rest last (viewAfter es .phase) (viewAfter es .session) (viewAfter es .waiting) (viewAfter es .gathered) (k .1) in
+        (let w = written-kept (printedTo last (brought es ++ rest)) (handed es) rest last (viewAfter es .phase) (viewAfter es .session)
+        (viewAfter es .waiting) (viewAfter es .gathered) (k .1) in
         (w .0, same-brought ∙ w .1)))
 
     at-unwritten : At (unwritten ∷ es) rest last
@@ -321,7 +344,8 @@ module _ (es : List Event) (is-trace : IsTrace es) (so : (rest last : List ℕ) 
         let v = afterEvent (viewAfter es) unwritten in
         let stays : advanceOut v ≡ v = advance-rests v (done-rests v refl) in
         refused refl (ap wantsOf stays) (toCome rest last (viewAfter es .phase) (viewAfter es .session) (viewAfter es .waiting))
-        (same-brought ∙ k .1 .1 ∙ sym (append-assoc (handed es) (viewAfter es .gathered) (toCome rest last (viewAfter es .phase) (viewAfter es .session) (viewAfter es .waiting))))
+        (same-brought ∙ k .1 .1 ∙ sym (append-assoc (handed es) (viewAfter es .gathered)
+        (toCome rest last (viewAfter es .phase) (viewAfter es .session) (viewAfter es .waiting))))
 
 write-not-stop : (w : Wants) → w ≡ Write → w ≡ Stop → ⊥
 write-not-stop w e f = let z : _≡_ {A = ℕ} 0 1 = cc in omega arith
@@ -331,12 +355,14 @@ at [] r rest last m = going refl (omega arith, refl)
 at (came bytes ∷ es) r rest last m = at-came es (r .0) (at es (r .0)) (answers-read (wantsOf (viewAfter es)) (came bytes) (λ x. x) (r .1)) bytes rest last
 at (ended ∷ es) r rest last m = at-ended es (r .0) (at es (r .0)) (answers-read (wantsOf (viewAfter es)) ended (λ x. x) (r .1)) rest last m
 at (interrupted ∷ es) r rest last m =
-    at-interrupted es (r .0) (at es (r .0)) rest last m (read-not-stop es (r .0) (at es (r .0)) (answers-read (wantsOf (viewAfter es)) interrupted (λ x. x) (r .1)))
+    at-interrupted es (r .0) (at es (r .0)) rest last m (read-not-stop es (r .0) (at es (r .0))
+    (answers-read (wantsOf (viewAfter es)) interrupted (λ x. x) (r .1)))
 at (failed ∷ es) r rest last m = at-failed es (r .0) (at es (r .0)) (answers-read (wantsOf (viewAfter es)) failed (λ x. x) (r .1)) rest last m
 at (written ∷ es) r rest last m =
     at-written es (r .0) (at es (r .0)) rest last m (write-not-stop (wantsOf (viewAfter es)) (answers-write (wantsOf (viewAfter es)) written (λ x. x) (r .1)))
 at (unwritten ∷ es) r rest last m =
-    at-unwritten es (r .0) (at es (r .0)) rest last m (write-not-stop (wantsOf (viewAfter es)) (answers-write (wantsOf (viewAfter es)) unwritten (λ x. x) (r .1)))
+    at-unwritten es (r .0) (at es (r .0)) rest last m (write-not-stop (wantsOf (viewAfter es))
+    (answers-write (wantsOf (viewAfter es)) unwritten (λ x. x) (r .1)))
 
 pub trace-prints : TracePrints
 trace-prints es t rest last m =
@@ -355,5 +381,6 @@ trace-prints es t rest last m =
     all : allTaken es ≡ true → wantsOf (viewAfter es) ≡ Stop → At es rest last → handed es ≡ printedTo last (brought es ++ rest)
     all taken stop (going a k) =
         let d = stops-written (viewAfter es) stop in
-        done-kept (printedTo last (brought es ++ rest)) (handed es) rest last (viewAfter es .phase) (viewAfter es .session) (viewAfter es .waiting) (viewAfter es .gathered) (d .0) (d .1) k
+        done-kept (printedTo last (brought es ++ rest)) (handed es) rest last (viewAfter es .phase) (viewAfter es .session) (viewAfter es .waiting)
+        (viewAfter es .gathered) (d .0) (d .1) k
     all taken stop (refused a s out e) = absurd (true≢false (sym taken ∙ a))

@@ -77,7 +77,8 @@ unfolding servedView
 advance-serves v e =
     rw e
     (by-bool (stepFor v .stops)
-    (λ s. let rests = done-rests (servedOut v) (stopped-done v s) in serve-rests (length (v .waiting)) (servedOut v) rests ∙ sym (advance-rests (servedOut v) rests))
+    (λ s. let rests = done-rests (servedOut v) (stopped-done v s) in
+    serve-rests (length (v .waiting)) (servedOut v) rests ∙ sym (advance-rests (servedOut v) rests))
     (λ s. let l = served-shorter v s in serve-enough (length (v .waiting)) (suc (length (servedOut v .waiting))) (servedOut v) (omega arith) (omega arith)))
 
 -- ---- What holds then
@@ -104,7 +105,8 @@ serve-ends (suc most) v h = go (isServable v) refl (λ s. let l = served-shorter
         → isServable (cond b (servedView most (servedOut v)) v) ≡ false
     go true e more =
         by-bool (stepFor v .stops)
-        (λ s. let rests = done-rests (servedOut v) (stopped-done v s) in subst (λ (x : View). isServable x ≡ false) (sym (serve-rests most (servedOut v) rests)) rests)
+        (λ s. let rests = done-rests (servedOut v) (stopped-done v s) in
+        subst (λ (x : View). isServable x ≡ false) (sym (serve-rests most (servedOut v) rests)) rests)
         more
     go false e more = e
 
@@ -178,7 +180,9 @@ ready-turns Done k m n h = absurd (false≢true h)
 
 pub serves-less : (v : View) → isServable v ≡ true → turnsAt (servedOut v .phase) (length (servedOut v .waiting)) < turnsAt (v .phase) (length (v .waiting))
 serves-less v e =
-    let is = ready-turns (v .phase) (needs v) (length (v .waiting)) (length (v .waiting)) (both (roomAt (length (v .gathered))) (readyAt (v .phase) (needs v) (length (v .waiting))) e .1) in
+    let is = ready-turns (v .phase) (needs v) (length (v .waiting)) (length (v .waiting))
+    (both (roomAt (length (v .gathered))) (readyAt (v .phase) (needs v) (length (v .waiting))) e .1) in
     by-bool (stepFor v .stops)
-    (λ s. let d : turnsAt (servedOut v .phase) (length (servedOut v .waiting)) ≡ 0 = ap (λ (p : Phase). turnsAt p (length (servedOut v .waiting))) (stopped-done v s) in omega arith)
+    (λ s. let d : turnsAt (servedOut v .phase) (length (servedOut v .waiting)) ≡ 0 =
+    ap (λ (p : Phase). turnsAt p (length (servedOut v .waiting))) (stopped-done v s) in omega arith)
     (λ s. omega (arith, served-shorter v s, going-turns (servedOut v .phase) (length (servedOut v .waiting))))

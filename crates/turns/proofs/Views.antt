@@ -25,8 +25,10 @@ use Rattle.turns.specs.declared.State.{State}
 use Rattle.turns.specs.declared.Phase.{Phase}
 use Rattle.turns.specs.declared.Phase.the-variants.{Ended, Failed}
 use Rattle.turns.specs.declared.Wants.the-variants.{Read, Write}
-use Rattle.turns.specs.View.{bufferLen, View, atBegin, wantsAt, wantsOf, roomAt, readyAt, isServable, stepAt, stepFor, phaseAfter, needs, servedOut, advanceOut}
-use Rattle.turns.specs.State.{WithinBuffers, viewOf, waitingIn, Begun, WaitsInFront, Fronted, withMore, repeated, inPhase, isInterrupted, isRepeated, afterRead, afterWrite}
+use Rattle.turns.specs.View.{bufferLen, View, atBegin, wantsAt, wantsOf, roomAt, readyAt, isServable, stepAt, stepFor, phaseAfter, needs, servedOut}
+use Rattle.turns.specs.View.{advanceOut}
+use Rattle.turns.specs.State.{WithinBuffers, viewOf, waitingIn, Begun, WaitsInFront, Fronted, withMore, repeated, inPhase, isInterrupted, isRepeated}
+use Rattle.turns.specs.State.{afterRead, afterWrite}
 use Rattle.turns.specs.Trace.{Event, came, ended, interrupted, failed, written, unwritten, Answers, afterEvent}
 use Rattle.records.proofs.Lengths.{needed-most}
 use Rattle.turns.proofs.Cut.{drop-take, take-least, drop-least}
@@ -72,9 +74,11 @@ module _ (s : State) (input : List ℕ) (h : WithinBuffers s) (l : length input 
         ∙ drop-least needed (waitingIn s input) ∙ ap (λ (j : ℕ). drop j (waitingIn s input)) e)
 
     module _ (output : List ℕ) (lo : length output ≡ bufferLen) (room : s .gathered + maxLine ≤ bufferLen)
-        (a : StepAnswer) (line₀ line : List ℕ) (shown : Shown a line₀ line (stepAt (s .phase) (sessionOf (s .session)) (take (s .from + n - s .from) (drop (s .from) input))))
+        (a : StepAnswer) (line₀ line : List ℕ) (shown : Shown a line₀ line
+        (stepAt (s .phase) (sessionOf (s .session)) (take (s .from + n - s .from) (drop (s .from) input))))
         (whole : length line ≡ maxLine) (next : List ℕ) (gathered : ℕ) (phase : Phase)
-        (put : next ≡ overwrite (s .gathered) (take (a .len) line) output) (behind : gathered ≡ s .gathered + a .len) (ph : phase ≡ phaseAfter (s .phase) (a .stops)) where
+        (put : next ≡ overwrite (s .gathered) (take (a .len) line) output) (behind : gathered ≡ s .gathered + a .len)
+        (ph : phase ≡ phaseAfter (s .phase) (a .stops)) where
       is-step : Shown a line₀ line (stepFor (viewOf s input output))
       is-step = subst (λ (bytes : List ℕ). Shown a line₀ line (stepAt (s .phase) (sessionOf (s .session)) bytes)) record-bytes shown
 
@@ -89,10 +93,13 @@ module _ (s : State) (input : List ℕ) (h : WithinBuffers s) (l : length input 
           let k : gathered ≡ s .gathered + length (stepFor (viewOf s input output) .line) = behind ∙ ap (λ (j : ℕ). s .gathered + j) (is-step .len) in
           rw (k, put, text) (overwrite-take (s .gathered) output (stepFor (viewOf s input output) .line) (omega arith))
 
-      pub served-view : viewOf (record { session = a .next; from = s .from + n; to = s .to; gathered = gathered; phase = phase; repeats = s .repeats }) input next ≡ servedOut (viewOf s input output)
+      pub served-view : viewOf (record { session = a .next; from = s .from + n; to = s .to; gathered = gathered; phase = phase; repeats = s .repeats })
+          input next ≡ servedOut (viewOf s input output)
       served-view =
-          view-same (sessionOf (a .next)) (stepFor (viewOf s input output) .next) (waitingIn after input) (drop (needs (viewOf s input output)) (waitingIn s input))
-          (take gathered next) (take (s .gathered) output ++ stepFor (viewOf s input output) .line) phase (phaseAfter (s .phase) (stepFor (viewOf s input output) .stops))
+          view-same (sessionOf (a .next)) (stepFor (viewOf s input output) .next) (waitingIn after input)
+          (drop (needs (viewOf s input output)) (waitingIn s input))
+          (take gathered next) (take (s .gathered) output ++ stepFor (viewOf s input output) .line) phase
+          (phaseAfter (s .phase) (stepFor (viewOf s input output) .stops))
           (is-step .next) left-over lines (ph ∙ ap (λ (b : Bool). phaseAfter (s .phase) b) (is-step .stops))
 
       pub served-within : WithinBuffers (record { session = a .next; from = s .from + n; to = s .to; gathered = gathered; phase = phase; repeats = s .repeats })
@@ -136,16 +143,19 @@ module _ (s : State) (input moved : List ℕ) (n : ℕ) (h : WithinBuffers s) (l
       let k : n - 0 ≡ length (waitingIn s input) = omega (arith, waiting-length s input h l) in
       rw (k, m) (line-take (waitingIn s input) input)
 
-pub fronted-view : (s r : State) (input moved output : List ℕ) → Fronted s r → waitingIn r moved ≡ waitingIn s input → viewOf r moved output ≡ viewOf s input output
+pub fronted-view : (s r : State) (input moved output : List ℕ) → Fronted s r → waitingIn r moved ≡ waitingIn s input
+    → viewOf r moved output ≡ viewOf s input output
 fronted-view s r input moved output f w =
-    view-same (sessionOf (r .session)) (sessionOf (s .session)) (waitingIn r moved) (waitingIn s input) (take (r .gathered) output) (take (s .gathered) output) (r .phase) (s .phase)
+    view-same (sessionOf (r .session)) (sessionOf (s .session)) (waitingIn r moved) (waitingIn s input) (take (r .gathered) output)
+    (take (s .gathered) output) (r .phase) (s .phase)
     (ap sessionOf (f .session)) w (ap (λ (g : ℕ). take g output) (f .gathered)) (f .phase)
 
 -- a read that is wanted has room
 pub front-room : (s r : State) (input output : List ℕ) (v : View) → Fronted s r → WithinBuffers s → length input ≡ bufferLen → length output ≡ bufferLen
     → viewOf s input output ≡ advanceOut v → WaitsInFront r
 front-room s r input output v f h li lo e want =
-    let wants : wantsAt (s .gathered) (s .phase) ≡ Read = sym (ap (λ (g : ℕ). wantsAt g (r .phase)) (f .gathered) ∙ ap (λ (p : Phase). wantsAt (s .gathered) p) (f .phase)) ∙ want in
+    let wants : wantsAt (s .gathered) (s .phase) ≡ Read = sym (ap (λ (g : ℕ). wantsAt g (r .phase)) (f .gathered)
+    ∙ ap (λ (p : Phase). wantsAt (s .gathered) p) (f .phase)) ∙ want in
     let asks : wantsOf (viewOf s input output) ≡ Read = ap (λ (g : ℕ). wantsAt g (s .phase)) (gathered-length s output h lo) ∙ wants in
     let rests : isServable (viewOf s input output) ≡ false = ap isServable e ∙ advance-ends v in
     let is = reads (viewOf s input output) rests asks in
@@ -165,8 +175,10 @@ abbrev pub eventOf : State → ℤ → ℤ → List ℕ → Event
 eventOf s (pos count) error bytes = cond (eqb count 0) ended (came (take count bytes))
 eventOf s (negsuc _) error bytes = cond (isRepeated s error) interrupted failed
 
-module _ (s : State) (input output bytes : List ℕ) (k : ℕ) (h : WithinBuffers s) (f : s .from ≡ 0) (l : length input ≡ bufferLen) (n : length bytes ≡ bufferLen - s .to) where
-  read-waits : (count : ℕ) → count ≤ bufferLen - s .to → take (s .to + count - s .from) (drop (s .from) (putMid (s .to) k input bytes)) ≡ waitingIn s input ++ take count bytes
+module _ (s : State) (input output bytes : List ℕ) (k : ℕ) (h : WithinBuffers s) (f : s .from ≡ 0) (l : length input ≡ bufferLen)
+    (n : length bytes ≡ bufferLen - s .to) where
+  read-waits : (count : ℕ) → count ≤ bufferLen - s .to → take (s .to + count - s .from)
+      (drop (s .from) (putMid (s .to) k input bytes)) ≡ waitingIn s input ++ take count bytes
   read-waits count fits =
       let front : length (take (s .to) input) ≡ s .to = length-take-le (s .to) input (omega (arith, h .read)) in
       let j : s .to + count - s .from ≡ length (take (s .to) input) + count = omega arith in
@@ -185,7 +197,8 @@ module _ (s : State) (input output bytes : List ℕ) (k : ℕ) (h : WithinBuffer
       → viewOf (afterRead s got error) (putMid (s .to) k input bytes) output ≡ afterEvent (viewOf s input output) (eventOf s got error bytes)
   view-read (negsuc j) error m = go (isRepeated s error)
     where
-      go : (b : Bool) → viewOf (cond b (repeated s) (inPhase s Failed)) (putMid (s .to) k input bytes) output ≡ afterEvent (viewOf s input output) (cond b interrupted failed)
+      go : (b : Bool) → viewOf (cond b (repeated s) (inPhase s Failed)) (putMid (s .to) k input bytes) output ≡ afterEvent (viewOf s input output)
+          (cond b interrupted failed)
       go true = rw kept-waits
       go false = rw kept-waits
   view-read (pos zero) error m = rw kept-waits
@@ -230,7 +243,8 @@ module _ (s : State) (bytes : List ℕ) where
       go true = (omega arith, λ f. let z : _≡_ {A = ℕ} 0 1 = cc in absurd (omega arith))
       go false = (omega arith, λ f. let z : _≡_ {A = ℕ} 0 1 = cc in absurd (omega arith))
 
-pub view-written : (s : State) (input output : List ℕ) (b : Bool) → viewOf (afterWrite s b) input output ≡ afterEvent (viewOf s input output) (cond b written unwritten)
+pub view-written : (s : State) (input output : List ℕ) (b : Bool)
+    → viewOf (afterWrite s b) input output ≡ afterEvent (viewOf s input output) (cond b written unwritten)
 view-written s input output true = refl
 view-written s input output false = refl
 

@@ -11,7 +11,8 @@ ghost use Rattle.transfer.specs.Bridge.{Shown};
 ghost use Rattle.records.specs.Records.{neededFor};
 ghost use Rattle.turns.specs.declared.Phase.the-variants.{Failed};
 ghost use Rattle.turns.specs.View.{bufferLen, wantsAt, stepAt, phaseAfter, roomAt, readyAt, servedOut, advanceOut};
-ghost use Rattle.turns.specs.State.{Buffers, WithinBuffers, Roomy, viewOf, waitingIn, Begun, WaitsInFront, Fronted, repeated, inPhase, isRepeated, afterRead, afterWrite};
+ghost use Rattle.turns.specs.State.{Buffers, WithinBuffers, Roomy, viewOf, waitingIn, Begun, WaitsInFront, Fronted, repeated, inPhase, isRepeated};
+ghost use Rattle.turns.specs.State.{afterRead, afterWrite};
 use records::Session;
 use transfer::StepAnswer;
 

@@ -69,7 +69,8 @@ checks r t l p s z told =
 pub record Wrote (f : Params) (at : Held) (ms w out : List ℕ) : Type 0 where
   pub word-is : encodeOut f at ms out .word ≡ word f (inUse at) ms
   pub few : at .count ≤ maxBursts
-  pub rest : verifyOut f at ms w ≡ must (allBelow (foundBound (f .q)) w) (unchecked badSymbol) (cond (agreesOutside (constructionA f) w (inUse at) ms) agreeing differing)
+  pub rest : verifyOut f at ms w ≡ must (allBelow (foundBound (f .q)) w) (unchecked badSymbol)
+      (cond (agreesOutside (constructionA f) w (inUse at) ms) agreeing differing)
 
 refuses : (r t l p s z : Bool) (out v : List ℕ) (told : Verdict) → writes r t l p s out v .answer ≢ served
     → checks r t l p s z told ≡ unchecked (writes r t l p s out v .answer)
@@ -104,12 +105,14 @@ module _ (f : Params) (at : Held) (ms w out : List ℕ) (sized : length out ≡ 
   unfolding verifyOut
   verify-refused h =
       rw written
-      (refuses (inRange f) (fits f) lengths (apart (f .b) (f .n) 0 (inUse at)) (allBelow (f .q) ms) (allBelow (foundBound (f .q)) w) out (word f (inUse at) ms) verdict (rw written at h))
+      (refuses (inRange f) (fits f) lengths (apart (f .b) (f .n) 0 (inUse at)) (allBelow (f .q) ms) (allBelow (foundBound (f .q)) w) out
+      (word f (inUse at) ms) verdict (rw written at h))
 
   pub verify-passed : encodeOut f at ms out .answer ≡ served → Wrote f at ms w out
   unfolding verifyOut
   verify-passed h =
-      let p = passes (inRange f) (fits f) lengths (apart (f .b) (f .n) 0 (inUse at)) (allBelow (f .q) ms) (allBelow (foundBound (f .q)) w) out (word f (inUse at) ms) verdict (rw written at h) in
+      let p = passes (inRange f) (fits f) lengths (apart (f .b) (f .n) 0 (inUse at)) (allBelow (f .q) ms) (allBelow (foundBound (f .q)) w) out
+      (word f (inUse at) ms) verdict (rw written at h) in
       let sizes = both (eqb (at .count) (f .m) && eqb (length ms) (messageLen f)) (eqb (length w) (f .n)) (p .2) in
       let counted = eqb-true (at .count) (f .m) (both (eqb (at .count) (f .m)) (eqb (length ms) (messageLen f)) (sizes .0) .0) in
       record {

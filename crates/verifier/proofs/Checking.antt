@@ -35,7 +35,8 @@ module _ (c : Codec) (w starts ms : List ℕ) where
       (λ d. absurd (true≢false (sym e ∙ ap not
       (has-some (c .wordLen) 0 x (differsAt c w starts ms) (omega arith) (omega arith) (rw (out, eqb-other (getD w x 0) (getD (c .encode starts ms) x 0) d))))))
 
-  pub outside-agrees : ((x : ℕ) → x < c .wordLen → c .spoilt starts x ≡ false → getD w x 0 ≡ getD (c .encode starts ms) x 0) → agreesOutside c w starts ms ≡ true
+  pub outside-agrees : ((x : ℕ) → x < c .wordLen → c .spoilt starts x ≡ false → getD w x 0 ≡ getD (c .encode starts ms) x 0)
+      → agreesOutside c w starts ms ≡ true
   unfolding agreesOutside
   outside-agrees h =
       ap not (has-none (c .wordLen) 0 (differsAt c w starts ms)

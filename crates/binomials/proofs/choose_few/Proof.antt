@@ -59,14 +59,4 @@ pub choose-few-spec : {M : Type 1} → statement M
 choose-few-spec =
     tie.close
     (tie.spec
-    Inv-loop
-    μ-loop
-    loop-holds
-    sub-taken
-    mul-taken
-    add-i
-    mul-orders
-    loop-less
-    loop-again
-    div-result
-    returns)
+    Inv-loop μ-loop loop-holds sub-taken mul-taken add-i mul-orders loop-less loop-again div-result returns)

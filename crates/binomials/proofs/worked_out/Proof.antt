@@ -74,17 +74,5 @@ pub worked-out-spec : {M : Type 1} → statement M
 worked-out-spec =
     tie.close
     (tie.spec
-    Inv-loop
-    μ-loop
-    returns
-    choose-few-requires
-    returns-2
-    choose-few-requires-2
-    loop-holds
-    sub-scaled
-    add-scaled
-    scaled-requires
-    add-i
-    loop-less
-    loop-again
-    returns-3)
+    Inv-loop μ-loop returns choose-few-requires returns-2 choose-few-requires-2 loop-holds sub-scaled add-scaled scaled-requires add-i
+    loop-less loop-again returns-3)

@@ -39,7 +39,8 @@ returns c =
     let a = s .before .args in
     let w = row (a .m) (bursts (a .t1)) (a .part) in
     c .following .ensures
-    ∙ ap (next (a .m)) (sym (first-here (a .m) (s .loop .j) w (omega arith) (is-burst (a .t1) (a .part * a .m + s .loop .j) (c .before .if1 .taken))) ∙ s .loop .inv .2)
+    ∙ ap (next (a .m)) (sym (first-here (a .m) (s .loop .j) w (omega arith) (is-burst (a .t1) (a .part * a .m + s .loop .j) (c .before .if1 .taken)))
+    ∙ s .loop .inv .2)
 
 add-j : tie.Need-add-j Inv-loop μ-loop
 add-j c = search needs
@@ -69,16 +70,5 @@ pub beside-spec : {M : Type 1} → statement M
 beside-spec =
     tie.close
     (tie.spec
-    Inv-loop
-    μ-loop
-    mul-from
-    loop-holds
-    add-if1
-    array-read-if1
-    following-requires
-    returns
-    add-j
-    loop-less
-    loop-again
-    following-requires-2
+    Inv-loop μ-loop mul-from loop-holds add-if1 array-read-if1 following-requires returns add-j loop-less loop-again following-requires-2
     returns-2)

@@ -37,17 +37,32 @@ element-copy-out-s c =
 cast-start : tie.Need-cast-start Inv-loop μ-loop
 cast-start c =
     let s = c .before .before .before .before .before in
-    omega (arith, start-in (s .args .layout) (s .args .t2) (s .pre) (c .before .before .before .loop .j) (omega arith), in-range (s .args .layout) (s .pre .layout) .b-least)
+    omega (
+      arith,
+      start-in (s .args .layout) (s .args .t2) (s .pre) (c .before .before .before .loop .j) (omega arith),
+      in-range (s .args .layout)
+          (s .pre .layout) .b-least,
+    )
 
 add-block-of : tie.Need-add-block-of Inv-loop μ-loop
 add-block-of c =
     let s = c .before .before .before .before .before .before in
-    omega (arith, start-in (s .args .layout) (s .args .t2) (s .pre) (c .before .before .before .before .loop .j) (omega arith), in-range (s .args .layout) (s .pre .layout) .b-least)
+    omega (
+      arith,
+      start-in (s .args .layout) (s .args .t2) (s .pre) (c .before .before .before .before .loop .j) (omega arith),
+      in-range (s .args .layout)
+          (s .pre .layout) .b-least,
+    )
 
 sub-block-of : tie.Need-sub-block-of Inv-loop μ-loop
 sub-block-of c =
     let s = c .before .before .before .before .before .before in
-    omega (arith, start-in (s .args .layout) (s .args .t2) (s .pre) (c .before .before .before .before .loop .j) (omega arith), in-range (s .args .layout) (s .pre .layout) .b-least)
+    omega (
+      arith,
+      start-in (s .args .layout) (s .args .t2) (s .pre) (c .before .before .before .before .loop .j) (omega arith),
+      in-range (s .args .layout)
+          (s .pre .layout) .b-least,
+    )
 
 block-of-requires : tie.Need-block-of-requires Inv-loop μ-loop
 block-of-requires c κs =
@@ -108,18 +123,5 @@ pub burst-kinds-spec : {M : Type 1} → statement M
 burst-kinds-spec =
     tie.close
     (tie.spec
-    Inv-loop
-    μ-loop
-    mul-blocks
-    loop-holds
-    mul-s
-    element-copy-out-s
-    cast-start
-    add-block-of
-    sub-block-of
-    block-of-requires
-    with-burst-requires
-    add-j
-    loop-less
-    loop-again
-    returns)
+    Inv-loop μ-loop mul-blocks loop-holds mul-s element-copy-out-s cast-start add-block-of sub-block-of block-of-requires
+    with-burst-requires add-j loop-less loop-again returns)

@@ -28,7 +28,8 @@ array-read-if1 c = search needs
 returns : tie.Need-returns Inv-loop μ-loop
 returns c =
     let s = c .before .before in
-    sym (first-here (s .before .args .blocks) (s .loop .k) (λ x. not (bursts (s .before .args .t1) x)) (omega arith) (rw (no-burst (s .before .args .t1) (s .loop .k) (c .if1 .taken)))) ∙ s .loop .inv .1
+    sym (first-here (s .before .args .blocks) (s .loop .k) (λ x. not (bursts (s .before .args .t1) x)) (omega arith)
+    (rw (no-burst (s .before .args .t1) (s .loop .k) (c .if1 .taken)))) ∙ s .loop .inv .1
 
 add-k : tie.Need-add-k Inv-loop μ-loop
 add-k c = search needs
@@ -40,7 +41,8 @@ loop-again : tie.Need-loop-again Inv-loop μ-loop
 loop-again c =
     let s = c .before .before in (
       omega arith,
-      sym (first-on (s .before .args .blocks) (s .loop .k) (λ x. not (bursts (s .before .args .t1) x)) (omega arith) (rw (is-burst (s .before .args .t1) (s .loop .k) (c .if1 .left)))) ∙ s .loop .inv .1,
+      sym (first-on (s .before .args .blocks) (s .loop .k) (λ x. not (bursts (s .before .args .t1) x)) (omega arith)
+          (rw (is-burst (s .before .args .t1) (s .loop .k) (c .if1 .left)))) ∙ s .loop .inv .1,
     )
 
 returns-2 : tie.Need-returns-2 Inv-loop μ-loop
@@ -52,12 +54,4 @@ pub first-spare-spec : {M : Type 1} → statement M
 first-spare-spec =
     tie.close
     (tie.spec
-    Inv-loop
-    μ-loop
-    loop-holds
-    array-read-if1
-    returns
-    add-k
-    loop-less
-    loop-again
-    returns-2)
+    Inv-loop μ-loop loop-holds array-read-if1 returns add-k loop-less loop-again returns-2)

@@ -100,17 +100,5 @@ pub has-bursts-spec : {M : Type 1} → statement M
 has-bursts-spec =
     tie.close
     (tie.spec
-    Inv-loop
-    μ-loop
-    mul-from
-    loop-holds
-    add-if1
-    element-copy-out-if1
-    returns
-    sub-missing
-    add-j
-    sub-if3
-    returns-2
-    loop-less
-    loop-again
+    Inv-loop μ-loop mul-from loop-holds add-if1 element-copy-out-if1 returns sub-missing add-j sub-if3 returns-2 loop-less loop-again
     returns-3)

@@ -33,7 +33,8 @@ returns c =
     let s = c .before .before in
     let l = s .args .layout in
     let p = s .pre .layout .parts-is in
-    λ k h. (rw p at (c .with-index .ensures k)) h ∙ kind-is (figuresOf l) (startsIn (s .args .at)) (c .before .burst-kinds .result) (c .before .burst-kinds .ensures) k
+    λ k h. (rw p at (c .with-index .ensures k)) h ∙ kind-is (figuresOf l) (startsIn (s .args .at)) (c .before .burst-kinds .result)
+    (c .before .burst-kinds .ensures) k
 
 pub kinds-of-spec : {M : Type 1} → statement M
 kinds-of-spec = tie.close (tie.spec burst-kinds-requires with-index-requires returns)

@@ -19,7 +19,12 @@ abbrev μ-loop : tie.MeasureT-loop
 μ-loop kinds parts m next₀ i₀ next i = parts - i
 
 loop-holds : tie.Need-loop-holds Inv-loop μ-loop
-loop-holds c = (omega arith, omega arith, λ k. mark-none (before (c .args .m) (bursts (c .args .kinds)) 0) (c .args .kinds) k (before-none (c .args .m) (bursts (c .args .kinds)) k))
+loop-holds c = (
+  omega arith,
+  omega arith,
+  λ k. mark-none (before (c .args .m) (bursts (c .args .kinds)) 0) (c .args .kinds) k
+      (before-none (c .args .m) (bursts (c .args .kinds)) k),
+)
 
 mul-at : tie.Need-mul-at Inv-loop μ-loop
 mul-at c =
@@ -71,21 +76,12 @@ returns c =
     let s = c .before in
     let a = s .before .args in
     let e : s .loop .i ≡ a .parts = omega arith in
-    λ k l. mark-same (before (a .m) (bursts (a .kinds)) (s .loop .i)) (isIndexIn (a .m) (bursts (a .kinds)) oneEach) (a .kinds) (s .loop .next) k (s .loop .inv .2 k)
+    λ k l. mark-same (before (a .m) (bursts (a .kinds)) (s .loop .i)) (isIndexIn (a .m) (bursts (a .kinds)) oneEach) (a .kinds) (s .loop .next) k
+    (s .loop .inv .2 k)
     (rw e (before-all (a .m) (bursts (a .kinds)) (a .parts) k l))
 
 pub one-each-spec : {M : Type 1} → statement M
 one-each-spec =
     tie.close
     (tie.spec
-    Inv-loop
-    μ-loop
-    loop-holds
-    mul-at
-    beside-requires
-    add-at
-    array-write-next
-    add-i
-    loop-less
-    loop-again
-    returns)
+    Inv-loop μ-loop loop-holds mul-at beside-requires add-at array-write-next add-i loop-less loop-again returns)

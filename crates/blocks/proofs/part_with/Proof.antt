@@ -14,7 +14,8 @@ use Rattle.blocks.proofs.part_with.Statement.{statement}
 use Rattle.blocks.proofs.part_with.Tie as tie
 
 abbrev Inv-loop : tie.InvT-loop
-Inv-loop kinds parts m wanted i₀ i = (i ≤ parts) × (first (parts - i) i (λ x. eqb (partCount m (bursts kinds) x) wanted) ≡ first parts 0 (λ x. eqb (partCount m (bursts kinds) x) wanted))
+Inv-loop kinds parts m wanted i₀ i = (i ≤ parts) × (first (parts - i) i (λ x. eqb (partCount m (bursts kinds) x) wanted) ≡ first parts 0
+    (λ x. eqb (partCount m (bursts kinds) x) wanted))
 
 abbrev μ-loop : tie.MeasureT-loop
 μ-loop kinds parts m wanted i₀ i = parts - i
@@ -61,12 +62,4 @@ pub part-with-spec : {M : Type 1} → statement M
 part-with-spec =
     tie.close
     (tie.spec
-    Inv-loop
-    μ-loop
-    loop-holds
-    has-bursts-requires
-    returns
-    add-i
-    loop-less
-    loop-again
-    returns-2)
+    Inv-loop μ-loop loop-holds has-bursts-requires returns add-i loop-less loop-again returns-2)

@@ -26,7 +26,8 @@ returns : tie.Need-returns
 returns c =
     let a = c .before .args in
     let e : c .if1 .at ≡ becomes (a .blocks) (bursts (a .t1)) (a .last) =
-    ⊎-elim (λ w. w .2 ∙ w .1 .ensures ∙ sym (spare-taken (a .t1) (a .blocks) (a .last) (w .0 .taken))) (λ w. w .1 ∙ sym (last-taken (a .t1) (a .blocks) (a .last) (w .0 .left))) (c .if1 .came) in
+    ⊎-elim (λ w. w .2 ∙ w .1 .ensures ∙ sym (spare-taken (a .t1) (a .blocks) (a .last) (w .0 .taken)))
+    (λ w. w .1 ∙ sym (last-taken (a .t1) (a .blocks) (a .last) (w .0 .left))) (c .if1 .came) in
     ap (λ (y : ℕ). set (a .t1) y 1) e
 
 pub with-burst-spec : {M : Type 1} → statement M

@@ -32,7 +32,8 @@ returns c =
     let B = bursts (a .t1) in
     let l : partWith (a .parts) (a .m) B (a .m) < a .parts = omega (arith, b .part-with .ensures) in
     let e : whole (c .before .following .result) ≡ chosen (a .parts) (a .m) B =
-    ap whole (c .before .following .ensures ∙ ap (next (a .parts)) (b .part-with .ensures)) ∙ sym (chosen-full (a .parts) (a .m) B (b .before .before .pre .4) l) in
+    ap whole (c .before .following .ensures ∙ ap (next (a .parts)) (b .part-with .ensures))
+    ∙ sym (chosen-full (a .parts) (a .m) B (b .before .before .pre .4) l) in
     λ k _. subst (λ (s : Chosen). getD (c .with-part .result) k 0 ≡ marked (isIndexIn (a .m) B s) (a .t1) k) e (c .with-part .ensures k)
 
 part-with-requires-2 : tie.Need-part-with-requires-2
@@ -51,7 +52,8 @@ returns-2 c =
     let B = bursts (a .t1) in
     let p2 = c .before .before .part-with2 in
     let e : whole (p2 .result) ≡ chosen (a .parts) (a .m) B =
-    ap whole (p2 .ensures) ∙ sym (chosen-bare (a .parts) (a .m) B (b .before .before .pre .4) (omega (arith, b .part-with .ensures)) (omega (arith, p2 .ensures))) in
+    ap whole (p2 .ensures) ∙ sym (chosen-bare (a .parts) (a .m) B (b .before .before .pre .4) (omega (arith, b .part-with .ensures))
+    (omega (arith, p2 .ensures))) in
     λ k _. subst (λ (s : Chosen). getD (c .with-part2 .result) k 0 ≡ marked (isIndexIn (a .m) B s) (a .t1) k) e (c .with-part2 .ensures k)
 
 one-each-requires : tie.Need-one-each-requires
@@ -64,19 +66,13 @@ returns-3 c =
     let b = c .before .before .before .before .before in
     let a = b .before .before .args in
     let B = bursts (a .t1) in
-    let e = sym (chosen-each (a .parts) (a .m) B (b .before .before .pre .4) (omega (arith, b .part-with .ensures)) (omega (arith, c .before .before .part-with2 .ensures))) in
+    let e = sym (chosen-each (a .parts) (a .m) B (b .before .before .pre .4) (omega (arith, b .part-with .ensures))
+    (omega (arith, c .before .before .part-with2 .ensures))) in
     λ k l. subst (λ (s : Chosen). getD (c .one-each .result) k 0 ≡ marked (isIndexIn (a .m) B s) (a .t1) k) e (c .one-each .ensures k l)
 
 pub with-index-spec : {M : Type 1} → statement M
 with-index-spec =
     tie.close
     (tie.spec
-    part-with-requires
-    following-requires
-    with-part-requires
-    returns
-    part-with-requires-2
-    with-part-requires-2
-    returns-2
-    one-each-requires
+    part-with-requires following-requires with-part-requires returns part-with-requires-2 with-part-requires-2 returns-2 one-each-requires
     returns-3)

@@ -40,28 +40,25 @@ loop-less c = search needs
 loop-again : tie.Need-loop-again Inv-loop μ-loop
 loop-again c =
     let s = c .before in
-    let a = s .before .args in
-    (omega arith, refl, simp length-set (s .loop .inv .2), mark-more (within (a .part * a .m) (s .loop .j)) (within (a .part * a .m) (s .loop .j + 1)) (a .kinds) (s .loop .next) (a .part * a .m + s .loop .j) (omega arith) (s .loop .inv .3) (within-more (a .part * a .m) (s .loop .j)))
+    let a = s .before .args in (
+      omega arith,
+      refl,
+      simp length-set (s .loop .inv .2),
+      mark-more (within (a .part * a .m) (s .loop .j)) (within (a .part * a .m) (s .loop .j + 1))
+          (a .kinds) (s .loop .next) (a .part * a .m + s .loop .j) (omega arith) (s .loop .inv .3) (within-more (a .part * a .m) (s .loop .j)),
+    )
 
 returns : tie.Need-returns Inv-loop μ-loop
 returns c =
     let s = c .before in
     let a = s .before .args in
     let e : s .loop .j ≡ a .m = omega arith in
-    λ k. mark-same (within (a .part * a .m) (s .loop .j)) (isIndexIn (a .m) (bursts (a .kinds)) (whole (a .part))) (a .kinds) (s .loop .next) k (s .loop .inv .3 k)
+    λ k. mark-same (within (a .part * a .m) (s .loop .j)) (isIndexIn (a .m) (bursts (a .kinds)) (whole (a .part))) (a .kinds) (s .loop .next) k
+    (s .loop .inv .3 k)
     (rw e (within-part (a .m) (a .part) k (bursts (a .kinds)) (omega arith)))
 
 pub with-part-spec : {M : Type 1} → statement M
 with-part-spec =
     tie.close
     (tie.spec
-    Inv-loop
-    μ-loop
-    mul-from
-    loop-holds
-    add-next
-    array-write-next
-    add-j
-    loop-less
-    loop-again
-    returns)
+    Inv-loop μ-loop mul-from loop-holds add-next array-write-next add-j loop-less loop-again returns)

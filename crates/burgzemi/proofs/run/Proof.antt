@@ -28,7 +28,8 @@ start-requires : tie.Need-start-requires Inv-loop μ-loop
 start-requires c κs = search needs
 
 loop-holds : tie.Need-loop-holds Inv-loop μ-loop
-loop-holds c = begun-going (c .start .result) (c .before .before .before .args .input .now) (c .before .before .before .args .output .now) (c .before .before .before .pre) (c .start .ensures)
+loop-holds c = begun-going (c .start .result) (c .before .before .before .args .input .now) (c .before .before .before .args .output .now)
+    (c .before .before .before .pre) (c .start .ensures)
 
 wants-requires : tie.Need-wants-requires Inv-loop μ-loop
 wants-requires c κs = search needs
@@ -72,7 +73,8 @@ after-read-requires c κs =
     let r = c .before .before .before .read in
     let n : length (t .input) ≡ bufferLen = t .inv .buffers .0 in
     let moved : Moved (bufferLen - t .state .to) (r .result) =
-    subst (λ (j : ℕ). Moved j (r .result)) (mid-len (t .state .to) (length (t .input)) (t .input) (omega arith) ∙ ap (λ (j : ℕ). j - t .state .to) n) (r .ensures) in
+    subst (λ (j : ℕ). Moved j (r .result)) (mid-len (t .state .to) (length (t .input)) (t .input) (omega arith) ∙ ap (λ (j : ℕ). j - t .state .to) n)
+    (r .ensures) in
     (t .inv .within .read, subst (λ (z : ℤ). Moved (bufferLen - t .state .to) z) (sym (toZ-ofZ w64 (r .result) (record { sfits = r .ok }))) moved)
 
 enum-told-3 : tie.Need-enum-told-3 Inv-loop μ-loop
@@ -82,7 +84,8 @@ slice-reshare-prefix-write-all : tie.Need-slice-reshare-prefix-write-all Inv-loo
 slice-reshare-prefix-write-all c = let t = c .before .before .before .loop in omega (arith, t .inv .within .gathered, t .inv .buffers .1)
 
 slice-aggregate-write-all : tie.Need-slice-aggregate-write-all Inv-loop μ-loop
-slice-aggregate-write-all c = let t = c .before .before .before .before .loop in sym (gathered-length (t .state) (t .output) (t .inv .within) (t .inv .buffers .1))
+slice-aggregate-write-all c = let t = c .before .before .before .before .loop in
+    sym (gathered-length (t .state) (t .output) (t .inv .within) (t .inv .buffers .1))
 
 write-all-requires : tie.Need-write-all-requires Inv-loop μ-loop
 write-all-requires c κs = search needs
@@ -97,9 +100,11 @@ advance-requires c κs =
     let m = c .before .before .before .match in
     let a : Answered (t .state) (m .state) (t .input) (m .input) (t .output) =
     ⊎-elim
-    (λ x. read-answered (t .state) (t .input) (t .output) (t .inv) (w .result) (w .ensures) (x .1 .given .1) (x .3 .result) (x .6 .result) (x .3 .last .1 .0) (m .input) (m .state) (x .3 .ensures) (x .4 .given .0)
+    (λ x. read-answered (t .state) (t .input) (t .output) (t .inv) (w .result) (w .ensures) (x .1 .given .1) (x .3 .result) (x .6 .result)
+    (x .3 .last .1 .0) (m .input) (m .state) (x .3 .ensures) (x .4 .given .0)
     (x .9 ∙ x .7 .ensures ∙ told-read (t .state) (x .3 .result) (x .6 .result) (record { sfits = x .3 .ok }) (record { sfits = x .6 .ok })) (x .8))
-    (λ x. write-answered (t .state) (t .input) (t .output) (t .inv) (w .result) (w .ensures) (x .1 .given .1) (x .3 .result) (m .input) (m .state) (x .6 ∙ x .4 .ensures) (x .5)) (m .came) in
+    (λ x. write-answered (t .state) (t .input) (t .output) (t .inv) (w .result) (w .ensures) (x .1 .given .1) (x .3 .result) (m .input) (m .state)
+    (x .6 ∙ x .4 .ensures) (x .5)) (m .came) in
     ((a .size, t .inv .buffers .1), a .within)
 
 loop-less : tie.Need-loop-less Inv-loop μ-loop
@@ -109,11 +114,14 @@ loop-less c =
     let m = c .before .before .before .before .before .before .before .before .match in
     let a : Answered (t .state) (m .state) (t .input) (m .input) (t .output) =
     ⊎-elim
-    (λ x. read-answered (t .state) (t .input) (t .output) (t .inv) (w .result) (w .ensures) (x .1 .given .1) (x .3 .result) (x .6 .result) (x .3 .last .1 .0) (m .input) (m .state) (x .3 .ensures) (x .4 .given .0)
+    (λ x. read-answered (t .state) (t .input) (t .output) (t .inv) (w .result) (w .ensures) (x .1 .given .1) (x .3 .result) (x .6 .result)
+    (x .3 .last .1 .0) (m .input) (m .state) (x .3 .ensures) (x .4 .given .0)
     (x .9 ∙ x .7 .ensures ∙ told-read (t .state) (x .3 .result) (x .6 .result) (record { sfits = x .3 .ok }) (record { sfits = x .6 .ok })) (x .8))
-    (λ x. write-answered (t .state) (t .input) (t .output) (t .inv) (w .result) (w .ensures) (x .1 .given .1) (x .3 .result) (m .input) (m .state) (x .6 ∙ x .4 .ensures) (x .5)) (m .came) in
+    (λ x. write-answered (t .state) (t .input) (t .output) (t .inv) (w .result) (w .ensures) (x .1 .given .1) (x .3 .result) (m .input) (m .state)
+    (x .6 ∙ x .4 .ensures) (x .5)) (m .came) in
     let v = c .before .before .before .before .advance in
-    turn-less (t .state) (t .input) (t .output) (t .inv) (m .state) (v .result) (m .input) (v .last .1 .0) (v .last .1 .1 .0) a (v .ensures .0) (v .ensures .1 .1 .1)
+    turn-less (t .state) (t .input) (t .output) (t .inv) (m .state) (v .result) (m .input) (v .last .1 .0) (v .last .1 .1 .0) a (v .ensures .0)
+    (v .ensures .1 .1 .1)
 
 loop-again : tie.Need-loop-again Inv-loop μ-loop
 loop-again c =
@@ -122,38 +130,20 @@ loop-again c =
     let m = c .before .before .before .before .before .before .before .before .match in
     let a : Answered (t .state) (m .state) (t .input) (m .input) (t .output) =
     ⊎-elim
-    (λ x. read-answered (t .state) (t .input) (t .output) (t .inv) (w .result) (w .ensures) (x .1 .given .1) (x .3 .result) (x .6 .result) (x .3 .last .1 .0) (m .input) (m .state) (x .3 .ensures) (x .4 .given .0)
+    (λ x. read-answered (t .state) (t .input) (t .output) (t .inv) (w .result) (w .ensures) (x .1 .given .1) (x .3 .result) (x .6 .result)
+    (x .3 .last .1 .0) (m .input) (m .state) (x .3 .ensures) (x .4 .given .0)
     (x .9 ∙ x .7 .ensures ∙ told-read (t .state) (x .3 .result) (x .6 .result) (record { sfits = x .3 .ok }) (record { sfits = x .6 .ok })) (x .8))
-    (λ x. write-answered (t .state) (t .input) (t .output) (t .inv) (w .result) (w .ensures) (x .1 .given .1) (x .3 .result) (m .input) (m .state) (x .6 ∙ x .4 .ensures) (x .5)) (m .came) in
+    (λ x. write-answered (t .state) (t .input) (t .output) (t .inv) (w .result) (w .ensures) (x .1 .given .1) (x .3 .result) (m .input) (m .state)
+    (x .6 ∙ x .4 .ensures) (x .5)) (m .came) in
     let v = c .before .before .before .before .advance in
-    turn-going (t .state) (t .input) (t .output) (t .inv) (m .state) (v .result) (m .input) (v .last .1 .0) (v .last .1 .1 .0) a (v .ensures .0) (v .ensures .1 .1 .1)
+    turn-going (t .state) (t .input) (t .output) (t .inv) (m .state) (v .result) (m .input) (v .last .1 .0) (v .last .1 .1 .0) a (v .ensures .0)
+    (v .ensures .1 .1 .1)
     (search needs, search needs) (v .ensures .1 .0) (v .ensures .1 .1 .0)
 
 pub run-spec : {M : Type 1} → statement M
 run-spec =
     tie.close
     (tie.spec
-    Inv-loop
-    μ-loop
-    start-requires
-    loop-holds
-    wants-requires
-    enum-told
-    same-length
-    same-length-2
-    returns
-    enum-told-2
-    sub-read
-    part-read-start
-    part-read-end
-    read-requires
-    errno-requires
-    after-read-requires
-    enum-told-3
-    slice-reshare-prefix-write-all
-    slice-aggregate-write-all
-    write-all-requires
-    after-write-requires
-    advance-requires
-    loop-less
-    loop-again)
+    Inv-loop μ-loop start-requires loop-holds wants-requires enum-told same-length same-length-2 returns enum-told-2 sub-read
+    part-read-start part-read-end read-requires errno-requires after-read-requires enum-told-3 slice-reshare-prefix-write-all
+    slice-aggregate-write-all write-all-requires after-write-requires advance-requires loop-less loop-again)

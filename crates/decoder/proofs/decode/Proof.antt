@@ -12,10 +12,12 @@ use Rattle.decoder.proofs.decode.Statement.{statement}
 use Rattle.decoder.proofs.decode.Tie as tie
 
 -- the layout that was answered
-learnt : (c : tie.After-answer2) → (codingIn (c .answer2 .given .0 .0) ≡ codingOf (c .before .before .before .before .before .args .figures)) × Serves (c .answer2 .given .0 .0)
+learnt : (c : tie.After-answer2) → (codingIn (c .answer2 .given .0 .0) ≡ codingOf (c .before .before .before .before .before .args .figures))
+    × Serves (c .answer2 .given .0 .0)
 learnt c =
     let r = c .before .before .layout in
-    serves (c .before .before .before .before .before .args .figures) (r .result) (c .answer2 .given .0 .0) (c .answer2 .given .1) (r .ensures .0) (r .ensures .1)
+    serves (c .before .before .before .before .before .args .figures) (r .result) (c .answer2 .given .0 .0) (c .answer2 .given .1) (r .ensures .0)
+    (r .ensures .1)
 
 layout-requires : tie.Need-layout-requires
 layout-requires c κs = search needs
@@ -39,7 +41,8 @@ returns c =
     let out = s .args .message .now in
     let d = codingOf (s .args .figures) in
     by-outcome (s .args .figures) (s .args .word .now) out (c .unread .result) out
-    (c .unread .ensures out ∙ sym (decode-unfit d (s .args .word .now) out (number .0 .0) (sym (c .before .before .before .before .layout .ensures .0) ∙ ap figuredAs (number .1))))
+    (c .unread .ensures out ∙ sym (decode-unfit d (s .args .word .now) out (number .0 .0)
+    (sym (c .before .before .before .before .layout .ensures .0) ∙ ap figuredAs (number .1))))
 
 same-length : tie.Need-same-length
 same-length c = search needs
@@ -57,11 +60,4 @@ pub decode-spec : {M : Type 1} → statement M
 decode-spec =
     tie.close
     (tie.spec
-    layout-requires
-    enum-known-answer
-    unread-requires
-    enum-known-answer-2
-    decode-fitting-requires
-    returns
-    same-length
-    returns-2)
+    layout-requires enum-known-answer unread-requires enum-known-answer-2 decode-fitting-requires returns same-length returns-2)

@@ -23,7 +23,8 @@ unread-requires c κs = search needs
 returns : tie.Need-returns
 returns c =
     let s = c .before .before .before .before .before in
-    c .unread .ensures (s .args .message .now) ∙ sym (decode-short (d s) (s .args .word .now) (s .args .message .now) (in-order (l s) (s .pre) .0) (in-order (l s) (s .pre) .1) (λ e. c .before .if1 .taken (e ∙ sym (numbers-in (l s) (s .pre) .word-is))))
+    c .unread .ensures (s .args .message .now) ∙ sym (decode-short (d s) (s .args .word .now) (s .args .message .now) (in-order (l s) (s .pre) .0)
+    (in-order (l s) (s .pre) .1) (λ e. c .before .if1 .taken (e ∙ sym (numbers-in (l s) (s .pre) .word-is))))
 
 unread-requires-2 : tie.Need-unread-requires-2
 unread-requires-2 c κs = search needs
@@ -32,7 +33,8 @@ returns-2 : tie.Need-returns-2
 returns-2 c =
     let s = c .before .before .before .before .before .before .before in
     c .unread2 .ensures (s .args .message .now)
-    ∙ sym (decode-room (d s) (s .args .word .now) (s .args .message .now) (in-order (l s) (s .pre) .0) (in-order (l s) (s .pre) .1) (c .before .before .before .if1 .left ∙ numbers-in (l s) (s .pre) .word-is) (λ e. c .before .if2 .taken (e ∙ sym (numbers-in (l s) (s .pre) .len-is))))
+    ∙ sym (decode-room (d s) (s .args .word .now) (s .args .message .now) (in-order (l s) (s .pre) .0) (in-order (l s) (s .pre) .1)
+    (c .before .before .before .if1 .left ∙ numbers-in (l s) (s .pre) .word-is) (λ e. c .before .if2 .taken (e ∙ sym (numbers-in (l s) (s .pre) .len-is))))
 
 all-below-requires : tie.Need-all-below-requires
 all-below-requires c κs = search needs
@@ -47,7 +49,10 @@ returns-3 : tie.Need-returns-3
 returns-3 c =
     let s = c .before .before .before .before .before .before .before .before .before .before in
     c .unread3 .ensures (s .args .message .now)
-    ∙ sym (decode-symbol (d s) (s .args .word .now) (s .args .message .now) (in-order (l s) (s .pre) .0) (in-order (l s) (s .pre) .1) (c .before .before .before .before .before .before .if1 .left ∙ numbers-in (l s) (s .pre) .word-is) (c .before .before .before .before .if2 .left ∙ numbers-in (l s) (s .pre) .len-is) (found-in (l s) (s .args .word .now) ∙ sym (c .before .before .can-be-found .ensures) ∙ not-true _ (c .before .if3 .taken)))
+    ∙ sym (decode-symbol (d s) (s .args .word .now) (s .args .message .now) (in-order (l s) (s .pre) .0) (in-order (l s) (s .pre) .1)
+    (c .before .before .before .before .before .before .if1 .left ∙ numbers-in (l s) (s .pre) .word-is)
+    (c .before .before .before .before .if2 .left ∙ numbers-in (l s) (s .pre) .len-is)
+    (found-in (l s) (s .args .word .now) ∙ sym (c .before .before .can-be-found .ensures) ∙ not-true _ (c .before .if3 .taken)))
 
 heads-of-requires : tie.Need-heads-of-requires
 heads-of-requires c κs = let s = c .before .before .before .before .before .before .before .before .before in in-shape (l s) (s .pre)
@@ -73,21 +78,15 @@ returns-4 c =
     let s = c .before .before .before .before .before .before .before .before .before .before .before .before .before .before .before in
     c .before .before .decode-found .ensures
     ∙ ap (λ (b : ℕ). decodedFrom b (s .args .message .now) (d s .codec .decode (s .args .word .now))) (numbers-in (l s) (s .pre) .burst-is)
-    ∙ sym (decode-read (d s) (s .args .word .now) (s .args .message .now) (in-order (l s) (s .pre) .0) (in-order (l s) (s .pre) .1) (c .before .before .before .before .before .before .before .before .before .before .before .if1 .left ∙ numbers-in (l s) (s .pre) .word-is) (c .before .before .before .before .before .before .before .before .before .if2 .left ∙ numbers-in (l s) (s .pre) .len-is) (found-in (l s) (s .args .word .now) ∙ sym (c .before .before .before .before .before .before .before .can-be-found .ensures) ∙ not-false _ (c .before .before .before .before .before .before .if3 .left)))
+    ∙ sym (decode-read (d s) (s .args .word .now) (s .args .message .now) (in-order (l s) (s .pre) .0) (in-order (l s) (s .pre) .1)
+    (c .before .before .before .before .before .before .before .before .before .before .before .if1 .left ∙ numbers-in (l s) (s .pre) .word-is)
+    (c .before .before .before .before .before .before .before .before .before .if2 .left ∙ numbers-in (l s) (s .pre) .len-is)
+    (found-in (l s) (s .args .word .now) ∙ sym (c .before .before .before .before .before .before .before .can-be-found .ensures)
+    ∙ not-false _ (c .before .before .before .before .before .before .if3 .left)))
 
 pub decode-fitting-spec : {M : Type 1} → statement M
 decode-fitting-spec =
     tie.close
     (tie.spec
-    unread-requires
-    returns
-    unread-requires-2
-    returns-2
-    all-below-requires
-    can-be-found-requires
-    unread-requires-3
-    returns-3
-    heads-of-requires
-    decode-found-requires
-    same-length
-    returns-4)
+    unread-requires returns unread-requires-2 returns-2 all-below-requires can-be-found-requires unread-requires-3 returns-3
+    heads-of-requires decode-found-requires same-length returns-4)

@@ -111,7 +111,8 @@ enum-told c = search needs
 
 -- figures of Construction A
 ranked : (c : tie.After-enum-told) → LayoutFits (l (start (c .before .before .before)))
-ranked c = subst (λ (s : Spells). LayoutFitsWith s (l (start (c .before .before .before)))) (c .enum-told .given .1) (start (c .before .before .before) .pre .0 .fitting)
+ranked c = subst (λ (s : Spells). LayoutFitsWith s (l (start (c .before .before .before)))) (c .enum-told .given .1)
+    (start (c .before .before .before) .pre .0 .fitting)
 
 decode-rank-requires : tie.Need-decode-rank-requires
 decode-rank-requires c κs =
@@ -140,7 +141,8 @@ array-read-part c = search needs
 
 -- figures of Construction B
 long-burst : (c : tie.After-enum-told2) → LongLayoutFits (l (start (c .before .before .before)))
-long-burst c = subst (λ (s : Spells). LayoutFitsWith s (l (start (c .before .before .before)))) (c .enum-told2 .given .1) (start (c .before .before .before) .pre .0 .fitting)
+long-burst c = subst (λ (s : Spells). LayoutFitsWith s (l (start (c .before .before .before)))) (c .enum-told2 .given .1)
+    (start (c .before .before .before) .pre .0 .fitting)
 
 cast-decode-offset : tie.Need-cast-decode-offset
 cast-decode-offset c =
@@ -154,7 +156,8 @@ part-is c =
     let here = c .before .before .before in
     getD-take (l (start here) .m) (index here) 0 0 (omega (arith, long-burst c .laid .m-is))
 
-one-part : (c : tie.After-enum-told2) → (B.found (longOf (figuresOf (l (start (c .before .before .before))))) (start (c .before .before .before) .args .word .now) ≡ some (getD (index (c .before .before .before)) 0 0))
+one-part : (c : tie.After-enum-told2) → (B.found (longOf (figuresOf (l (start (c .before .before .before)))))
+    (start (c .before .before .before) .args .word .now) ≡ some (getD (index (c .before .before .before)) 0 0))
     × (ks (c .before .before .before) ≡ getD (index (c .before .before .before)) 0 0 ∷ [])
 one-part c =
     let here = c .before .before .before in
@@ -179,9 +182,11 @@ decode-offset-requires c κs =
         index =
             record {
               pattern = one .0;
-              whole = ap (hasErasure (l s .q)) (sym (long-heads-are (l s) g w i) ∙ ap (headsIn (l s) w) (sym (one .1))) ∙ below-whole (l s .q) (headsIn (l s) w (ks here)) (whole here);
+              whole = ap (hasErasure (l s .q)) (sym (long-heads-are (l s) g w i) ∙ ap (headsIn (l s) w) (sym (one .1)))
+                  ∙ below-whole (l s .q) (headsIn (l s) w (ks here)) (whole here);
             };
-        spelled = c .before .before .before .written-value .ensures ∙ ap (λ (v : ℕ). min v (l s .«placement_count»)) (ap (writtenIn (l s) w) (one .1) ∙ long-written-is (l s) g w i);
+        spelled = c .before .before .before .written-value .ensures
+            ∙ ap (λ (v : ℕ). min v (l s .«placement_count»)) (ap (writtenIn (l s) w) (one .1) ∙ long-written-is (l s) g w i);
       },
       s .pre .1,
     )
@@ -197,7 +202,8 @@ shown-is c y e =
     let s = start c in
     let w = s .args .word .now in
     ap (decodedFrom (l s .b) (s .args .message .now))
-    (ap (λ (y : Spells). readValue y (l s) w (ks c)) (sym e) ∙ sym (read-shown (l s) (s .pre .0 .fitting) w (ks c) (found (c .before .before .before)) (known s (ks c)) (whole c)))
+    (ap (λ (y : Spells). readValue y (l s) w (ks c)) (sym e) ∙ sym (read-shown (l s) (s .pre .0 .fitting) w (ks c) (found (c .before .before .before))
+    (known s (ks c)) (whole c)))
 
 returns-3 : tie.Need-returns-3
 returns-3 c =
@@ -214,27 +220,14 @@ returns-4 c =
     let f = longOf (figuresOf (l s)) in
     let w = s .args .word .now in
     c .before .before .decode-offset .ensures
-    ∙ ap (λ (i : ℕ). decodedFrom (l s .b) (s .args .message .now) (B′.readPart f w (B′.before i) (B′.written f w i))) (sym (part-is (c .before .before .before .before)))
+    ∙ ap (λ (i : ℕ). decodedFrom (l s .b) (s .args .message .now) (B′.readPart f w (B′.before i) (B′.written f w i)))
+    (sym (part-is (c .before .before .before .before)))
     ∙ shown-is here _ (c .before .before .before .before .enum-told2 .given .1)
 
 pub decode-found-spec : {M : Type 1} → statement M
 decode-found-spec =
     tie.close
     (tie.spec
-    index-read-requires
-    unread-requires
-    returns
-    index-whole-requires
-    unread-requires-2
-    returns-2
-    written-value-requires
-    enum-told
-    decode-rank-requires
-    enum-told-2
-    array-read-part
-    cast-decode-offset
-    decode-offset-requires
-    same-length
-    returns-3
-    same-length-2
+    index-read-requires unread-requires returns index-whole-requires unread-requires-2 returns-2 written-value-requires enum-told
+    decode-rank-requires enum-told-2 array-read-part cast-decode-offset decode-offset-requires same-length returns-3 same-length-2
     returns-4)

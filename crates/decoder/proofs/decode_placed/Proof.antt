@@ -54,7 +54,8 @@ placed : (s : tie.Start) → PlacedIn (walkOf (l s)) (s .args .placement)
 placed s = walks-of (l s) (s .args .placement) (s .args .heads .now) (s .args .kinds .now) (s .pre .0 .placing) (s .pre .1) .bursts
 
 -- whether its message could be read
-whole-is : (c : tie.After-message-whole) → c .message-whole .result ≡ allBelow (l (c .before .before .before .before) .q) (taken (c .before .before .before .before))
+whole-is : (c : tie.After-message-whole) → c .message-whole .result ≡ allBelow (l (c .before .before .before .before) .q)
+    (taken (c .before .before .before .before))
 whole-is c =
     let s = c .before .before .before .before in
     let lent = s .pre .0 .lent in
@@ -114,18 +115,15 @@ returns-2 c =
     let ss = startsIn (a .placement) in
     let call = c .before .before .take-message in
     let plan = plan-of (l s) (a .placement) (a .heads .now) (a .kinds .now) (s .pre .0 .placing) (s .pre .1) in
-    let picked = (rw (c .before .before .before .before .before .before .walk-of .ensures) at (call .ensures)) ∙ ap (λ (cs : List Cell). pick messageCell cs (a .word .now)) plan in
-    read-whole (l s .b) (a .rank) (heldAs (a .placement)) ss (call .last .1 .1 .1 .1 .1 .0) (taken s) (a .message .now) (s .pre .0 .ranked) (s .pre .0 .is-held) picked
-    ∙ sym (ap (decodedFrom (l s .b) (a .message .now)) (reads-whole s (sym (whole-is (c .before .before .before .before .before)) ∙ not-false _ (c .before .before .before .before .if1 .left))))
+    let picked = (rw (c .before .before .before .before .before .before .walk-of .ensures) at (call .ensures))
+    ∙ ap (λ (cs : List Cell). pick messageCell cs (a .word .now)) plan in
+    read-whole (l s .b) (a .rank) (heldAs (a .placement)) ss (call .last .1 .1 .1 .1 .1 .0) (taken s) (a .message .now) (s .pre .0 .ranked)
+    (s .pre .0 .is-held) picked
+    ∙ sym (ap (decodedFrom (l s .b) (a .message .now)) (reads-whole s
+    (sym (whole-is (c .before .before .before .before .before)) ∙ not-false _ (c .before .before .before .before .if1 .left))))
 
 pub decode-placed-spec : {M : Type 1} → statement M
 decode-placed-spec =
     tie.close
     (tie.spec
-    walk-of-requires
-    message-whole-requires
-    unread-requires
-    returns
-    take-message-requires
-    same-length
-    returns-2)
+    walk-of-requires message-whole-requires unread-requires returns take-message-requires same-length returns-2)

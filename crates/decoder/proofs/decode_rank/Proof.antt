@@ -87,10 +87,12 @@ agrees-requires : tie.Need-agrees-requires
 agrees-requires c κs = search needs
 
 -- the kinds are those of the rank's placement
-kinds-at : (c : tie.After-kinds-of) → KindsOf (f (start (c .before .before .before .before .before))) (ss (start (c .before .before .before .before .before))) (c .kinds-of .result)
+kinds-at : (c : tie.After-kinds-of) → KindsOf (f (start (c .before .before .before .before .before)))
+    (ss (start (c .before .before .before .before .before))) (c .kinds-of .result)
 kinds-at c =
     let s = start (c .before .before .before .before .before) in
-    subst (λ (r : List ℕ). KindsOf (f s) r (c .kinds-of .result)) (starts-held {p = c .before .unrank .result} (ss s) (c .before .unrank .ensures)) (c .kinds-of .ensures)
+    subst (λ (r : List ℕ). KindsOf (f s) r (c .kinds-of .result)) (starts-held {p = c .before .unrank .result} (ss s) (c .before .unrank .ensures))
+    (c .kinds-of .ensures)
 
 unread-requires-2 : tie.Need-unread-requires-2
 unread-requires-2 c κs = search needs
@@ -106,14 +108,20 @@ returns-2 c =
     (sym (c .before .before .agrees .ensures (ss s) (kinds-at (c .before .before .before .before))) ∙ not-true _ (c .before .if2 .taken))))
 
 -- what is left to read goes by the rank's placement
-placed : (c : tie.Else2) → readRank (f (start (c .before .before .before .before .before .before .before .before))) (start (c .before .before .before .before .before .before .before .before) .args .word .now) (ks (start (c .before .before .before .before .before .before .before .before))) (start (c .before .before .before .before .before .before .before .before) .args .rank)
-    ≡ readMessage (l (start (c .before .before .before .before .before .before .before .before))) (start (c .before .before .before .before .before .before .before .before) .args .word .now) (startsIn (c .before .before .before .before .unrank .result))
+placed : (c : tie.Else2) → readRank (f (start (c .before .before .before .before .before .before .before .before)))
+    (start (c .before .before .before .before .before .before .before .before) .args .word .now)
+    (ks (start (c .before .before .before .before .before .before .before .before)))
+    (start (c .before .before .before .before .before .before .before .before) .args .rank)
+    ≡ readMessage (l (start (c .before .before .before .before .before .before .before .before)))
+    (start (c .before .before .before .before .before .before .before .before) .args .word .now)
+    (startsIn (c .before .before .before .before .unrank .result))
 placed c =
     let here = c .before .before .before .before .before .before .before .before in
     let s = start here in
     let w = s .args .word .now in
     let un = c .before .before .before .before .unrank in
-    agreeing (l s) (s .pre .0 .fitting) w (ks s) (s .args .rank) (below here) (sym (c .before .agrees .ensures (ss s) (kinds-at (c .before .before .before))) ∙ not-false _ (c .if2 .left))
+    agreeing (l s) (s .pre .0 .fitting) w (ks s) (s .args .rank) (below here)
+    (sym (c .before .agrees .ensures (ss s) (kinds-at (c .before .before .before))) ∙ not-false _ (c .if2 .left))
     ∙ ap (readMessage (l s) w) (sym (starts-held {p = un .result} (ss s) (un .ensures)))
 
 decode-placed-requires : tie.Need-decode-placed-requires
@@ -141,22 +149,12 @@ returns-3 c =
     let here = c .before .before .before .before .before .before .before .before .before .before .before .before .before in
     let s = start here in
     c .before .before .decode-placed .ensures
-    ∙ ap (decodedFrom (l s .b) (s .args .message .now)) (sym (placed (c .before .before .before .before .before)) ∙ ap (readRank (f s) (s .args .word .now) (ks s)) (rank-is here))
+    ∙ ap (decodedFrom (l s .b) (s .args .message .now)) (sym (placed (c .before .before .before .before .before))
+    ∙ ap (readRank (f s) (s .args .word .now) (ks s)) (rank-is here))
 
 pub decode-rank-spec : {M : Type 1} → statement M
 decode-rank-spec =
     tie.close
     (tie.spec
-    unread-requires
-    returns
-    cast-unrank
-    cast-unrank-2
-    cast-unrank-3
-    unrank-requires
-    kinds-of-requires
-    agrees-requires
-    unread-requires-2
-    returns-2
-    decode-placed-requires
-    same-length
-    returns-3)
+    unread-requires returns cast-unrank cast-unrank-2 cast-unrank-3 unrank-requires kinds-of-requires agrees-requires unread-requires-2
+    returns-2 decode-placed-requires same-length returns-3)

@@ -19,11 +19,14 @@ use Rattle.encoder.proofs.encode_fitting.Tie as tie
 
 -- the tests go by the layout's numbers, which are those that its figures give
 number-in : (s : tie.Start) → (r : ℕ)
-    → r ≡ writeNumber (s .args .layout .n) (s .args .layout .m) (s .args .layout .b) (s .args .layout .q) (s .args .layout .«message_len») (heldAs (s .args .at)) (s .args .message .now) (length (s .args .word .now))
-    → r ≡ numberUnder (codingIn (s .args .layout)) (heldAs (s .args .at)) (s .args .message .now) (s .args .word .now) (in-order (s .args .layout) (s .pre) .0) (in-order (s .args .layout) (s .pre) .1)
+    → r ≡ writeNumber (s .args .layout .n) (s .args .layout .m) (s .args .layout .b) (s .args .layout .q) (s .args .layout .«message_len»)
+    (heldAs (s .args .at)) (s .args .message .now) (length (s .args .word .now))
+    → r ≡ numberUnder (codingIn (s .args .layout)) (heldAs (s .args .at)) (s .args .message .now) (s .args .word .now)
+    (in-order (s .args .layout) (s .pre) .0) (in-order (s .args .layout) (s .pre) .1)
 number-in s r e =
     let is = numbers-in (s .args .layout) (s .pre) in
-    e ∙ number-same (heldAs (s .args .at)) (s .args .message .now) (length (s .args .word .now)) (is .word-is) (is .bursts-is) (is .burst-is) (is .alphabet-is) (is .len-is)
+    e ∙ number-same (heldAs (s .args .at)) (s .args .message .now) (length (s .args .word .now)) (is .word-is) (is .bursts-is) (is .burst-is)
+    (is .alphabet-is) (is .len-is)
 
 may-write-requires : tie.Need-may-write-requires
 may-write-requires c κs =
@@ -34,7 +37,8 @@ returns : tie.Need-returns
 returns c =
     let s = c .before .before .before .before in
     let ok = in-order (s .args .layout) (s .pre) in
-    told _ _ (encode-refused (codingIn (s .args .layout)) (heldAs (s .args .at)) (s .args .message .now) (s .args .word .now) (ok .0) (ok .1) (c .before .may-write .result)
+    told _ _ (encode-refused (codingIn (s .args .layout)) (heldAs (s .args .at)) (s .args .message .now) (s .args .word .now) (ok .0) (ok .1)
+    (c .before .may-write .result)
     (number-in s (c .before .may-write .result) (c .before .may-write .ensures)) (c .if1 .taken))
 
 fill-requires : tie.Need-fill-requires
@@ -42,7 +46,8 @@ fill-requires c κs =
     let s = c .before .before .before .before .before in
     let l = s .args .layout in
     let sized : length (s .args .at .starts) ≡ maxBursts = search needs in
-    let u = unrefused (l .n) (l .m) (l .b) (l .q) (l .«message_len») (heldAs (s .args .at)) (s .args .message .now) (length (s .args .word .now)) (sym (c .before .before .may-write .ensures) ∙ c .before .if1 .left) in
+    let u = unrefused (l .n) (l .m) (l .b) (l .q) (l .«message_len») (heldAs (s .args .at)) (s .args .message .now) (length (s .args .word .now))
+    (sym (c .before .before .may-write .ensures) ∙ c .before .if1 .left) in
     (s .pre, record { placing = placing-of l (s .args .at) sized (in-shape l (s .pre)) (u .count) (u .placed); sent = u .sent; room = u .room })
 
 same-length : tie.Need-same-length

@@ -23,7 +23,8 @@ is-list-letter-requires c κs = search needs
 returns-2 : tie.Need-returns-2
 returns-2 c =
     let a = c .before .before .before .before .args in
-    sym (call-letter (a .table .now) (a .letter) (a .number) (c .before .before .if1 .left) (sym (c .before .is-list-letter .ensures) ∙ not-true _ (c .if2 .taken)))
+    sym (call-letter (a .table .now) (a .letter) (a .number) (c .before .before .if1 .left)
+    (sym (c .before .is-list-letter .ensures) ∙ not-true _ (c .if2 .taken)))
 
 states-known-requires : tie.Need-states-known-requires
 states-known-requires c κs = search needs
@@ -34,7 +35,8 @@ same-length c = search needs
 returns-3 : tie.Need-returns-3
 returns-3 c =
     let a = c .before .before .before .before .before .before .before .args in
-    sym (call-state (a .table .now) (a .letter) (a .number) (c .before .before .before .before .before .if1 .left) (sym (c .before .before .before .before .is-list-letter .ensures) ∙ not-false _ (c .before .before .before .if2 .left))
+    sym (call-state (a .table .now) (a .letter) (a .number) (c .before .before .before .before .before .if1 .left)
+    (sym (c .before .before .before .before .is-list-letter .ensures) ∙ not-false _ (c .before .before .before .if2 .left))
     (sym (c .before .states-known .ensures) ∙ not-true _ (c .if3 .taken)))
 
 table-in-requires : tie.Need-table-in-requires
@@ -51,8 +53,11 @@ returns-4 c =
     let a = c .before .before .before .before .before .before .before .before .before .before .before .before .args in
     let call = c .before .before .list-call in
     let e = call .ensures ∙ ap (λ (es : List Entry). callBy (listKind (a .letter)) es (a .number)) (c .before .before .before .table-in .ensures) in
-    call-refused (a .table .now) (a .letter) (a .number) (c .before .before .before .before .before .before .before .before .before .before .if1 .left) (sym (c .before .before .before .before .before .before .before .before .before .is-list-letter .ensures) ∙ not-false _ (c .before .before .before .before .before .before .before .before .if2 .left))
-    (sym (c .before .before .before .before .before .before .states-known .ensures) ∙ not-false _ (c .before .before .before .before .before .if3 .left)) (outcome (call .result)) e (c .if4 .taken)
+    call-refused (a .table .now) (a .letter) (a .number) (c .before .before .before .before .before .before .before .before .before .before .if1 .left)
+    (sym (c .before .before .before .before .before .before .before .before .before .is-list-letter .ensures)
+    ∙ not-false _ (c .before .before .before .before .before .before .before .before .if2 .left))
+    (sym (c .before .before .before .before .before .before .states-known .ensures) ∙ not-false _ (c .before .before .before .before .before .if3 .left))
+    (outcome (call .result)) e (c .if4 .taken)
 
 put-table-requires : tie.Need-put-table-requires
 put-table-requires c κs = search needs
@@ -64,25 +69,20 @@ returns-5 : tie.Need-returns-5
 returns-5 c =
     let a = c .before .before .before .before .before .before .before .before .before .before .before .before .before .before .before .before .args in
     let call = c .before .before .before .before .before .before .list-call in
-    let e = call .ensures ∙ ap (λ (es : List Entry). callBy (listKind (a .letter)) es (a .number)) (c .before .before .before .before .before .before .before .table-in .ensures) in
+    let e = call .ensures ∙ ap (λ (es : List Entry). callBy (listKind (a .letter)) es (a .number))
+    (c .before .before .before .before .before .before .before .table-in .ensures) in
     ap (called served) (c .before .before .put-table .ensures)
-    ∙ call-served (a .table .now) (a .letter) (a .number) (c .before .before .before .before .before .before .before .before .before .before .before .before .before .before .if1 .left) (sym (c .before .before .before .before .before .before .before .before .before .before .before .before .before .is-list-letter .ensures) ∙ not-false _ (c .before .before .before .before .before .before .before .before .before .before .before .before .if2 .left))
-    (sym (c .before .before .before .before .before .before .before .before .before .before .states-known .ensures) ∙ not-false _ (c .before .before .before .before .before .before .before .before .before .if3 .left)) (outcome (call .result)) e (c .before .before .before .before .if4 .left)
+    ∙ call-served (a .table .now) (a .letter) (a .number)
+    (c .before .before .before .before .before .before .before .before .before .before .before .before .before .before .if1 .left)
+    (sym (c .before .before .before .before .before .before .before .before .before .before .before .before .before .is-list-letter .ensures)
+    ∙ not-false _ (c .before .before .before .before .before .before .before .before .before .before .before .before .if2 .left))
+    (sym (c .before .before .before .before .before .before .before .before .before .before .states-known .ensures)
+    ∙ not-false _ (c .before .before .before .before .before .before .before .before .before .if3 .left)) (outcome (call .result)) e
+    (c .before .before .before .before .if4 .left)
 
 pub burgzemi-call-spec : {M : Type 1} → statement M
 burgzemi-call-spec =
     tie.close
     (tie.spec
-    returns
-    is-list-letter-requires
-    returns-2
-    states-known-requires
-    same-length
-    returns-3
-    table-in-requires
-    list-call-requires
-    same-length-2
-    returns-4
-    put-table-requires
-    same-length-3
-    returns-5)
+    returns is-list-letter-requires returns-2 states-known-requires same-length returns-3 table-in-requires list-call-requires same-length-2
+    returns-4 put-table-requires same-length-3 returns-5)

@@ -22,7 +22,8 @@ unfolding prescriptionWriteBytesOut
 returns c =
     let a = c .before .before .before .before .before .before .before .before .args in
     c .before .before .write .ensures
-    ∙ ap (λ (p : Prescription). prescriptionWriteBytesUnder (coding (params (a .n) (a .q) (a .m) (a .b))) (a .table .now) (a .starts .now) (a .number) p (a .word .now))
+    ∙ ap (λ (p : Prescription). prescriptionWriteBytesUnder (coding (params (a .n) (a .q) (a .m) (a .b))) (a .table .now) (a .starts .now) (a .number) p
+    (a .word .now))
     (c .before .before .before .before .prescription-from .ensures)
 
 pub burgzemi-prescription-write-spec : {M : Type 1} → statement M

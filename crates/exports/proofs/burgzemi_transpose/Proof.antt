@@ -21,7 +21,8 @@ same-length-2 c = search needs
 returns : tie.Need-returns
 returns c =
     let a = c .before .before .before .before .before .before .before .before .before .before .args in
-    c .before .before .before .before .transpose .ensures ∙ ap (λ (e : Eye). transposeLent e (a .marks .now) (a .powers .now)) (c .before .before .before .before .before .before .before .eye-from .ensures)
+    c .before .before .before .before .transpose .ensures ∙ ap (λ (e : Eye). transposeLent e (a .marks .now) (a .powers .now))
+    (c .before .before .before .before .before .before .before .eye-from .ensures)
 
 pub burgzemi-transpose-spec : {M : Type 1} → statement M
 burgzemi-transpose-spec =

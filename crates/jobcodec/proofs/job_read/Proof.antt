@@ -36,7 +36,8 @@ read-laid-requires c κs =
     let a = c .before .before .before .before .before .before .before .before .before .args in
     let told = c .before .before .answer2 .given in
     let figured = c .before .before .before .before .layout in
-    laid (a .figures) (entries (a .table)) (figured .result) (told .0 .0) (told .1) (figured .ensures .0) (figured .ensures .1) (sym (c .before .before .before .before .before .before .twice .ensures) ∙ c .before .before .before .before .before .if1 .left) .1
+    laid (a .figures) (entries (a .table)) (figured .result) (told .0 .0) (told .1) (figured .ensures .0) (figured .ensures .1)
+    (sym (c .before .before .before .before .before .before .twice .ensures) ∙ c .before .before .before .before .before .if1 .left) .1
 
 returns-2 : tie.Need-returns-2
 returns-2 c =
@@ -44,7 +45,8 @@ returns-2 c =
     let f = codingOf (a .figures) in
     let told = c .before .answer .given in
     let figured = c .before .before .before .layout in
-    each (sym (read-unfit f (entries (a .table)) (a .word .now) (a .payload .now) (told .0 .0) (sym (c .before .before .before .before .before .twice .ensures) ∙ c .before .before .before .before .if1 .left)
+    each (sym (read-unfit f (entries (a .table)) (a .word .now) (a .payload .now) (told .0 .0)
+    (sym (c .before .before .before .before .before .twice .ensures) ∙ c .before .before .before .before .if1 .left)
     (sym (figured .ensures .0) ∙ ap figuredAs (told .1))))
 
 same-length : tie.Need-same-length
@@ -55,19 +57,13 @@ returns-3 c =
     let a = c .before .before .before .before .before .before .before .before .before .before .before .before .args in
     let told = c .before .before .before .before .before .answer2 .given in
     let figured = c .before .before .before .before .before .before .before .layout in
-    let same = laid (a .figures) (entries (a .table)) (figured .result) (told .0 .0) (told .1) (figured .ensures .0) (figured .ensures .1) (sym (c .before .before .before .before .before .before .before .before .before .twice .ensures) ∙ c .before .before .before .before .before .before .before .before .if1 .left) .0 in
+    let same = laid (a .figures) (entries (a .table)) (figured .result) (told .0 .0) (told .1) (figured .ensures .0) (figured .ensures .1)
+    (sym (c .before .before .before .before .before .before .before .before .before .twice .ensures)
+    ∙ c .before .before .before .before .before .before .before .before .if1 .left) .0 in
     each (c .before .before .read-laid .ensures ∙ ap (λ (d : Coding). jobReadUnder d (entries (a .table)) (a .word .now) (a .payload .now)) same)
 
 pub job-read-spec : {M : Type 1} → statement M
 job-read-spec =
     tie.close
     (tie.spec
-    twice-requires
-    returns
-    layout-requires
-    enum-known-answer
-    enum-known-answer-2
-    read-laid-requires
-    returns-2
-    same-length
-    returns-3)
+    twice-requires returns layout-requires enum-known-answer enum-known-answer-2 read-laid-requires returns-2 same-length returns-3)

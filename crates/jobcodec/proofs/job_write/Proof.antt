@@ -21,7 +21,8 @@ twice-requires c κs = search needs
 returns : tie.Need-returns
 returns c =
     let a = c .before .before .before .before .args in
-    each (sym (write-twice (codingOf (a .figures)) (entries (a .table)) (heldAs (a .at)) (a .payload .now) (a .word .now) (sym (c .before .twice .ensures) ∙ c .if1 .taken)))
+    each (sym (write-twice (codingOf (a .figures)) (entries (a .table)) (heldAs (a .at)) (a .payload .now) (a .word .now)
+    (sym (c .before .twice .ensures) ∙ c .if1 .taken)))
 
 layout-requires : tie.Need-layout-requires
 layout-requires c κs = search needs
@@ -37,7 +38,8 @@ write-laid-requires c κs =
     let a = c .before .before .before .before .before .before .before .before .before .args in
     let told = c .before .before .answer2 .given in
     let figured = c .before .before .before .before .layout in
-    laid (a .figures) (entries (a .table)) (figured .result) (told .0 .0) (told .1) (figured .ensures .0) (figured .ensures .1) (sym (c .before .before .before .before .before .before .twice .ensures) ∙ c .before .before .before .before .before .if1 .left) .1
+    laid (a .figures) (entries (a .table)) (figured .result) (told .0 .0) (told .1) (figured .ensures .0) (figured .ensures .1)
+    (sym (c .before .before .before .before .before .before .twice .ensures) ∙ c .before .before .before .before .before .if1 .left) .1
 
 returns-2 : tie.Need-returns-2
 returns-2 c =
@@ -45,7 +47,8 @@ returns-2 c =
     let f = codingOf (a .figures) in
     let told = c .before .answer .given in
     let figured = c .before .before .before .layout in
-    each (sym (write-unfit f (entries (a .table)) (heldAs (a .at)) (a .payload .now) (a .word .now) (told .0 .0) (sym (c .before .before .before .before .before .twice .ensures) ∙ c .before .before .before .before .if1 .left)
+    each (sym (write-unfit f (entries (a .table)) (heldAs (a .at)) (a .payload .now) (a .word .now) (told .0 .0)
+    (sym (c .before .before .before .before .before .twice .ensures) ∙ c .before .before .before .before .if1 .left)
     (sym (figured .ensures .0) ∙ ap figuredAs (told .1))))
 
 same-length : tie.Need-same-length
@@ -56,19 +59,14 @@ returns-3 c =
     let a = c .before .before .before .before .before .before .before .before .before .before .before .before .args in
     let told = c .before .before .before .before .before .answer2 .given in
     let figured = c .before .before .before .before .before .before .before .layout in
-    let same = laid (a .figures) (entries (a .table)) (figured .result) (told .0 .0) (told .1) (figured .ensures .0) (figured .ensures .1) (sym (c .before .before .before .before .before .before .before .before .before .twice .ensures) ∙ c .before .before .before .before .before .before .before .before .if1 .left) .0 in
-    each (c .before .before .write-laid .ensures ∙ ap (λ (d : Coding). jobWriteUnder d (entries (a .table)) (heldAs (a .at)) (a .payload .now) (a .word .now)) same)
+    let same = laid (a .figures) (entries (a .table)) (figured .result) (told .0 .0) (told .1) (figured .ensures .0) (figured .ensures .1)
+    (sym (c .before .before .before .before .before .before .before .before .before .twice .ensures)
+    ∙ c .before .before .before .before .before .before .before .before .if1 .left) .0 in
+    each (c .before .before .write-laid .ensures ∙ ap (λ (d : Coding). jobWriteUnder d (entries (a .table)) (heldAs (a .at)) (a .payload .now)
+    (a .word .now)) same)
 
 pub job-write-spec : {M : Type 1} → statement M
 job-write-spec =
     tie.close
     (tie.spec
-    twice-requires
-    returns
-    layout-requires
-    enum-known-answer
-    enum-known-answer-2
-    write-laid-requires
-    returns-2
-    same-length
-    returns-3)
+    twice-requires returns layout-requires enum-known-answer enum-known-answer-2 write-laid-requires returns-2 same-length returns-3)

@@ -38,12 +38,4 @@ pub needs-open-spec : {M : Type 1} → statement M
 needs-open-spec =
     tie.close
     (tie.spec
-    lookup-requires
-    enum-told
-    enum-told-2
-    enum-told-3
-    enum-told-4
-    returns
-    returns-2
-    returns-3
-    returns-4)
+    lookup-requires enum-told enum-told-2 enum-told-3 enum-told-4 returns returns-2 returns-3 returns-4)

@@ -21,7 +21,8 @@ payload-len-requires c κs =
 returns : tie.Need-returns
 returns c =
     let s = c .before .before .before .before in
-    sym (read-few (s .args .layout) (entries (s .args .table)) (s .pre) (s .args .word .now) (s .args .payload .now) (c .before .payload-len .result) (c .before .payload-len .ensures) (c .if1 .taken))
+    sym (read-few (s .args .layout) (entries (s .args .table)) (s .pre) (s .args .word .now) (s .args .payload .now) (c .before .payload-len .result)
+    (c .before .payload-len .ensures) (c .if1 .taken))
 
 returns-2 : tie.Need-returns-2
 returns-2 c =
@@ -30,7 +31,8 @@ returns-2 c =
     let es = entries (s .args .table) in
     let count = c .before .before .payload-len .result in
     let e = c .before .before .payload-len .ensures in
-    sym (read-length (codingIn l) es (s .args .word .now) (s .args .payload .now) (ready l es (s .pre) count e (omega (arith, c .before .if1 .left))) (λ d. c .if2 .taken (d ∙ sym (bytes-are l es (s .pre) count e))))
+    sym (read-length (codingIn l) es (s .args .word .now) (s .args .payload .now) (ready l es (s .pre) count e (omega (arith, c .before .if1 .left)))
+    (λ d. c .if2 .taken (d ∙ sym (bytes-are l es (s .pre) count e))))
 
 -- a message that is lent in an array with room for it
 readable : (c : tie.Else2) (room : ℕ) → (let a = c .before .before .before .before .before .args in a .layout .«message_len» ≤ room
@@ -89,16 +91,5 @@ pub read-laid-spec : {M : Type 1} → statement M
 read-laid-spec =
     tie.close
     (tie.spec
-    payload-len-requires
-    returns
-    returns-2
-    array-borrow-prefix-short
-    slice-aggregate-read-message
-    read-message-requires
-    same-length
-    returns-3
-    array-borrow-prefix-message
-    slice-aggregate-read-message-2
-    read-message-requires-2
-    same-length-2
-    returns-4)
+    payload-len-requires returns returns-2 array-borrow-prefix-short slice-aggregate-read-message read-message-requires same-length
+    returns-3 array-borrow-prefix-message slice-aggregate-read-message-2 read-message-requires-2 same-length-2 returns-4)

@@ -19,9 +19,11 @@ use Rattle.jobcodec.proofs.read_message.Tie as tie
 
 -- the job reading is what is made of the word's answer
 spelled : (s : tie.Start) (r said : WordAnswer) (ms : List ℕ) → r ≡ said
-    → answerAs r ≡ spelledAnswer (s .args .layout .q) (length (s .args .message .now)) (decodeUnder (codingIn (s .args .layout)) (s .args .word .now) (s .args .message .now))
+    → answerAs r ≡ spelledAnswer (s .args .layout .q) (length (s .args .message .now))
+    (decodeUnder (codingIn (s .args .layout)) (s .args .word .now) (s .args .message .now))
     → ms ≡ decodeUnder (codingIn (s .args .layout)) (s .args .word .now) (s .args .message .now) .message
-    → (let q = s .args .layout .q in let k = codingIn (s .args .layout) .codec .messageLen in let es = entries (s .args .table) in let out = s .args .payload .now in
+    → (let q = s .args .layout .q in let k = codingIn (s .args .layout) .codec .messageLen in let es = entries (s .args .table) in let out =
+    s .args .payload .now in
     jobReadUnder (codingIn (s .args .layout)) es (s .args .word .now) out
     ≡ afterSpelled (withhold out) (λ ds. jobOfPayload es out (payloadIn q k ds)) (answerAs said) ms)
 spelled s r said ms is e lent =
@@ -58,7 +60,8 @@ returns c =
     let s = c .before .before .before .before .before .before .before .before .before .before in
     let told = c .before .enum-told2 .given in
     let d = c .before .before .before .before .before .read-spelled in
-    ap (withhold (s .args .payload .now)) (c .refused-with .ensures ∙ ap wordNumber (told .1)) ∙ sym (spelled s (d .result) _ (d .last .1 .1 .0) (told .1) (d .ensures .0) (d .ensures .1))
+    ap (withhold (s .args .payload .now)) (c .refused-with .ensures ∙ ap wordNumber (told .1))
+    ∙ sym (spelled s (d .result) _ (d .last .1 .1 .0) (told .1) (d .ensures .0) (d .ensures .1))
 
 hand-out-requires : tie.Need-hand-out-requires
 hand-out-requires c κs =
@@ -66,7 +69,8 @@ hand-out-requires c κs =
     let told = c .before .before .enum-told .given in
     let d = c .before .before .before .before .before .before .read-spelled in
     let same : length (d .last .1 .1 .0) ≡ length (s .args .message .now) = search needs in
-    holding (s .args .layout) (entries (s .args .table)) (s .args .word .now) (s .args .message .now) (d .last .1 .1 .0) (s .args .payload .now) (s .pre) same (d .ensures .1)
+    holding (s .args .layout) (entries (s .args .table)) (s .args .word .now) (s .args .message .now) (d .last .1 .1 .0) (s .args .payload .now)
+    (s .pre) same (d .ensures .1)
     (told .0 .0) (ap answerAs (sym (told .1)) ∙ d .ensures .0)
 
 same-length-2 : tie.Need-same-length-2
@@ -87,13 +91,5 @@ pub read-message-spec : {M : Type 1} → statement M
 read-message-spec =
     tie.close
     (tie.spec
-    read-spelled-requires
-    enum-told
-    enum-told-2
-    refused-with-requires
-    same-length
-    returns
-    hand-out-requires
-    same-length-2
-    same-length-3
+    read-spelled-requires enum-told enum-told-2 refused-with-requires same-length returns hand-out-requires same-length-2 same-length-3
     returns-2)

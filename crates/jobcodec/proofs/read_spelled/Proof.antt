@@ -34,7 +34,8 @@ module _ (s : tie.Start) where
   few : (2 ≤ q) × (q ≤ 256)
   few = let l = s .args .layout in let is = bound l (in-shape l (s .pre)) in (is .q-least, is .q-most)
 
-  told : (d : Decoded) (ms : List ℕ) (said : WordAnswer) → d .answer ≡ said → decodedAs d ms ≡ found → spelledAs q k ms (answerAs said) ≡ spelledAnswer q k found
+  told : (d : Decoded) (ms : List ℕ) (said : WordAnswer) → d .answer ≡ said → decodedAs d ms ≡ found
+      → spelledAs q k ms (answerAs said) ≡ spelledAnswer q k found
   told d ms said e is = ap (λ (a : WordAnswer). spelledAs q k ms (answerAs a)) (sym e) ∙ ap (spelledAnswer q k) is
 
 decode-fitting-requires : tie.Need-decode-fitting-requires
@@ -95,15 +96,5 @@ pub read-spelled-spec : {M : Type 1} → statement M
 read-spelled-spec =
     tie.close
     (tie.spec
-    decode-fitting-requires
-    enum-known-answer
-    enum-told
-    same-length
-    returns
-    payload-len-requires
-    byte-width-requires
-    spells-requires
-    same-length-2
-    returns-2
-    same-length-3
-    returns-3)
+    decode-fitting-requires enum-known-answer enum-told same-length returns payload-len-requires byte-width-requires spells-requires
+    same-length-2 returns-2 same-length-3 returns-3)

@@ -60,10 +60,4 @@ pub replay-and-read-spec : {M : Type 1} → statement M
 replay-and-read-spec =
     tie.close
     (tie.spec
-    replay-requires
-    same-length
-    returns
-    job-read-requires
-    same-length-2
-    same-length-3
-    returns-2)
+    replay-requires same-length returns job-read-requires same-length-2 same-length-3 returns-2)

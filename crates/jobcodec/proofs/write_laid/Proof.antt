@@ -24,10 +24,13 @@ use Rattle.jobcodec.proofs.write_laid.Statement.{statement}
 use Rattle.jobcodec.proofs.write_laid.Tie as tie
 
 -- no test refused
-passed : (c : tie.Else1) → WrittenUnder (codingIn (c .before .before .before .before .before .args .layout)) (entries (c .before .before .before .before .before .args .table)) (heldAs (c .before .before .before .before .before .args .at)) (c .before .before .before .before .before .args .payload .now) (c .before .before .before .before .before .args .word .now)
+passed : (c : tie.Else1) → WrittenUnder (codingIn (c .before .before .before .before .before .args .layout))
+    (entries (c .before .before .before .before .before .args .table)) (heldAs (c .before .before .before .before .before .args .at))
+    (c .before .before .before .before .before .args .payload .now) (c .before .before .before .before .before .args .word .now)
 passed c =
     let a = c .before .before .before .before .before .args in
-    written-under (codingIn (a .layout)) (entries (a .table)) (heldAs (a .at)) (a .payload .now) (a .word .now) (sym (c .before .write-refusal .ensures) ∙ c .if1 .left)
+    written-under (codingIn (a .layout)) (entries (a .table)) (heldAs (a .at)) (a .payload .now) (a .word .now)
+    (sym (c .before .write-refusal .ensures) ∙ c .if1 .left)
 
 write-refusal-requires : tie.Need-write-refusal-requires
 write-refusal-requires c κs = search needs
@@ -44,18 +47,25 @@ returns c =
 
 -- the word of a message that is lent in an array with room for it
 module _ (c : tie.Else1) (room : ℕ) (fits : c .before .before .before .before .before .args .layout .«message_len» ≤ room) where
-  lent-is : length (take {A = ℕ} (c .before .before .before .before .before .args .layout .«message_len») (replicate room 0)) ≡ codingIn (c .before .before .before .before .before .args .layout) .codec .messageLen
+  lent-is : length (take {A = ℕ} (c .before .before .before .before .before .args .layout .«message_len») (replicate room 0)) ≡ codingIn
+      (c .before .before .before .before .before .args .layout) .codec .messageLen
   lent-is =
       let s = c .before .before .before .before .before in
       room-is (s .args .layout) (entries (s .args .table)) (s .pre) room fits
 
-  holds : PayloadFits (c .before .before .before .before .before .args .layout) (c .before .before .before .before .before .args .payload .now) (take {A = ℕ} (c .before .before .before .before .before .args .layout .«message_len») (replicate room 0))
+  holds : PayloadFits (c .before .before .before .before .before .args .layout) (c .before .before .before .before .before .args .payload .now)
+      (take {A = ℕ} (c .before .before .before .before .before .args .layout .«message_len») (replicate room 0))
   holds =
       let s = c .before .before .before .before .before in
-      record { serves = s .pre .serves; count = passed c .long ∙ ap₂ payloadLen (sym (numbers-in (s .args .layout) (s .pre .serves) .alphabet-is)) (sym lent-is) }
+      record {
+        serves = s .pre .serves;
+        count = passed c .long ∙ ap₂ payloadLen (sym (numbers-in (s .args .layout) (s .pre .serves) .alphabet-is))
+            (sym lent-is);
+      }
 
   word-is : (let a = c .before .before .before .before .before .args in let d = codingIn (a .layout) in
-      encodeUnder d (heldAs (a .at)) (messageOf (a .layout .q) (length (take {A = ℕ} (a .layout .«message_len») (replicate room 0))) (a .payload .now)) (a .word .now) ≡ jobWriteUnder d (entries (a .table)) (heldAs (a .at)) (a .payload .now) (a .word .now))
+      encodeUnder d (heldAs (a .at)) (messageOf (a .layout .q) (length (take {A = ℕ} (a .layout .«message_len») (replicate room 0))) (a .payload .now))
+      (a .word .now) ≡ jobWriteUnder d (entries (a .table)) (heldAs (a .at)) (a .payload .now) (a .word .now))
   word-is =
       let s = c .before .before .before .before .before in
       let a = s .args in
@@ -74,7 +84,8 @@ array-borrow-prefix-short : tie.Need-array-borrow-prefix-short
 array-borrow-prefix-short c = search needs
 
 slice-aggregate-write-message : tie.Need-slice-aggregate-write-message
-slice-aggregate-write-message c = sym (length-take-le (c .before .before .before .before .before .before .before .args .layout .«message_len») (replicate shortWord 0) (omega (arith, c .before .if2 .taken)))
+slice-aggregate-write-message c = sym (length-take-le (c .before .before .before .before .before .before .before .args .layout .«message_len»)
+    (replicate shortWord 0) (omega (arith, c .before .if2 .taken)))
 
 write-message-requires : tie.Need-write-message-requires
 write-message-requires c κs = holds (c .before .before .before) shortWord (omega (arith, c .before .before .if2 .taken))
@@ -85,7 +96,8 @@ same-length-2 c = search needs
 returns-2 : tie.Need-returns-2
 returns-2 c =
     c .before .before .before .write-message .ensures
-    ∙ word-is (c .before .before .before .before .before .before .before) shortWord (omega (arith, c .before .before .before .before .before .before .if2 .taken))
+    ∙ word-is (c .before .before .before .before .before .before .before) shortWord
+    (omega (arith, c .before .before .before .before .before .before .if2 .taken))
 
 array-borrow-prefix-message : tie.Need-array-borrow-prefix-message
 array-borrow-prefix-message c = longest (c .before .before .before .before .before .before)
@@ -104,22 +116,12 @@ same-length-3 c = search needs
 returns-3 : tie.Need-returns-3
 returns-3 c =
     c .before .before .before .write-message2 .ensures
-    ∙ word-is (c .before .before .before .before .before .before .before) maxWord (longest (c .before .before .before .before .before .before .before .before .before .before .before .before))
+    ∙ word-is (c .before .before .before .before .before .before .before) maxWord
+    (longest (c .before .before .before .before .before .before .before .before .before .before .before .before))
 
 pub write-laid-spec : {M : Type 1} → statement M
 write-laid-spec =
     tie.close
     (tie.spec
-    write-refusal-requires
-    same-length
-    returns
-    array-borrow-prefix-short
-    slice-aggregate-write-message
-    write-message-requires
-    same-length-2
-    returns-2
-    array-borrow-prefix-message
-    slice-aggregate-write-message-2
-    write-message-requires-2
-    same-length-3
-    returns-3)
+    write-refusal-requires same-length returns array-borrow-prefix-short slice-aggregate-write-message write-message-requires same-length-2
+    returns-2 array-borrow-prefix-message slice-aggregate-write-message-2 write-message-requires-2 same-length-3 returns-3)

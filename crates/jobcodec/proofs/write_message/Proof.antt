@@ -36,16 +36,13 @@ returns : tie.Need-returns
 returns c =
     let a = c .before .before .before .before .before .before .before .before .before .before .before .before .before .args in
     let out = a .word .now in
-    ap₂ {C = Encoded} (λ (n : ℕ) (w : List ℕ). record { answer = n; word = w }) (c .before .before .encode-fitting .ensures .0) (c .before .before .encode-fitting .ensures .1)
-    ∙ ap (λ (ms : List ℕ). encodeUnder (codingIn (a .layout)) (heldAs (a .at)) ms out) (c .before .before .before .before .before .before .before .spell-payload .ensures)
+    ap₂ {C = Encoded} (λ (n : ℕ) (w : List ℕ). record { answer = n; word = w }) (c .before .before .encode-fitting .ensures .0)
+    (c .before .before .encode-fitting .ensures .1)
+    ∙ ap (λ (ms : List ℕ). encodeUnder (codingIn (a .layout)) (heldAs (a .at)) ms out)
+    (c .before .before .before .before .before .before .before .spell-payload .ensures)
 
 pub write-message-spec : {M : Type 1} → statement M
 write-message-spec =
     tie.close
     (tie.spec
-    byte-width-requires
-    spell-payload-requires
-    encode-fitting-requires
-    same-length
-    same-length-2
-    returns)
+    byte-width-requires spell-payload-requires encode-fitting-requires same-length same-length-2 returns)

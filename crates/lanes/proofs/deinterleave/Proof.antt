@@ -45,16 +45,11 @@ returns-2 c =
     let figures = c .before .before .before .before .before .before .before .layout in
     let layout = c .before .before .before .before .before .answer2 .given in
     let same = serves (s .args .figures) (figures .result) (layout .0 .0) (layout .1) (figures .ensures .0) (figures .ensures .1) .0 in
-    c .before .before .deinterleave-fitting .ensures ∙ ap (λ (k : Coding). deinterleaveUnder k (s .args .depth) (s .args .strip .now) (s .args .words .now)) same
+    c .before .before .deinterleave-fitting .ensures ∙ ap (λ (k : Coding). deinterleaveUnder k (s .args .depth) (s .args .strip .now) (s .args .words .now))
+    same
 
 pub deinterleave-spec : {M : Type 1} → statement M
 deinterleave-spec =
     tie.close
     (tie.spec
-    layout-requires
-    enum-known-answer
-    enum-known-answer-2
-    deinterleave-fitting-requires
-    returns
-    same-length
-    returns-2)
+    layout-requires enum-known-answer enum-known-answer-2 deinterleave-fitting-requires returns same-length returns-2)

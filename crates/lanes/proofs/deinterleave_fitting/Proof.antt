@@ -59,7 +59,8 @@ returns-2 c =
     (s .args .words .now) taken
     (judged-passed k (s .args .depth) (foundBound (s .args .layout .q)) (s .args .strip .now)
     (s .args .words .now) taken
-    (c .before .before .before .before .before .judged .result) (told (c .before .before .before .before .before) taken) (c .before .before .before .before .if1 .left)))
+    (c .before .before .before .before .before .judged .result) (told (c .before .before .before .before .before) taken)
+    (c .before .before .before .before .if1 .left)))
     ∙ sym (deinterleave-in (s .args .layout) (s .args .depth) (s .args .strip .now) (s .args .words .now))
 
 pub deinterleave-fitting-spec : {M : Type 1} → statement M

@@ -51,10 +51,4 @@ pub interleave-spec : {M : Type 1} → statement M
 interleave-spec =
     tie.close
     (tie.spec
-    layout-requires
-    enum-known-answer
-    enum-known-answer-2
-    interleave-fitting-requires
-    returns
-    same-length
-    returns-2)
+    layout-requires enum-known-answer enum-known-answer-2 interleave-fitting-requires returns same-length returns-2)

@@ -33,7 +33,12 @@ returns-2 c =
 mul-len : tie.Need-mul-len
 mul-len c =
     let s = c .before .before .before .before in
-    omega (arith, bound (s .args .layout) (in-shape (s .args .layout) (s .pre)) .n-most, mul-le-mul-right {m = s .args .depth} {n = 16} (s .args .layout .n) (omega arith))
+    omega (
+      arith,
+      bound (s .args .layout) (in-shape (s .args .layout) (s .pre)) .n-most,
+      mul-le-mul-right {m = s .args .depth} {n = 16} (s .args .layout .n)
+          (omega arith),
+    )
 
 returns-3 : tie.Need-returns-3
 returns-3 c =

@@ -19,7 +19,8 @@ abbrev f : tie.Start → Params
 f s = given (s .args .figures)
 
 -- the layout that was answered
-learnt : (c : tie.After-answer2) → (let l = c .answer2 .given .0 .0 in (larssonFiguresOf l ≡ f (c .before .before .before .before .before)) × LarssonLayoutFits l)
+learnt : (c : tie.After-answer2) → (let l = c .answer2 .given .0 .0 in
+    (larssonFiguresOf l ≡ f (c .before .before .before .before .before)) × LarssonLayoutFits l)
 learnt c =
     let r = c .before .before .figures in
     fit-learnt (f (c .before .before .before .before .before)) (r .result) (c .answer2 .given .0 .0) (c .answer2 .given .1) (r .ensures .0) (r .ensures .1)
@@ -47,7 +48,8 @@ returns c =
     let out = s .args .message .now in
     let g = f s in
     by-outcome-under (coding g) (Listed g) w out (decodes-exactly-under (coding g) (Listed g) (larsson-exact g) w out) (c .unread .result) out
-    (c .unread .ensures out ∙ sym (decode-unfit (coding g) w out (t .answer .given .0 .0) (sym (t .before .before .figures .ensures .0) ∙ ap larssonFiguredAs (t .answer .given .1))))
+    (c .unread .ensures out ∙ sym (decode-unfit (coding g) w out (t .answer .given .0 .0)
+    (sym (t .before .before .figures .ensures .0) ∙ ap larssonFiguredAs (t .answer .given .1))))
 
 same-length : tie.Need-same-length
 same-length c = search needs
@@ -60,18 +62,12 @@ returns-2 c =
     let w = s .args .word .now in
     let out = s .args .message .now in
     let g = f s in
-    by-outcome-under (coding g) (Listed g) w out (decodes-exactly-under (coding g) (Listed g) (larsson-exact g) w out) (call .decode-fitting .result) (call .decode-fitting .last .1 .1 .0)
+    by-outcome-under (coding g) (Listed g) w out (decodes-exactly-under (coding g) (Listed g) (larsson-exact g) w out) (call .decode-fitting .result)
+    (call .decode-fitting .last .1 .1 .0)
     (call .decode-fitting .ensures ∙ ap (λ (p : Params). decodeUnder (coding p) w out) (learnt t .0))
 
 pub decode-spec : {M : Type 1} → statement M
 decode-spec =
     tie.close
     (tie.spec
-    figures-requires
-    enum-known-answer
-    unread-requires
-    enum-known-answer-2
-    decode-fitting-requires
-    returns
-    same-length
-    returns-2)
+    figures-requires enum-known-answer unread-requires enum-known-answer-2 decode-fitting-requires returns same-length returns-2)

@@ -35,7 +35,8 @@ tested : (c : tie.After-all-below)
 tested c =
     let s = c .before .before .before .before .before .before .before .before in
     let w = s .args .word .now in
-    let bytes : (x : ℕ) → getD w x 0 < byteValues = λ x. omega (arith, c .before .before .before .before .before .before .before .shared-slice-known .given x) in
+    let bytes : (x : ℕ) → getD w x 0 < byteValues =
+    λ x. omega (arith, c .before .before .before .before .before .before .before .shared-slice-known .given x) in
     c .all-below .ensures ∙ found-by (l s .q) w bytes
 
 unread-requires : tie.Need-unread-requires
@@ -78,7 +79,8 @@ returns-3 c =
 
 -- what is read where nothing is refused so far
 reads : (c : tie.Else3) → (let s = c .before .before .before .before .before .before .before .before .before in
-    decodeUnder (d s) (s .args .word .now) (s .args .message .now) ≡ decodedFrom (l s .b) (s .args .message .now) (read (larssonFiguresOf (l s)) (s .args .word .now)))
+    decodeUnder (d s) (s .args .word .now) (s .args .message .now) ≡ decodedFrom (l s .b) (s .args .message .now)
+    (read (larssonFiguresOf (l s)) (s .args .word .now)))
 reads c =
     let t = c .before in
     let s = t .before .before .before .before .before .before .before .before in
@@ -132,17 +134,5 @@ pub decode-fitting-spec : {M : Type 1} → statement M
 decode-fitting-spec =
     tie.close
     (tie.spec
-    unread-requires
-    returns
-    unread-requires-2
-    returns-2
-    add-all-below
-    all-below-requires
-    unread-requires-3
-    returns-3
-    only-placement-requires
-    returns-4
-    starts-of-requires
-    decode-found-requires
-    same-length
-    returns-5)
+    unread-requires returns unread-requires-2 returns-2 add-all-below all-below-requires unread-requires-3 returns-3 only-placement-requires
+    returns-4 starts-of-requires decode-found-requires same-length returns-5)

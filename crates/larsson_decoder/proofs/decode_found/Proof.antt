@@ -26,8 +26,12 @@ decode-placed-requires c κs =
     let t = c .before .before .before in
     let r = t .before .before .before .before in
     let s = r .before .before .before in
-    let a = s .args in
-    (s .pre .0, s .pre .1, subst (LocatedAs (larssonFiguresOf (a .layout)) (a .word .now) (r .locate .result .placement) (r .locate .result .kinds)) (t .answer2 .given .1) (r .locate .ensures))
+    let a = s .args in (
+      s .pre .0,
+      s .pre .1,
+      subst (LocatedAs (larssonFiguresOf (a .layout)) (a .word .now) (r .locate .result .placement) (r .locate .result .kinds))
+          (t .answer2 .given .1) (r .locate .ensures),
+    )
 
 returns : tie.Need-returns
 returns c =
@@ -37,7 +41,8 @@ returns c =
     let a = s .args in
     c .unread .ensures (a .message .now)
     ∙ sym (ap (decodedFrom (a .layout .b) (a .message .now))
-    (subst (LocatedAs (larssonFiguresOf (a .layout)) (a .word .now) (r .locate .result .placement) (r .locate .result .kinds)) (t .answer .given .1) (r .locate .ensures)))
+    (subst (LocatedAs (larssonFiguresOf (a .layout)) (a .word .now) (r .locate .result .placement) (r .locate .result .kinds)) (t .answer .given .1)
+    (r .locate .ensures)))
 
 same-length : tie.Need-same-length
 same-length c = search needs
@@ -49,11 +54,4 @@ pub decode-found-spec : {M : Type 1} → statement M
 decode-found-spec =
     tie.close
     (tie.spec
-    locate-requires
-    enum-known-answer
-    unread-requires
-    enum-known-answer-2
-    decode-placed-requires
-    returns
-    same-length
-    returns-2)
+    locate-requires enum-known-answer unread-requires enum-known-answer-2 decode-placed-requires returns same-length returns-2)

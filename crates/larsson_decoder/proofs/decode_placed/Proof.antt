@@ -77,7 +77,8 @@ returns c =
     let a = s .args in
     c .unread .ensures (a .message .now)
     ∙ sym (ap (decodedFrom (l s .b) (a .message .now))
-    (reads-erased (l s) (a .word .now) (s .pre .0 .finding) (a .rank) (a .placement) (a .kinds .now) (s .pre .2) (sym (told t) ∙ not-true _ (c .before .if1 .taken))))
+    (reads-erased (l s) (a .word .now) (s .pre .0 .finding) (a .rank) (a .placement) (a .kinds .now) (s .pre .2)
+    (sym (told t) ∙ not-true _ (c .before .if1 .taken))))
 
 walk-of-requires : tie.Need-walk-of-requires
 walk-of-requires c κs =
@@ -116,20 +117,15 @@ returns-2 c =
     let a = s .args in
     let as-walked : pick messageCell (plan (Words.figuresWalked (w .walk-of .result) (l s .q)) (ss s)) (a .word .now) ≡ taken s =
     ap (λ (y : Walk). pick messageCell (plan (Words.figuresWalked y (l s .q)) (ss s)) (a .word .now)) (w .walk-of .ensures) in
-    read-whole (l s .b) (a .rank) (heldAs (a .placement)) (ss s) (k .take-message .last .1 .1 .1 .1 .1 .1 .0) (taken s) (a .message .now) (s .pre .2 .ranked) (s .pre .2 .is-held)
+    read-whole (l s .b) (a .rank) (heldAs (a .placement)) (ss s) (k .take-message .last .1 .1 .1 .1 .1 .1 .0) (taken s) (a .message .now)
+    (s .pre .2 .ranked) (s .pre .2 .is-held)
     (k .take-message .ensures ∙ as-walked)
     ∙ sym (ap (decodedFrom (l s .b) (a .message .now))
-    (reads-whole (l s) (a .word .now) (s .pre .0 .finding) (a .rank) (a .placement) (a .kinds .now) (s .pre .2) (sym (told t) ∙ not-false _ (w .before .if1 .left))))
+    (reads-whole (l s) (a .word .now) (s .pre .0 .finding) (a .rank) (a .placement) (a .kinds .now) (s .pre .2)
+    (sym (told t) ∙ not-false _ (w .before .if1 .left))))
 
 pub decode-placed-spec : {M : Type 1} → statement M
 decode-placed-spec =
     tie.close
     (tie.spec
-    cast-cover-erasures
-    cover-erasures-requires
-    unread-requires
-    returns
-    walk-of-requires
-    take-message-requires
-    same-length
-    returns-2)
+    cast-cover-erasures cover-erasures-requires unread-requires returns walk-of-requires take-message-requires same-length returns-2)

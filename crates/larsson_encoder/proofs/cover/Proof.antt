@@ -35,7 +35,8 @@ returns c =
     let s = c .before .before .before .before .before .before in
     let figures = c .before .before .before .before .figures in
     let number = c .before .before .answer .given in
-    c .unplaced .ensures ∙ sym (cover-unfit (coding (given (s .args .figures))) (s .args .map .now) (number .0 .0) (sym (figures .ensures .0) ∙ ap larssonFiguredAs (number .1)))
+    c .unplaced .ensures ∙ sym (cover-unfit (coding (given (s .args .figures))) (s .args .map .now) (number .0 .0)
+    (sym (figures .ensures .0) ∙ ap larssonFiguredAs (number .1)))
 
 returns-2 : tie.Need-returns-2
 returns-2 c =
@@ -49,10 +50,4 @@ pub cover-spec : {M : Type 1} → statement M
 cover-spec =
     tie.close
     (tie.spec
-    figures-requires
-    enum-known-answer
-    unplaced-requires
-    enum-known-answer-2
-    cover-fitting-requires
-    returns
-    returns-2)
+    figures-requires enum-known-answer unplaced-requires enum-known-answer-2 cover-fitting-requires returns returns-2)

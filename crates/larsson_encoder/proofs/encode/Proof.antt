@@ -45,17 +45,14 @@ returns-2 c =
     let figures = c .before .before .before .before .before .before .before .figures in
     let layout = c .before .before .before .before .before .answer2 .given in
     let same = fit-learnt (given (s .args .figures)) (figures .result) (layout .0 .0) (layout .1) (figures .ensures .0) (figures .ensures .1) .0 in
-    let e = ap (λ (p : Params). encodeUnder (coding p) (heldAs (s .args .at)) (s .args .message .now) (s .args .word .now)) same in
-    (c .before .before .encode-fitting .ensures .0 ∙ ap (λ (o : Encoded). o .answer) e, c .before .before .encode-fitting .ensures .1 ∙ ap (λ (o : Encoded). o .word) e)
+    let e = ap (λ (p : Params). encodeUnder (coding p) (heldAs (s .args .at)) (s .args .message .now) (s .args .word .now)) same in (
+      c .before .before .encode-fitting .ensures .0 ∙ ap (λ (o : Encoded). o .answer) e,
+      c .before .before .encode-fitting .ensures .1
+          ∙ ap (λ (o : Encoded). o .word) e,
+    )
 
 pub encode-spec : {M : Type 1} → statement M
 encode-spec =
     tie.close
     (tie.spec
-    figures-requires
-    enum-known-answer
-    enum-known-answer-2
-    encode-fitting-requires
-    returns
-    same-length
-    returns-2)
+    figures-requires enum-known-answer enum-known-answer-2 encode-fitting-requires returns same-length returns-2)

@@ -139,26 +139,5 @@ pub counted-spec : {M : Type 1} → statement M
 counted-spec =
     tie.close
     (tie.spec
-    cast-n
-    cast-q
-    cast-m
-    cast-b
-    least-factors-requires
-    mul-if1
-    add-if1
-    div-if1
-    returns
-    mul-gap-total
-    add-gap-total
-    mul-gap-total-2
-    sub-gap-total
-    mul-piece-len
-    piece-len-requires
-    add-if2
-    returns-2
-    mul-t9
-    sub-t11
-    add-t10
-    mul-t13
-    sub-t14
-    returns-3)
+    cast-n cast-q cast-m cast-b least-factors-requires mul-if1 add-if1 div-if1 returns mul-gap-total add-gap-total mul-gap-total-2
+    sub-gap-total mul-piece-len piece-len-requires add-if2 returns-2 mul-t9 sub-t11 add-t10 mul-t13 sub-t14 returns-3)

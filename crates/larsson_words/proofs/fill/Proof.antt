@@ -30,7 +30,8 @@ returns c =
     let s = c .before .before .before .before .before .before .before in
     let W = s .pre .walked in
     c .before .before .fill-cells .ensures
-    ∙ ap₂ (λ (cs : List Cell) (r : List ℕ). weave cs r (s .args .message .now)) (plan-of W) (ap (digitsBy (s .args .walk) (s .args .kinds .now)) (s .pre .digits-are) ∙ digits-of W)
+    ∙ ap₂ (λ (cs : List Cell) (r : List ℕ). weave cs r (s .args .message .now)) (plan-of W)
+    (ap (digitsBy (s .args .walk) (s .args .kinds .now)) (s .pre .digits-are) ∙ digits-of W)
 
 pub fill-spec : {M : Type 1} → statement M
 fill-spec = tie.close (tie.spec fill-cells-requires same-length returns)

@@ -29,7 +29,8 @@ is-list-letter-requires c κs = search needs
 returns : tie.Need-returns Inv-loop μ-loop
 returns c =
     let l = c .before .before .before .before in
-    sym (all-fails isListLetter (l .before .before .args .letters .now) (l .loop .i) (omega arith) (sym (c .before .is-list-letter .ensures) ∙ not-true _ (c .if1 .taken))) ∙ l .loop .inv
+    sym (all-fails isListLetter (l .before .before .args .letters .now) (l .loop .i) (omega arith)
+    (sym (c .before .is-list-letter .ensures) ∙ not-true _ (c .if1 .taken))) ∙ l .loop .inv
 
 add-i : tie.Need-add-i Inv-loop μ-loop
 add-i c = search needs
@@ -40,7 +41,8 @@ loop-less c = search needs
 loop-again : tie.Need-loop-again Inv-loop μ-loop
 loop-again c =
     let l = c .before .before .before .before in
-    sym (all-later isListLetter (l .before .before .args .letters .now) (l .loop .i) (omega arith) (sym (c .before .is-list-letter .ensures) ∙ not-false _ (c .if1 .left))) ∙ l .loop .inv
+    sym (all-later isListLetter (l .before .before .args .letters .now) (l .loop .i) (omega arith)
+    (sym (c .before .is-list-letter .ensures) ∙ not-false _ (c .if1 .left))) ∙ l .loop .inv
 
 returns-2 : tie.Need-returns-2 Inv-loop μ-loop
 returns-2 c =
@@ -51,13 +53,4 @@ pub all-letters-spec : {M : Type 1} → statement M
 all-letters-spec =
     tie.close
     (tie.spec
-    Inv-loop
-    μ-loop
-    loop-holds
-    shared-slice-read-is-list-letter
-    is-list-letter-requires
-    returns
-    add-i
-    loop-less
-    loop-again
-    returns-2)
+    Inv-loop μ-loop loop-holds shared-slice-read-is-list-letter is-list-letter-requires returns add-i loop-less loop-again returns-2)

@@ -63,16 +63,5 @@ pub make-calls-spec : {M : Type 1} → statement M
 make-calls-spec =
     tie.close
     (tie.spec
-    Inv-loop
-    μ-loop
-    loop-holds
-    shared-slice-read-list-call
-    mul-list-call
-    shared-slice-read-list-call-2
-    list-call-requires
-    slice-write-answers
-    add-i
-    loop-less
-    loop-again
-    same-length
-    returns)
+    Inv-loop μ-loop loop-holds shared-slice-read-list-call mul-list-call shared-slice-read-list-call-2 list-call-requires
+    slice-write-answers add-i loop-less loop-again same-length returns)

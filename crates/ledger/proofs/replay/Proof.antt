@@ -72,13 +72,5 @@ pub replay-spec : {M : Type 1} → statement M
 replay-spec =
     tie.close
     (tie.spec
-    refuse-requires
-    returns
-    refuse-requires-2
-    returns-2
-    all-letters-requires
-    refuse-requires-3
-    returns-3
-    make-calls-requires
-    same-length
+    refuse-requires returns refuse-requires-2 returns-2 all-letters-requires refuse-requires-3 returns-3 make-calls-requires same-length
     returns-4)

@@ -50,10 +50,4 @@ pub cover-bytes-spec : {M : Type 1} → statement M
 cover-bytes-spec =
     tie.close
     (tie.spec
-    figures-requires
-    enum-known-answer
-    enum-known-answer-2
-    cover-laid-requires
-    returns
-    same-length
-    returns-2)
+    figures-requires enum-known-answer enum-known-answer-2 cover-laid-requires returns same-length returns-2)

@@ -48,9 +48,4 @@ pub cover-laid-spec : {M : Type 1} → statement M
 cover-laid-spec =
     tie.close
     (tie.spec
-    mul-if1
-    returns
-    cover-fitting-requires
-    put-covered-requires
-    same-length
-    returns-2)
+    mul-if1 returns cover-fitting-requires put-covered-requires same-length returns-2)

@@ -16,10 +16,12 @@ abbrev f : tie.Start → Params
 f s = given (s .args .figures)
 
 -- the layout that was answered
-learnt : (c : tie.After-answer2) → (larssonFiguresOf (c .answer2 .given .0 .0) ≡ f (c .before .before .before .before .before .before)) × LarssonLayoutFits (c .answer2 .given .0 .0)
+learnt : (c : tie.After-answer2) → (larssonFiguresOf (c .answer2 .given .0 .0) ≡ f (c .before .before .before .before .before .before))
+    × LarssonLayoutFits (c .answer2 .given .0 .0)
 learnt c =
     let r = c .before .before .figures in
-    fit-learnt (f (c .before .before .before .before .before .before)) (r .result) (c .answer2 .given .0 .0) (c .answer2 .given .1) (r .ensures .0) (r .ensures .1)
+    fit-learnt (f (c .before .before .before .before .before .before)) (r .result) (c .answer2 .given .0 .0) (c .answer2 .given .1) (r .ensures .0)
+    (r .ensures .1)
 
 figures-requires : tie.Need-figures-requires
 figures-requires c κs = search needs
@@ -38,7 +40,8 @@ returns c =
     let s = c .before .before .before .before .before .before .before in
     let told = c .before .answer .given in
     let r = c .before .before .before .figures in
-    sym (exported-unfit (coding (f s)) (s .args .word .now) (s .args .message .now) (s .args .starts .now) (told .0 .0) (sym (r .ensures .0) ∙ ap larssonFiguredAs (told .1)))
+    sym (exported-unfit (coding (f s)) (s .args .word .now) (s .args .message .now) (s .args .starts .now) (told .0 .0)
+    (sym (r .ensures .0) ∙ ap larssonFiguredAs (told .1)))
 
 same-length : tie.Need-same-length
 same-length c = search needs
@@ -50,17 +53,11 @@ returns-2 : tie.Need-returns-2
 returns-2 c =
     let s = c .before .before .before .before .before .before .before .before .before .before .before .before .before .before in
     c .before .before .before .before .decode-laid .ensures
-    ∙ ap (λ (p : Params). exportedUnder (coding p) (s .args .word .now) (s .args .message .now) (s .args .starts .now)) (learnt (c .before .before .before .before .before .before .before .before) .0)
+    ∙ ap (λ (p : Params). exportedUnder (coding p) (s .args .word .now) (s .args .message .now) (s .args .starts .now))
+    (learnt (c .before .before .before .before .before .before .before .before) .0)
 
 pub decode-spec : {M : Type 1} → statement M
 decode-spec =
     tie.close
     (tie.spec
-    figures-requires
-    enum-known-answer
-    enum-known-answer-2
-    decode-laid-requires
-    returns
-    same-length
-    same-length-2
-    returns-2)
+    figures-requires enum-known-answer enum-known-answer-2 decode-laid-requires returns same-length same-length-2 returns-2)

@@ -23,7 +23,8 @@ mul-if1 c = let s = c .before .before .before .before in omega (arith, bound (l 
 returns : tie.Need-returns
 returns c =
     let s = c .before .before .before .before .before in
-    sym (exported-length (coding (larssonFiguresOf (l s))) (s .args .word .now) (s .args .message .now) (s .args .starts .now) (s .pre .range) (s .pre .fit) (c .if1 .taken))
+    sym (exported-length (coding (larssonFiguresOf (l s))) (s .args .word .now) (s .args .message .now) (s .args .starts .now) (s .pre .range) (s .pre .fit)
+    (c .if1 .taken))
 
 decode-fitting-requires : tie.Need-decode-fitting-requires
 decode-fitting-requires c κs = search needs
@@ -51,16 +52,11 @@ returns-2 c =
     let call = c .before .before .before .before .before .before .decode-fitting in
     let put = c .before .before .put-decoded in
     exported-put (coding (larssonFiguresOf (l s))) (s .args .word .now) (s .args .message .now) (s .args .starts .now) (s .pre .range) (s .pre .fit)
-    (c .before .before .before .before .before .before .before .before .if1 .left) (call .result) (call .last .1 .1 .0) (call .ensures) (put .result) (put .last .1 .0) (put .ensures (call .last .1 .1 .0))
+    (c .before .before .before .before .before .before .before .before .if1 .left) (call .result) (call .last .1 .1 .0) (call .ensures) (put .result)
+    (put .last .1 .0) (put .ensures (call .last .1 .1 .0))
 
 pub decode-laid-spec : {M : Type 1} → statement M
 decode-laid-spec =
     tie.close
     (tie.spec
-    mul-if1
-    returns
-    decode-fitting-requires
-    put-decoded-requires
-    same-length
-    same-length-2
-    returns-2)
+    mul-if1 returns decode-fitting-requires put-decoded-requires same-length same-length-2 returns-2)

@@ -20,7 +20,8 @@ abbrev f : tie.Start → Params
 f s = given (s .args .figures)
 
 -- the layout that was answered
-learnt : (c : tie.After-known-told) → (larssonFiguresOf (c .before .answer .given .0 .0) ≡ f (c .before .before .before .before)) × LarssonLayoutFits (c .before .answer .given .0 .0)
+learnt : (c : tie.After-known-told) → (larssonFiguresOf (c .before .answer .given .0 .0) ≡ f (c .before .before .before .before))
+    × LarssonLayoutFits (c .before .answer .given .0 .0)
 learnt c =
     let r = c .before .before .before .figures in
     let told = c .before .answer .given in
@@ -60,10 +61,4 @@ pub payload-len-spec : {M : Type 1} → statement M
 payload-len-spec =
     tie.close
     (tie.spec
-    figures-requires
-    enum-told
-    enum-known-answer
-    payload-len-requires
-    cast-result
-    returns
-    returns-2)
+    figures-requires enum-told enum-known-answer payload-len-requires cast-result returns returns-2)

@@ -26,8 +26,10 @@ returns c =
     let at = s .args .at in
     let bytes = s .args .bytes .now in
     let line = s .args .line .now in
-    let p = put-then at [] (space ∷ []) line line (one .last .0) at (one .result) (omega (arith, s .pre)) (put-none at line) (one .ensures .0) (one .ensures .1) in
-    let q = put-then at (space ∷ []) (hex bytes) line (one .last .0) (two .last .0) (one .result) (two .result) (omega (arith, s .pre, length-hex bytes, one .ensures .1)) p (two .ensures .0) (omega (arith, two .ensures .1, length-hex bytes)) in
+    let p = put-then at [] (space ∷ []) line line (one .last .0) at (one .result) (omega (arith, s .pre)) (put-none at line) (one .ensures .0)
+    (one .ensures .1) in
+    let q = put-then at (space ∷ []) (hex bytes) line (one .last .0) (two .last .0) (one .result) (two .result)
+    (omega (arith, s .pre, length-hex bytes, one .ensures .1)) p (two .ensures .0) (omega (arith, two .ensures .1, length-hex bytes)) in
     (q .put, omega (arith, one .ensures .1, two .ensures .1))
 
 pub put-bytes-spec : {M : Type 1} → statement M

@@ -27,7 +27,8 @@ returns c =
     let v = s .args .answer in
     let line = s .args .line .now in
     let p = put-first (letter ∷ []) line (one .last .0) (one .result) (omega (arith, s .pre)) (one .ensures .0) (omega (arith, one .ensures .1)) in
-    let q = put-then 0 (letter ∷ []) (space ∷ decimal v) line (one .last .0) (two .last .0) (one .result) (two .result) (omega (arith, s .pre, one .ensures .1, two .ensures .1 .0, two .ensures .1 .1)) p (two .ensures .0) (two .ensures .1 .0) in
+    let q = put-then 0 (letter ∷ []) (space ∷ decimal v) line (one .last .0) (two .last .0) (one .result) (two .result)
+    (omega (arith, s .pre, one .ensures .1, two .ensures .1 .0, two .ensures .1 .1)) p (two .ensures .0) (two .ensures .1 .0) in
     (q .put, (omega (arith, q .behind-is), omega (arith, one .ensures .1, two .ensures .1 .1)))
 
 pub put-head-spec : {M : Type 1} → statement M

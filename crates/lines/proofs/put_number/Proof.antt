@@ -29,8 +29,10 @@ returns c =
     let v = s .args .value in
     let line = s .args .line .now in
     let short = decimal-room v (omega arith) in
-    let p = put-then at [] (space ∷ []) line line (one .last .0) at (one .result) (omega (arith, s .pre)) (put-none at line) (one .ensures .0) (one .ensures .1) in
-    let q = put-then at (space ∷ []) (decimal v) line (one .last .0) (two .last .0) (one .result) (two .result) (omega (arith, s .pre, short, one .ensures .1)) p (two .ensures .0) (two .ensures .1) in
+    let p = put-then at [] (space ∷ []) line line (one .last .0) at (one .result) (omega (arith, s .pre)) (put-none at line) (one .ensures .0)
+    (one .ensures .1) in
+    let q = put-then at (space ∷ []) (decimal v) line (one .last .0) (two .last .0) (one .result) (two .result)
+    (omega (arith, s .pre, short, one .ensures .1)) p (two .ensures .0) (two .ensures .1) in
     (q .put, (q .behind-is, omega (arith, short, one .ensures .1, two .ensures .1)))
 
 pub put-number-spec : {M : Type 1} → statement M

@@ -21,7 +21,8 @@ text-len : (y : List ℕ) → length (take (length y - 4) (drop 4 y)) ≡ length
 text-len y = ap length (rest-all 4 y) ∙ length-drop 4 y
 
 slice-aggregate-put-bytes : tie.Need-slice-aggregate-put-bytes
-slice-aggregate-put-bytes c = sym (length-take-le 4 (c .before .before .before .before .before .before .before .before .args .payload .now) (c .before .before .before .before .before .before .before .before .pre .2))
+slice-aggregate-put-bytes c = sym (length-take-le 4 (c .before .before .before .before .before .before .before .before .args .payload .now)
+    (c .before .before .before .before .before .before .before .before .pre .2))
 
 put-bytes-requires : tie.Need-put-bytes-requires
 put-bytes-requires c κs =
@@ -53,7 +54,21 @@ put-byte-requires c κs =
     let h = c .before .before .before .before .before .before .before .before .before .before .before .before .before .put-head in
     let n = c .before .before .before .before .before .before .before .before .put-bytes in
     let t = c .before .before .before .put-bytes2 in
-    omega (arith, s .pre .0, s .pre .1, s .pre .2, h .ensures .1 .0, h .kept .0, n .ensures .1, n .kept .0, t .ensures .1, t .kept .0, zero-short, length-take-le 4 y (s .pre .2), text-len y)
+    omega (
+      arith,
+      s .pre .0,
+      s .pre .1,
+      s .pre .2,
+      h .ensures .1 .0,
+      h .kept .0,
+      n .ensures .1,
+      n .kept .0,
+      t .ensures .1,
+      t .kept .0,
+      zero-short,
+      length-take-le 4 y (s .pre .2),
+      text-len y,
+    )
 
 same-length : tie.Need-same-length
 same-length c = search needs
@@ -64,7 +79,8 @@ returns c =
     let n = c .before .before .before .before .before .before .before .before .before .before .before .put-bytes in
     let t = c .before .before .before .before .before .before .put-bytes2 in
     let e = c .before .before .put-byte in
-    let s = c .before .before .before .before .before .before .before .before .before .before .before .before .before .before .before .before .before .before .before .before in
+    let s = c .before .before .before .before .before .before .before .before .before .before .before .before .before .before .before .before .before
+    .before .before .before in
     let y = s .args .payload .now in
     let line = s .args .line .now in
     let head = letterR ∷ space ∷ decimal 0 in
@@ -77,22 +93,17 @@ returns c =
     let text-put = t .ensures .0 ∙ ap (λ (x : List ℕ). overwrite (n .result) (space ∷ hex x) (n .last .0)) (rest-all 4 y) in
     let text-end : t .result ≡ n .result + 1 + 2 * length (drop 4 y) = t .ensures .1 ∙ ap (λ (x : List ℕ). n .result + 1 + 2 * length x) (rest-all 4 y) in
     let p = put-first head line (h .last .0) (h .result) (omega (arith, s .pre .0, zero-short)) (h .ensures .0) (h .ensures .1 .0) in
-    let q = put-then 0 head (space ∷ number) line (h .last .0) (n .last .0) (h .result) (n .result) (omega (arith, s .pre .0, h .ensures .1 .0, zero-short, long₁, four)) p (n .ensures .0) (omega (arith, n .ensures .1, long₁)) in
-    let r = put-then 0 (head ++ space ∷ number) (space ∷ text) line (n .last .0) (t .last .0) (n .result) (t .result) (omega (arith, s .pre .0, s .pre .1, h .ensures .1 .0, n .ensures .1, zero-short, four, long₂, rest)) q text-put (omega (arith, text-end, long₂)) in
-    let w = put-then 0 ((head ++ space ∷ number) ++ space ∷ text) (lineFeed ∷ []) line (t .last .0) (e .last .0) (t .result) (e .result) (omega (arith, s .pre .0, s .pre .1, s .pre .2, h .ensures .1 .0, n .ensures .1, text-end, zero-short, four, rest)) r (e .ensures .0) (e .ensures .1) in
+    let q = put-then 0 head (space ∷ number) line (h .last .0) (n .last .0) (h .result) (n .result)
+    (omega (arith, s .pre .0, h .ensures .1 .0, zero-short, long₁, four)) p (n .ensures .0) (omega (arith, n .ensures .1, long₁)) in
+    let r = put-then 0 (head ++ space ∷ number) (space ∷ text) line (n .last .0) (t .last .0) (n .result) (t .result)
+    (omega (arith, s .pre .0, s .pre .1, h .ensures .1 .0, n .ensures .1, zero-short, four, long₂, rest)) q text-put (omega (arith, text-end, long₂)) in
+    let w = put-then 0 ((head ++ space ∷ number) ++ space ∷ text) (lineFeed ∷ []) line (t .last .0) (e .last .0) (t .result) (e .result)
+    (omega (arith, s .pre .0, s .pre .1, s .pre .2, h .ensures .1 .0, n .ensures .1, text-end, zero-short, four, rest)) r (e .ensures .0) (e .ensures .1) in
     put-as w (two-fields head number text)
 
 pub put-payload-spec : {M : Type 1} → statement M
 put-payload-spec =
     tie.close
     (tie.spec
-    put-head-requires
-    slice-aggregate-put-bytes
-    put-bytes-requires
-    sub-put-bytes
-    part-put-bytes-start
-    part-put-bytes-end
-    put-bytes-requires-2
-    put-byte-requires
-    same-length
-    returns)
+    put-head-requires slice-aggregate-put-bytes put-bytes-requires sub-put-bytes part-put-bytes-start part-put-bytes-end
+    put-bytes-requires-2 put-byte-requires same-length returns)

@@ -25,8 +25,10 @@ returns c =
     let s = c .before .before .before .before .before .before .before .before .before in
     let head = s .args .letter ∷ space ∷ decimal (s .args .answer) in
     let line = s .args .line .now in
-    let p = put-first head line (one .last .0) (one .result) (omega (arith, s .pre, one .ensures .1 .0, one .ensures .1 .1)) (one .ensures .0) (one .ensures .1 .0) in
-    let q = put-then 0 head (lineFeed ∷ []) line (one .last .0) (two .last .0) (one .result) (two .result) (omega (arith, s .pre, one .ensures .1 .1)) p (two .ensures .0) (two .ensures .1) in
+    let p = put-first head line (one .last .0) (one .result) (omega (arith, s .pre, one .ensures .1 .0, one .ensures .1 .1)) (one .ensures .0)
+    (one .ensures .1 .0) in
+    let q = put-then 0 head (lineFeed ∷ []) line (one .last .0) (two .last .0) (one .result) (two .result) (omega (arith, s .pre, one .ensures .1 .1)) p
+    (two .ensures .0) (two .ensures .1) in
     (q .put, omega (arith, q .behind-is))
 
 pub put-refusal-spec : {M : Type 1} → statement M

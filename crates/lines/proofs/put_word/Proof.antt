@@ -40,8 +40,10 @@ returns c =
     let line = s .args .line .now in
     let long = length-hex (s .args .word .now) in
     let p = put-first head line (h .last .0) (h .result) (omega (arith, s .pre .0, zero-short)) (h .ensures .0) (h .ensures .1 .0) in
-    let q = put-then 0 head (space ∷ t) line (h .last .0) (w .last .0) (h .result) (w .result) (omega (arith, s .pre .0, s .pre .1, h .ensures .1 .0, zero-short, long)) p (w .ensures .0) (omega (arith, w .ensures .1, long)) in
-    let r = put-then 0 (head ++ space ∷ t) (lineFeed ∷ []) line (w .last .0) (e .last .0) (w .result) (e .result) (omega (arith, s .pre .0, s .pre .1, h .ensures .1 .0, w .ensures .1, zero-short)) q (e .ensures .0) (e .ensures .1) in
+    let q = put-then 0 head (space ∷ t) line (h .last .0) (w .last .0) (h .result) (w .result)
+    (omega (arith, s .pre .0, s .pre .1, h .ensures .1 .0, zero-short, long)) p (w .ensures .0) (omega (arith, w .ensures .1, long)) in
+    let r = put-then 0 (head ++ space ∷ t) (lineFeed ∷ []) line (w .last .0) (e .last .0) (w .result) (e .result)
+    (omega (arith, s .pre .0, s .pre .1, h .ensures .1 .0, w .ensures .1, zero-short)) q (e .ensures .0) (e .ensures .1) in
     put-as r (field-end head t)
 
 pub put-word-spec : {M : Type 1} → statement M

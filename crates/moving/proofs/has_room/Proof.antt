@@ -31,9 +31,4 @@ pub has-room-spec : {M : Type 1} → statement M
 has-room-spec =
     tie.close
     (tie.spec
-    returns
-    sub-all-below
-    part-all-below-start
-    part-all-below-end
-    all-below-requires
-    returns-2)
+    returns sub-all-below part-all-below-start part-all-below-end all-below-requires returns-2)

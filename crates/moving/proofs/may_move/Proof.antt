@@ -66,11 +66,4 @@ pub may-move-spec : {M : Type 1} → statement M
 may-move-spec =
     tie.close
     (tie.spec
-    job-number-requires
-    needs-open-requires
-    returns
-    has-room-requires
-    returns-2
-    is-job-requires
-    returns-3
-    returns-4)
+    job-number-requires needs-open-requires returns has-room-requires returns-2 is-job-requires returns-3 returns-4)

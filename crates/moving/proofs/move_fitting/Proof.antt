@@ -141,15 +141,5 @@ pub move-fitting-spec : {M : Type 1} → statement M
 move-fitting-spec =
     tie.close
     (tie.spec
-    message-lens-requires
-    array-borrow-prefix-message
-    slice-aggregate-read-by
-    read-by-requires
-    enum-known-answer
-    enum-told
-    array-share-prefix-message
-    slice-aggregate-move-message
-    move-message-requires
-    returns
-    same-length
-    returns-2)
+    message-lens-requires array-borrow-prefix-message slice-aggregate-read-by read-by-requires enum-known-answer enum-told
+    array-share-prefix-message slice-aggregate-move-message move-message-requires returns same-length returns-2)

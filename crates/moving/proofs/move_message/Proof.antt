@@ -101,13 +101,5 @@ pub move-message-spec : {M : Type 1} → statement M
 move-message-spec =
     tie.close
     (tie.spec
-    message-lens-requires
-    array-borrow-prefix-other
-    slice-aggregate-other-message
-    other-message-requires
-    returns
-    array-share-prefix-other
-    slice-aggregate-write-by
-    write-by-requires
-    same-length
-    returns-2)
+    message-lens-requires array-borrow-prefix-other slice-aggregate-other-message other-message-requires returns array-share-prefix-other
+    slice-aggregate-write-by write-by-requires same-length returns-2)

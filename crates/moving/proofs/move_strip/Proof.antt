@@ -20,7 +20,8 @@ use Rattle.moving.proofs.move_strip.Tie as tie
 -- the layouts that were answered
 learnt : (c : tie.After-answer2)
     → (let s = c .before .before .before .before .before .before .before in let older = c .answer2 .given .0 .1 .0 in
-    (larssonFiguresOf older ≡ given (s .args .figures)) × BothReady (c .answer2 .given .0 .0) older (length (s .args .strip .now)) (length (s .args .moved .now)))
+    (larssonFiguresOf older ≡ given (s .args .figures)) × BothReady (c .answer2 .given .0 .0) older (length (s .args .strip .now))
+    (length (s .args .moved .now)))
 learnt c =
     let s = c .before .before .before .before .before .before .before in
     subst (BothIn (given (s .args .figures)) (length (s .args .strip .now)) (length (s .args .moved .now))) (c .answer2 .given .1)
@@ -80,12 +81,4 @@ pub move-strip-spec : {M : Type 1} → statement M
 move-strip-spec =
     tie.close
     (tie.spec
-    twice-requires
-    returns
-    both-fit-requires
-    enum-known-answer
-    enum-known-answer-2
-    move-fitting-requires
-    returns-2
-    same-length
-    returns-3)
+    twice-requires returns both-fit-requires enum-known-answer enum-known-answer-2 move-fitting-requires returns-2 same-length returns-3)

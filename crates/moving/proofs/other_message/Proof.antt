@@ -168,20 +168,6 @@ pub other-message-spec : {M : Type 1} → statement M
 other-message-spec =
     tie.close
     (tie.spec
-    byte-width-requires
-    payload-len-requires
-    spells-requires
-    returns
-    payload-len-requires-2
-    array-borrow-prefix-payload
-    slice-aggregate-unspell
-    unspell-requires
-    array-share-prefix-payload
-    slice-aggregate-may-move
-    may-move-requires
-    returns-2
-    array-share-prefix-payload-2
-    slice-aggregate-spell-payload
-    spell-payload-requires
-    same-length
-    returns-3)
+    byte-width-requires payload-len-requires spells-requires returns payload-len-requires-2 array-borrow-prefix-payload
+    slice-aggregate-unspell unspell-requires array-share-prefix-payload slice-aggregate-may-move may-move-requires returns-2
+    array-share-prefix-payload-2 slice-aggregate-spell-payload spell-payload-requires same-length returns-3)

@@ -16,7 +16,12 @@ unfolding jobNumber
 cast-result c =
     let a = c .before .before .args in
     let y = a .payload .now in
-    omega (arith, c .spelled-value .ensures, number-below y (c .before .before .pre) (at-below byteValues y (λ x _. omega (arith, c .before .shared-slice-known .given x))))
+    omega (
+      arith,
+      c .spelled-value .ensures,
+      number-below y (c .before .before .pre)
+          (at-below byteValues y (λ x _. omega (arith, c .before .shared-slice-known .given x))),
+    )
 
 returns : tie.Need-returns
 unfolding jobNumber

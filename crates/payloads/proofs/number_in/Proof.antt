@@ -34,7 +34,8 @@ loop-holds : tie.Need-loop-holds Inv-loop μ-loop
 loop-holds c = (omega arith, taken-none byteValues 4 (spelled (c .before)) (omega arith))
 
 -- there is room for the next byte
-next-fits : (c : tie.In-loop Inv-loop μ-loop) → c .before .loop .i * c .before .before .before .args .width + c .before .before .before .args .width ≤ length (c .before .before .before .args .message .now)
+next-fits : (c : tie.In-loop Inv-loop μ-loop) → c .before .loop .i * c .before .before .before .args .width + c .before .before .before .args .width ≤
+    length (c .before .before .before .args .message .now)
 next-fits c =
     let s = c .before .before .before in
     let a = s .args in
@@ -69,7 +70,8 @@ add-number c =
     let s = c .before .before .before .before .before in
     let t = c .before .before .before .loop in
     let a = s .args in
-    let v = byte-read (a .q) (a .width) (a .count) (a .message .now) (s .pre .0) (t .i) (c .spelled-value .result) (omega (arith, s .pre .2)) (c .spelled-value .ensures) in
+    let v = byte-read (a .q) (a .width) (a .count) (a .message .now) (s .pre .0) (t .i) (c .spelled-value .result) (omega (arith, s .pre .2))
+    (c .spelled-value .ensures) in
     omega (arith, v, taken-fits byteValues 4 (spelled s) (omega arith) (t .i) (t .number) (is-byte s (t .i)) 4 (omega arith) (omega arith) (t .inv .1))
 
 add-i : tie.Need-add-i Inv-loop μ-loop
@@ -83,7 +85,8 @@ loop-again c =
     let s = c .before .before .before .before .before in
     let t = c .before .before .before .loop in
     let a = s .args in
-    let v = byte-read (a .q) (a .width) (a .count) (a .message .now) (s .pre .0) (t .i) (c .spelled-value .result) (omega (arith, s .pre .2)) (c .spelled-value .ensures) in (
+    let v = byte-read (a .q) (a .width) (a .count) (a .message .now) (s .pre .0) (t .i) (c .spelled-value .result) (omega (arith, s .pre .2))
+    (c .spelled-value .ensures) in (
       omega arith,
       subst (λ (x : ℕ). Taken byteValues 4 (spelled s) (t .i + 1) (t .number * byteValues + x)) v
           (taken-turn byteValues 4 (spelled s) (omega arith) (t .i) (t .number) (is-byte s (t .i)) (omega arith)
@@ -100,7 +103,8 @@ cast-result c =
     omega (
       arith,
       taken-all byteValues 4 (spelled s) (omega arith) (t .i) (t .number) (omega arith) (t .inv .1),
-      number-below (spelled s) (omega (arith, s .pre .2, payload-count (a .q) (a .width) (a .count) ms (s .pre .0))) (payload-is (a .q) (length ms) ms (s .pre .1) .bytes),
+      number-below (spelled s) (omega (arith, s .pre .2, payload-count (a .q) (a .width) (a .count) ms (s .pre .0)))
+          (payload-is (a .q) (length ms) ms (s .pre .1) .bytes),
     )
 
 returns : tie.Need-returns Inv-loop μ-loop
@@ -113,18 +117,5 @@ pub number-in-spec : {M : Type 1} → statement M
 number-in-spec =
     tie.close
     (tie.spec
-    Inv-loop
-    μ-loop
-    loop-holds
-    mul-at
-    sub-spelled-value
-    part-spelled-value-start
-    part-spelled-value-end
-    spelled-value-requires
-    mul-number
-    add-number
-    add-i
-    loop-less
-    loop-again
-    cast-result
-    returns)
+    Inv-loop μ-loop loop-holds mul-at sub-spelled-value part-spelled-value-start part-spelled-value-end spelled-value-requires mul-number
+    add-number add-i loop-less loop-again cast-result returns)

@@ -22,7 +22,8 @@ loop-holds c =
     (omega arith, spelled-none (a .q) (a .width) (length (a .payload .now)) (length (a .message .now)) (a .payload .now) refl (a .message .now) refl (s .pre))
 
 -- there is room for the next byte, and for all of them
-next-fits : (c : tie.In-loop Inv-loop μ-loop) → c .before .loop .i * c .before .before .before .before .args .width + c .before .before .before .before .args .width ≤ length (c .before .loop .message)
+next-fits : (c : tie.In-loop Inv-loop μ-loop) → c .before .loop .i * c .before .before .before .before .args .width +
+    c .before .before .before .before .args .width ≤ length (c .before .loop .message)
 next-fits c =
     let a = c .before .before .before .before .args in
     let t = c .before .loop in
@@ -71,7 +72,8 @@ loop-again c =
     let a = c .before .before .before .before .before .before .before .before .before .args in
     let t = c .before .before .before .before .before .before .loop in (
       omega arith,
-      spelled-turn (a .q) (a .width) (length (a .payload .now)) (length (a .message .now)) (a .payload .now) refl (t .i) (t .message) (c .before .before .spell-byte .last .1 .1 .0) (omega arith) (t .inv .1) (c .before .before .spell-byte .ensures),
+      spelled-turn (a .q) (a .width) (length (a .payload .now)) (length (a .message .now)) (a .payload .now) refl (t .i) (t .message)
+          (c .before .before .spell-byte .last .1 .1 .0) (omega arith) (t .inv .1) (c .before .before .spell-byte .ensures),
     )
 
 mul-spelled : tie.Need-mul-spelled Inv-loop μ-loop
@@ -94,7 +96,8 @@ returns c =
     let a = c .before .before .before .before .before .before .before .before .args in
     let t = c .before .before .before .before .before .loop in
     let e : t .i ≡ length (a .payload .now) = omega arith in
-    spelled-all (a .q) (a .width) (length (a .payload .now)) (length (a .message .now)) (a .payload .now) refl (t .i) (t .message) (c .before .before .clear .last .0) e (t .inv .1) (c .before .before .clear .ensures)
+    spelled-all (a .q) (a .width) (length (a .payload .now)) (length (a .message .now)) (a .payload .now) refl (t .i) (t .message)
+    (c .before .before .clear .last .0) e (t .inv .1) (c .before .before .clear .ensures)
 
 same-length : tie.Need-same-length Inv-loop μ-loop
 same-length c =
@@ -105,23 +108,5 @@ pub spell-bytes-spec : {M : Type 1} → statement M
 spell-bytes-spec =
     tie.close
     (tie.spec
-    Inv-loop
-    μ-loop
-    loop-holds
-    mul-at
-    shared-slice-read-spell-byte
-    add-spell-byte
-    sub-spell-byte
-    part-spell-byte-start
-    part-spell-byte-end
-    spell-byte-requires
-    add-i
-    loop-less
-    loop-again
-    mul-spelled
-    sub-clear
-    part-clear-start
-    part-clear-end
-    clear-requires
-    same-length
-    returns)
+    Inv-loop μ-loop loop-holds mul-at shared-slice-read-spell-byte add-spell-byte sub-spell-byte part-spell-byte-start part-spell-byte-end
+    spell-byte-requires add-i loop-less loop-again mul-spelled sub-clear part-clear-start part-clear-end clear-requires same-length returns)

@@ -18,7 +18,8 @@ returns : tie.Need-returns
 returns c =
     let s = c .before .before .before .before .before .before .before in
     c .before .before .copy-prefix .ensures
-    ∙ sym (message-one (s .args .q) (sym (s .pre .width-is) ∙ c .before .before .before .before .if1 .taken) (s .args .message .now) (s .args .payload .now) (s .pre .count-is))
+    ∙ sym (message-one (s .args .q) (sym (s .pre .width-is) ∙ c .before .before .before .before .if1 .taken) (s .args .message .now) (s .args .payload .now)
+    (s .pre .count-is))
 
 spell-bytes-requires : tie.Need-spell-bytes-requires
 spell-bytes-requires c κs = search needs
@@ -33,9 +34,4 @@ pub spell-payload-spec : {M : Type 1} → statement M
 spell-payload-spec =
     tie.close
     (tie.spec
-    copy-prefix-requires
-    same-length
-    returns
-    spell-bytes-requires
-    same-length-2
-    returns-2)
+    copy-prefix-requires same-length returns spell-bytes-requires same-length-2 returns-2)

@@ -61,15 +61,4 @@ pub spell-value-spec : {M : Type 1} → statement M
 spell-value-spec =
     tie.close
     (tie.spec
-    Inv-loop
-    μ-loop
-    loop-holds
-    sub-i
-    rem-symbols
-    cast-symbols
-    slice-write-symbols
-    div-left
-    loop-less
-    loop-again
-    same-length
-    returns)
+    Inv-loop μ-loop loop-holds sub-i rem-symbols cast-symbols slice-write-symbols div-left loop-less loop-again same-length returns)

@@ -27,14 +27,22 @@ mul-value c =
     let s = c .before .before .before in
     let a = s .args in
     let t = c .before .before .loop in
-    omega (arith, taken-fits (a .q) (a .width) (a .symbols .now) (s .pre .bytes) (t .i) (t .value) (omega (arith, c .shared-slice-known .given (t .i))) maxByteWidth (omega arith) (s .pre .short) (t .inv .1))
+    omega (
+      arith,
+      taken-fits (a .q) (a .width) (a .symbols .now) (s .pre .bytes) (t .i) (t .value)
+          (omega (arith, c .shared-slice-known .given (t .i))) maxByteWidth (omega arith) (s .pre .short) (t .inv .1),
+    )
 
 add-value : tie.Need-add-value Inv-loop μ-loop
 add-value c =
     let s = c .before .before .before in
     let a = s .args in
     let t = c .before .before .loop in
-    omega (arith, taken-fits (a .q) (a .width) (a .symbols .now) (s .pre .bytes) (t .i) (t .value) (omega (arith, c .shared-slice-known .given (t .i))) maxByteWidth (omega arith) (s .pre .short) (t .inv .1))
+    omega (
+      arith,
+      taken-fits (a .q) (a .width) (a .symbols .now) (s .pre .bytes) (t .i) (t .value)
+          (omega (arith, c .shared-slice-known .given (t .i))) maxByteWidth (omega arith) (s .pre .short) (t .inv .1),
+    )
 
 add-i : tie.Need-add-i Inv-loop μ-loop
 add-i c = search needs
@@ -46,8 +54,11 @@ loop-again : tie.Need-loop-again Inv-loop μ-loop
 loop-again c =
     let s = c .before .before .before in
     let a = s .args in
-    let t = c .before .before .loop in
-    (omega arith, taken-turn (a .q) (a .width) (a .symbols .now) (s .pre .bytes) (t .i) (t .value) (omega (arith, c .shared-slice-known .given (t .i))) (omega arith) (s .pre .room) (t .inv .1))
+    let t = c .before .before .loop in (
+      omega arith,
+      taken-turn (a .q) (a .width) (a .symbols .now) (s .pre .bytes) (t .i) (t .value) (omega (arith, c .shared-slice-known .given (t .i)))
+          (omega arith) (s .pre .room) (t .inv .1),
+    )
 
 returns : tie.Need-returns Inv-loop μ-loop
 returns c =
@@ -60,14 +71,4 @@ pub spelled-value-spec : {M : Type 1} → statement M
 spelled-value-spec =
     tie.close
     (tie.spec
-    Inv-loop
-    μ-loop
-    loop-holds
-    shared-slice-read-digit
-    cast-digit
-    mul-value
-    add-value
-    add-i
-    loop-less
-    loop-again
-    returns)
+    Inv-loop μ-loop loop-holds shared-slice-read-digit cast-digit mul-value add-value add-i loop-less loop-again returns)

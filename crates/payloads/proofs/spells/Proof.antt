@@ -12,7 +12,8 @@ returns : tie.Need-returns
 returns c =
     let s = c .before .before in
     let ms = s .args .message .now in
-    sym (passes-one (s .args .q) (sym (s .pre .width-is) ∙ c .if1 .taken) ms (at-below byteValues ms (λ x l. omega (arith, c .before .shared-slice-known .given x))))
+    sym (passes-one (s .args .q) (sym (s .pre .width-is) ∙ c .if1 .taken) ms
+    (at-below byteValues ms (λ x l. omega (arith, c .before .shared-slice-known .given x))))
 
 spells-bytes-requires : tie.Need-spells-bytes-requires
 spells-bytes-requires c κs = search needs

@@ -15,7 +15,8 @@ use Rattle.payloads.proofs.spells_bytes.Statement.{statement}
 use Rattle.payloads.proofs.spells_bytes.Tie as tie
 
 abbrev Inv-loop : tie.InvT-loop
-Inv-loop q width count message i₀ i = (i ≤ count) × (all (λ x. ltb x byteValues) (drop i (payloadIn q (length message) message)) ≡ all (λ x. ltb x byteValues) (payloadIn q (length message) message))
+Inv-loop q width count message i₀ i = (i ≤ count) × (all (λ x. ltb x byteValues) (drop i (payloadIn q (length message) message)) ≡ all
+    (λ x. ltb x byteValues) (payloadIn q (length message) message))
 
 abbrev μ-loop : tie.MeasureT-loop
 μ-loop q width count message i₀ i = count - i
@@ -24,13 +25,15 @@ loop-holds : tie.Need-loop-holds Inv-loop μ-loop
 loop-holds c = (omega arith, refl)
 
 -- there is room for the next byte, and for all of them
-next-fits : (c : tie.In-loop Inv-loop μ-loop) → c .before .loop .i * c .before .before .before .args .width + c .before .before .before .args .width ≤ length (c .before .before .before .args .message .now)
+next-fits : (c : tie.In-loop Inv-loop μ-loop) → c .before .loop .i * c .before .before .before .args .width + c .before .before .before .args .width ≤
+    length (c .before .before .before .args .message .now)
 next-fits c =
     let s = c .before .before .before in
     let a = s .args in
     byte-room (a .q) (a .width) (a .count) (a .message .now) (s .pre) (c .before .loop .i) (omega arith)
 
-all-fit : (c : tie.After-loop Inv-loop μ-loop) → c .before .before .before .args .count * c .before .before .before .args .width ≤ length (c .before .before .before .args .message .now)
+all-fit : (c : tie.After-loop Inv-loop μ-loop) → c .before .before .before .args .count * c .before .before .before .args .width ≤ length
+    (c .before .before .before .args .message .now)
 all-fit c =
     let s = c .before .before .before in
     let a = s .args in
@@ -63,7 +66,8 @@ returns c =
     let P = payloadIn (a .q) (length ms) ms in
     let v = byte-read (a .q) (a .width) (a .count) ms (s .pre) (t .i) (c .before .spelled-value .result) (omega arith) (c .before .spelled-value .ensures) in
     sym (not-bytes (a .q) (a .width) (a .count) ms (s .pre)
-    (sym (t .inv .1) ∙ all-fails (λ x. ltb x byteValues) P (t .i) (omega (arith, payload-count (a .q) (a .width) (a .count) ms (s .pre))) (leb-fails (suc (getD P (t .i) 0)) byteValues (omega (arith, v)))))
+    (sym (t .inv .1) ∙ all-fails (λ x. ltb x byteValues) P (t .i) (omega (arith, payload-count (a .q) (a .width) (a .count) ms (s .pre)))
+    (leb-fails (suc (getD P (t .i) 0)) byteValues (omega (arith, v)))))
 
 add-i : tie.Need-add-i Inv-loop μ-loop
 add-i c = search needs
@@ -80,7 +84,8 @@ loop-again c =
     let P = payloadIn (a .q) (length ms) ms in
     let v = byte-read (a .q) (a .width) (a .count) ms (s .pre) (t .i) (c .before .spelled-value .result) (omega arith) (c .before .spelled-value .ensures) in (
       omega arith,
-      sym (all-later (λ x. ltb x byteValues) P (t .i) (omega (arith, payload-count (a .q) (a .width) (a .count) ms (s .pre))) (leb-holds (suc (getD P (t .i) 0)) byteValues (omega (arith, v)))) ∙ t .inv .1,
+      sym (all-later (λ x. ltb x byteValues) P (t .i) (omega (arith, payload-count (a .q) (a .width) (a .count) ms (s .pre)))
+          (leb-holds (suc (getD P (t .i) 0)) byteValues (omega (arith, v)))) ∙ t .inv .1,
     )
 
 mul-spelled : tie.Need-mul-spelled Inv-loop μ-loop
@@ -106,27 +111,12 @@ returns-2 c =
     let ms = a .message .now in
     let P = payloadIn (a .q) (length ms) ms in
     then-leftovers (a .q) (a .width) (a .count) ms (s .pre) (c .all-below .result)
-    (sym (t .inv .1) ∙ all-over (λ x. ltb x byteValues) P (t .i) (omega (arith, payload-count (a .q) (a .width) (a .count) ms (s .pre)))) (c .all-below .ensures)
+    (sym (t .inv .1) ∙ all-over (λ x. ltb x byteValues) P (t .i) (omega (arith, payload-count (a .q) (a .width) (a .count) ms (s .pre))))
+    (c .all-below .ensures)
 
 pub spells-bytes-spec : {M : Type 1} → statement M
 spells-bytes-spec =
     tie.close
     (tie.spec
-    Inv-loop
-    μ-loop
-    loop-holds
-    mul-at
-    sub-spelled-value
-    part-spelled-value-start
-    part-spelled-value-end
-    spelled-value-requires
-    returns
-    add-i
-    loop-less
-    loop-again
-    mul-spelled
-    sub-all-below
-    part-all-below-start
-    part-all-below-end
-    all-below-requires
-    returns-2)
+    Inv-loop μ-loop loop-holds mul-at sub-spelled-value part-spelled-value-start part-spelled-value-end spelled-value-requires returns add-i
+    loop-less loop-again mul-spelled sub-all-below part-all-below-start part-all-below-end all-below-requires returns-2)

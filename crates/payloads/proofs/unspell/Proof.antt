@@ -37,9 +37,4 @@ pub unspell-spec : {M : Type 1} → statement M
 unspell-spec =
     tie.close
     (tie.spec
-    copy-prefix-requires
-    same-length
-    returns
-    unspell-bytes-requires
-    same-length-2
-    returns-2)
+    copy-prefix-requires same-length returns unspell-bytes-requires same-length-2 returns-2)

@@ -14,7 +14,8 @@ use Rattle.payloads.proofs.unspell_bytes.Statement.{statement}
 use Rattle.payloads.proofs.unspell_bytes.Tie as tie
 
 abbrev Inv-loop : tie.InvT-loop
-Inv-loop q width message payload₀ i₀ payload i = (i ≤ length payload₀) × (length payload ≡ length payload₀) × (take i payload ≡ take i (payloadIn q (length message) message))
+Inv-loop q width message payload₀ i₀ payload i = (i ≤ length payload₀) × (length payload ≡ length payload₀)
+    × (take i payload ≡ take i (payloadIn q (length message) message))
 
 abbrev μ-loop : tie.MeasureT-loop
 μ-loop q width message payload₀ i₀ payload i = length payload₀ - i
@@ -23,7 +24,8 @@ loop-holds : tie.Need-loop-holds Inv-loop μ-loop
 loop-holds c = (omega arith, refl, refl)
 
 -- there is room for the next byte
-next-fits : (c : tie.In-loop Inv-loop μ-loop) → c .before .loop .i * c .before .before .before .before .args .width + c .before .before .before .before .args .width ≤ length (c .before .before .before .before .args .message .now)
+next-fits : (c : tie.In-loop Inv-loop μ-loop) → c .before .loop .i * c .before .before .before .before .args .width +
+    c .before .before .before .before .args .width ≤ length (c .before .before .before .before .args .message .now)
 next-fits c =
     let s = c .before .before .before .before in
     let a = s .args in
@@ -45,7 +47,8 @@ spelled-value-requires : tie.Need-spelled-value-requires Inv-loop μ-loop
 spelled-value-requires c κs =
     let s = c .before .before .before .before .before in
     let a = s .args in
-    byte-valued (a .q) (a .width) (length (a .payload .now)) (a .message .now) (s .pre .0) (c .before .before .loop .i) (omega (arith, c .before .before .loop .inv .1))
+    byte-valued (a .q) (a .width) (length (a .payload .now)) (a .message .now) (s .pre .0) (c .before .before .loop .i)
+    (omega (arith, c .before .before .loop .inv .1))
 
 cast-payload : tie.Need-cast-payload Inv-loop μ-loop
 cast-payload c =
@@ -54,7 +57,12 @@ cast-payload c =
     let t = c .before .before .before .loop in
     let ms = a .message .now in
     let P = payloadIn (a .q) (length ms) ms in
-    omega (arith, below-at byteValues P (omega arith) (payload-is (a .q) (length ms) ms (s .pre .1) .bytes) (t .i), byte-read (a .q) (a .width) (length (a .payload .now)) ms (s .pre .0) (t .i) (c .spelled-value .result) (omega (arith, t .inv .1)) (c .spelled-value .ensures))
+    omega (
+      arith,
+      below-at byteValues P (omega arith) (payload-is (a .q) (length ms) ms (s .pre .1) .bytes) (t .i),
+      byte-read (a .q) (a .width)
+          (length (a .payload .now)) ms (s .pre .0) (t .i) (c .spelled-value .result) (omega (arith, t .inv .1)) (c .spelled-value .ensures),
+    )
 
 slice-write-payload : tie.Need-slice-write-payload Inv-loop μ-loop
 slice-write-payload c = search needs
@@ -76,7 +84,8 @@ loop-again c =
     let v = byte-read (a .q) (a .width) (length (a .payload .now)) ms (s .pre .0) (t .i) (c .spelled-value .result) l (c .spelled-value .ensures) in (
       omega arith,
       simp length-set (t .inv .1),
-      rw (← v) (fill-turn (t .payload) P (t .i) (omega arith) (omega (arith, payload-count (a .q) (a .width) (length (a .payload .now)) ms (s .pre .0))) (t .inv .2)),
+      rw (← v) (fill-turn (t .payload) P (t .i) (omega arith) (omega (arith, payload-count (a .q) (a .width) (length (a .payload .now)) ms (s .pre .0)))
+          (t .inv .2)),
     )
 
 same-length : tie.Need-same-length Inv-loop μ-loop
@@ -97,18 +106,5 @@ pub unspell-bytes-spec : {M : Type 1} → statement M
 unspell-bytes-spec =
     tie.close
     (tie.spec
-    Inv-loop
-    μ-loop
-    loop-holds
-    mul-at
-    sub-spelled-value
-    part-spelled-value-start
-    part-spelled-value-end
-    spelled-value-requires
-    cast-payload
-    slice-write-payload
-    add-i
-    loop-less
-    loop-again
-    same-length
-    returns)
+    Inv-loop μ-loop loop-holds mul-at sub-spelled-value part-spelled-value-start part-spelled-value-end spelled-value-requires cast-payload
+    slice-write-payload add-i loop-less loop-again same-length returns)

@@ -33,7 +33,8 @@ returns c =
     let s = c .before .before .before .before .before .before in
     let figures = c .before .before .before .before .layout in
     let number = c .before .before .answer .given in
-    c .unplaced .ensures ∙ sym (cover-unfit (codingOf (s .args .figures)) (s .args .map .now) (number .0 .0) (sym (figures .ensures .0) ∙ ap figuredAs (number .1)))
+    c .unplaced .ensures ∙ sym (cover-unfit (codingOf (s .args .figures)) (s .args .map .now) (number .0 .0)
+    (sym (figures .ensures .0) ∙ ap figuredAs (number .1)))
 
 returns-2 : tie.Need-returns-2
 returns-2 c =
@@ -47,10 +48,4 @@ pub cover-spec : {M : Type 1} → statement M
 cover-spec =
     tie.close
     (tie.spec
-    layout-requires
-    enum-known-answer
-    unplaced-requires
-    enum-known-answer-2
-    cover-fitting-requires
-    returns
-    returns-2)
+    layout-requires enum-known-answer unplaced-requires enum-known-answer-2 cover-fitting-requires returns returns-2)

@@ -27,7 +27,8 @@ returns-2 : tie.Need-returns-2
 returns-2 c =
     let s = c .before .before .before .before .before in
     c .unplaced2 .ensures
-    ∙ sym (cover-symbol (s .args .n) (s .args .m) (s .args .b) (s .args .map .now) (c .before .before .before .if1 .left) (sym (c .before .before .all-below .ensures) ∙ not-true _ (c .before .if2 .taken)))
+    ∙ sym (cover-symbol (s .args .n) (s .args .m) (s .args .b) (s .args .map .now) (c .before .before .before .if1 .left)
+    (sym (c .before .before .all-below .ensures) ∙ not-true _ (c .before .if2 .taken)))
 
 least-cover-requires : tie.Need-least-cover-requires
 least-cover-requires c κs =
@@ -42,25 +43,19 @@ returns-3 c =
     let s = c .before .before .before .before .before .before .before .before in
     c .unplaced3 .ensures
     ∙ sym (cover-none (s .args .n) (s .args .m) (s .args .b) (s .args .map .now) (c .before .before .before .before .before .before .if1 .left)
-    (sym (c .before .before .before .before .before .all-below .ensures) ∙ not-false _ (c .before .before .before .before .if2 .left)) (sym (c .before .before .before .least-cover .ensures .0) ∙ not-true _ (c .before .if3 .taken)))
+    (sym (c .before .before .before .before .before .all-below .ensures) ∙ not-false _ (c .before .before .before .before .if2 .left))
+    (sym (c .before .before .before .least-cover .ensures .0) ∙ not-true _ (c .before .if3 .taken)))
 
 returns-4 : tie.Need-returns-4
 returns-4 c =
     let s = c .before .before .before .before .before .before .before .before in
     ap {B = Covered} (λ (h : Held). record { answer = served; placement = h }) (c .before .before .before .least-cover .ensures .1)
     ∙ sym (cover-some (s .args .n) (s .args .m) (s .args .b) (s .args .map .now) (c .before .before .before .before .before .before .if1 .left)
-    (sym (c .before .before .before .before .before .all-below .ensures) ∙ not-false _ (c .before .before .before .before .if2 .left)) (sym (c .before .before .before .least-cover .ensures .0) ∙ not-false _ (c .before .if3 .left)))
+    (sym (c .before .before .before .before .before .all-below .ensures) ∙ not-false _ (c .before .before .before .before .if2 .left))
+    (sym (c .before .before .before .least-cover .ensures .0) ∙ not-false _ (c .before .if3 .left)))
 
 pub cover-within-spec : {M : Type 1} → statement M
 cover-within-spec =
     tie.close
     (tie.spec
-    unplaced-requires
-    returns
-    all-below-requires
-    unplaced-requires-2
-    returns-2
-    least-cover-requires
-    unplaced-requires-3
-    returns-3
-    returns-4)
+    unplaced-requires returns all-below-requires unplaced-requires-2 returns-2 least-cover-requires unplaced-requires-3 returns-3 returns-4)

@@ -86,16 +86,5 @@ pub last-burst-spec : {M : Type 1} → statement M
 last-burst-spec =
     tie.close
     (tie.spec
-    Inv-loop
-    μ-loop
-    returns
-    loop-holds
-    add-loop
-    sub-middle
-    add-middle
-    choose-requires
-    loop-less
-    loop-again
-    loop-less-2
-    loop-again-2
+    Inv-loop μ-loop returns loop-holds add-loop sub-middle add-middle choose-requires loop-less loop-again loop-less-2 loop-again-2
     returns-2)

@@ -52,12 +52,4 @@ pub last-end-spec : {M : Type 1} → statement M
 last-end-spec =
     tie.close
     (tie.spec
-    Inv-loop
-    μ-loop
-    loop-holds
-    sub-last
-    shared-slice-read-if1
-    returns
-    loop-less
-    loop-again
-    returns-2)
+    Inv-loop μ-loop loop-holds sub-last shared-slice-read-if1 returns loop-less loop-again returns-2)

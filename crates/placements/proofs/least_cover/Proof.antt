@@ -87,7 +87,8 @@ loop-again-2 : tie.Need-loop-again-2 Inv-loop μ-loop
 loop-again-2 c =
     let s = c .before .before .before in
     let a = s .before .before .before .args in
-    let stays = last-stays (defectAt (a .map .now)) (c .before .burst-start .result) (s .loop .start) (within (c .before)) (omega (arith, s .loop .inv .last)) in
+    let stays = last-stays (defectAt (a .map .now)) (c .before .burst-start .result) (s .loop .start) (within (c .before))
+    (omega (arith, s .loop .inv .last)) in
     scan-turn (s .loop .inv) (omega arith) (omega arith) (is (c .before)) (s .loop .inv .last ∙ sym stays)
 
 none-requires : tie.Need-none-requires Inv-loop μ-loop
@@ -127,22 +128,5 @@ pub least-cover-spec : {M : Type 1} → statement M
 least-cover-spec =
     tie.close
     (tie.spec
-    Inv-loop
-    μ-loop
-    cast-count
-    last-end-requires
-    loop-holds
-    sub-i
-    mul-burst-start
-    burst-start-requires
-    cast-found
-    mul-found
-    element-write-found
-    last-end-requires-2
-    loop-less
-    loop-again
-    loop-less-2
-    loop-again-2
-    none-requires
-    returns
-    returns-2)
+    Inv-loop μ-loop cast-count last-end-requires loop-holds sub-i mul-burst-start burst-start-requires cast-found mul-found
+    element-write-found last-end-requires-2 loop-less loop-again loop-less-2 loop-again-2 none-requires returns returns-2)

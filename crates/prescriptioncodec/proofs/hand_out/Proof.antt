@@ -47,7 +47,8 @@ returns c =
     let y = c .before .before .before .before .before .before .before .unspell .last .1 .1 .1 .0 in
     let text = c .before .before .read-text in
     let told = c .enum-told .given in
-    no-prescription es y (told .0 .0) (ap prescriptionAnswered (sym (told .1)) ∙ text .ensures ∙ ap readTextOut (rest-is numberLen y)) ∙ ap (ofPayload es) (c .before .before .before .before .before .before .before .unspell .ensures)
+    no-prescription es y (told .0 .0) (ap prescriptionAnswered (sym (told .1)) ∙ text .ensures ∙ ap readTextOut (rest-is numberLen y))
+    ∙ ap (ofPayload es) (c .before .before .before .before .before .before .before .unspell .ensures)
 
 job-number-requires : tie.Need-job-number-requires
 job-number-requires c κs = search needs
@@ -89,19 +90,5 @@ pub hand-out-spec : {M : Type 1} → statement M
 hand-out-spec =
     tie.close
     (tie.spec
-    byte-width-requires
-    unspell-requires
-    sub-read-text
-    part-read-text-start
-    part-read-text-end
-    read-text-requires
-    enum-known-answer
-    enum-told
-    same-length
-    returns
-    job-number-requires
-    needs-open-requires
-    same-length-2
-    returns-2
-    same-length-3
-    returns-3)
+    byte-width-requires unspell-requires sub-read-text part-read-text-start part-read-text-end read-text-requires enum-known-answer
+    enum-told same-length returns job-number-requires needs-open-requires same-length-2 returns-2 same-length-3 returns-3)

@@ -33,14 +33,16 @@ read-laid-requires c κs =
     let a = c .before .before .before .before .before .before .before .args in
     let told = c .before .answer2 .given in
     let figured = c .before .before .before .layout in
-    laid (a .figures) (entries (a .table)) (figured .result) (told .0 .0) (told .1) (figured .ensures .0) (figured .ensures .1) (sym (c .before .before .before .before .before .twice .ensures) ∙ c .before .before .before .before .if1 .left) .1
+    laid (a .figures) (entries (a .table)) (figured .result) (told .0 .0) (told .1) (figured .ensures .0) (figured .ensures .1)
+    (sym (c .before .before .before .before .before .twice .ensures) ∙ c .before .before .before .before .if1 .left) .1
 
 returns-2 : tie.Need-returns-2
 returns-2 c =
     let a = c .before .before .before .before .before .before .before .args in
     let told = c .before .answer .given in
     let figured = c .before .before .before .layout in
-    sym (read-unfit (codingOf (a .figures)) (entries (a .table)) (a .word .now) (told .0 .0) (sym (c .before .before .before .before .before .twice .ensures) ∙ c .before .before .before .before .if1 .left)
+    sym (read-unfit (codingOf (a .figures)) (entries (a .table)) (a .word .now) (told .0 .0)
+    (sym (c .before .before .before .before .before .twice .ensures) ∙ c .before .before .before .before .if1 .left)
     (sym (figured .ensures .0) ∙ ap figuredAs (told .1)))
 
 returns-3 : tie.Need-returns-3
@@ -48,18 +50,12 @@ returns-3 c =
     let a = c .before .before .before .before .before .before .before .before .args in
     let told = c .before .before .answer2 .given in
     let figured = c .before .before .before .before .layout in
-    let same = laid (a .figures) (entries (a .table)) (figured .result) (told .0 .0) (told .1) (figured .ensures .0) (figured .ensures .1) (sym (c .before .before .before .before .before .before .twice .ensures) ∙ c .before .before .before .before .before .if1 .left) .0 in
+    let same = laid (a .figures) (entries (a .table)) (figured .result) (told .0 .0) (told .1) (figured .ensures .0) (figured .ensures .1)
+    (sym (c .before .before .before .before .before .before .twice .ensures) ∙ c .before .before .before .before .before .if1 .left) .0 in
     c .read-laid .ensures ∙ ap (λ (d : Coding). prescriptionReadUnder d (entries (a .table)) (a .word .now)) same
 
 pub prescription-read-spec : {M : Type 1} → statement M
 prescription-read-spec =
     tie.close
     (tie.spec
-    twice-requires
-    returns
-    layout-requires
-    enum-known-answer
-    enum-known-answer-2
-    read-laid-requires
-    returns-2
-    returns-3)
+    twice-requires returns layout-requires enum-known-answer enum-known-answer-2 read-laid-requires returns-2 returns-3)

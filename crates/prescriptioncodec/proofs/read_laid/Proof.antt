@@ -20,12 +20,14 @@ longest : (s : tie.Start) → s .args .layout .«message_len» ≤ maxWord
 longest s = message-short (s .args .layout) (entries (s .args .table)) (s .pre)
 
 -- an array with room for the message has room for the payload
-within : (s : tie.Start) (count : ℕ) → count ≡ payloadLen (s .args .layout .q) (s .args .layout .«message_len») → (room : ℕ) → s .args .layout .«message_len» ≤ room → count ≤ room
+within : (s : tie.Start) (count : ℕ) → count ≡ payloadLen (s .args .layout .q) (s .args .layout .«message_len») → (room : ℕ)
+    → s .args .layout .«message_len» ≤ room → count ≤ room
 within s count e room le = omega (arith, payload-within (s .args .layout) count e, le)
 
 -- message and payload, lent in arrays with room for them
 readable : (c : tie.Else1) (room : ℕ) → (let a = c .before .before .before .args in a .layout .«message_len» ≤ room
-    → ReadableJob (a .layout) (entries (a .table)) (take {A = ℕ} (a .layout .«message_len») (replicate room 0)) (take {A = ℕ} (c .before .payload-len .result) (replicate room 0)))
+    → ReadableJob (a .layout) (entries (a .table)) (take {A = ℕ} (a .layout .«message_len») (replicate room 0))
+    (take {A = ℕ} (c .before .payload-len .result) (replicate room 0)))
 readable c room le =
     let s = c .before .before .before in
     let l = s .args .layout in
@@ -102,17 +104,6 @@ pub read-laid-spec : {M : Type 1} → statement M
 read-laid-spec =
     tie.close
     (tie.spec
-    payload-len-requires
-    returns
-    array-borrow-prefix-short
-    slice-aggregate-read-message
-    array-borrow-prefix-bytes
-    slice-aggregate-read-message-2
-    read-message-requires
-    returns-2
-    array-borrow-prefix-message
-    slice-aggregate-read-message-3
-    array-borrow-prefix-payload
-    slice-aggregate-read-message-4
-    read-message-requires-2
-    returns-3)
+    payload-len-requires returns array-borrow-prefix-short slice-aggregate-read-message array-borrow-prefix-bytes
+    slice-aggregate-read-message-2 read-message-requires returns-2 array-borrow-prefix-message slice-aggregate-read-message-3
+    array-borrow-prefix-payload slice-aggregate-read-message-4 read-message-requires-2 returns-3)

@@ -26,7 +26,8 @@ hand-out-requires c κs =
     let told = c .before .before .enum-told .given in
     let d = c .before .before .before .before .before .before .read-spelled in
     let same : length (d .last .1 .1 .0) ≡ length (s .args .message .now) = search needs in
-    holding (s .args .layout) (entries (s .args .table)) (s .args .word .now) (s .args .message .now) (d .last .1 .1 .0) (s .args .payload .now) (s .pre) same (d .ensures .1)
+    holding (s .args .layout) (entries (s .args .table)) (s .args .word .now) (s .args .message .now) (d .last .1 .1 .0) (s .args .payload .now)
+    (s .pre) same (d .ensures .1)
     (told .0 .0) (ap answerAs (sym (told .1)) ∙ d .ensures .0)
 
 same-length : tie.Need-same-length
@@ -37,7 +38,8 @@ returns c =
     let s = c .before .before .before .before .before .before .before .before .before .before in
     let told = c .before .answer .given in
     let d = c .before .before .before .before .before .read-spelled in
-    sym (read-spelled (s .args .layout) (s .pre .serves) (entries (s .args .table)) (s .args .word .now) (s .args .message .now) (d .last .1 .1 .0) (s .pre .ready) (s .pre .room)
+    sym (read-spelled (s .args .layout) (s .pre .serves) (entries (s .args .table)) (s .args .word .now) (s .args .message .now) (d .last .1 .1 .0)
+    (s .pre .ready) (s .pre .room)
     (d .result) _ (told .1) (d .ensures .0) (d .ensures .1))
 
 same-length-2 : tie.Need-same-length-2
@@ -53,19 +55,12 @@ returns-2 c =
     let d = c .before .before .before .before .before .before .before .before .before .read-spelled in
     let same : length (d .last .1 .1 .0) ≡ codingIn (s .args .layout) .codec .messageLen = search (needs, s .pre .room) in
     c .before .before .hand-out .ensures
-    ∙ rw same (sym (read-spelled (s .args .layout) (s .pre .serves) (entries (s .args .table)) (s .args .word .now) (s .args .message .now) (d .last .1 .1 .0) (s .pre .ready) (s .pre .room)
+    ∙ rw same (sym (read-spelled (s .args .layout) (s .pre .serves) (entries (s .args .table)) (s .args .word .now) (s .args .message .now)
+    (d .last .1 .1 .0) (s .pre .ready) (s .pre .room)
     (d .result) _ (told .1) (d .ensures .0) (d .ensures .1)))
 
 pub read-message-spec : {M : Type 1} → statement M
 read-message-spec =
     tie.close
     (tie.spec
-    read-spelled-requires
-    enum-known-answer
-    enum-told
-    hand-out-requires
-    same-length
-    returns
-    same-length-2
-    same-length-3
-    returns-2)
+    read-spelled-requires enum-known-answer enum-told hand-out-requires same-length returns same-length-2 same-length-3 returns-2)

@@ -35,10 +35,13 @@ is s = numbers-in (l s) (s .pre .serves)
 
 -- five bytes or more, so many as the payload will hold
 goes-on : (c : tie.Else1) → ReadyUnder (d (c .before .before .before)) (entries (c .before .before .before .args .table))
-goes-on c = let s = c .before .before .before in ready (l s) (entries (s .args .table)) (s .pre) (c .before .payload-len .result) (c .before .payload-len .ensures) (omega (arith, c .if1 .left))
+goes-on c = let s = c .before .before .before in ready (l s) (entries (s .args .table)) (s .pre) (c .before .payload-len .result)
+    (c .before .payload-len .ensures) (omega (arith, c .if1 .left))
 
-as-many : (c : tie.Else1) → c .before .payload-len .result ≡ payloadLen (d (c .before .before .before) .codec .alphabet) (d (c .before .before .before) .codec .messageLen)
-as-many c = let s = c .before .before .before in bytes-are (l s) (entries (s .args .table)) (s .pre) (c .before .payload-len .result) (c .before .payload-len .ensures)
+as-many : (c : tie.Else1) → c .before .payload-len .result ≡ payloadLen (d (c .before .before .before) .codec .alphabet)
+    (d (c .before .before .before) .codec .messageLen)
+as-many c = let s = c .before .before .before in bytes-are (l s) (entries (s .args .table)) (s .pre) (c .before .payload-len .result)
+    (c .before .payload-len .ensures)
 
 count-most : (c : tie.Else5) → c .before .before .before .before .before .before .before .before .before .before .before .payload-len .result ≤ maxWord
 count-most c =
@@ -47,19 +50,31 @@ count-most c =
     omega (arith, payload-within (l s) (len .result) (len .ensures), message-short (l s) (entries (s .args .table)) (s .pre))
 
 -- a payload that is lent in an array with room for it
-module _ (c : tie.Else5) (room : ℕ) (fits : c .before .before .before .before .before .before .before .before .before .before .before .payload-len .result ≤ room) where
-  long-enough : minPayload ≤ length (take {A = ℕ} (c .before .before .before .before .before .before .before .before .before .before .before .payload-len .result) (replicate room 0))
-  long-enough = omega (arith, lent-is (c .before .before .before .before .before .before .before .before .before .before .before .payload-len .result) room fits, c .if5 .left)
+module _ (c : tie.Else5) (room : ℕ) (fits : c .before .before .before .before .before .before .before .before .before .before .before .payload-len .result ≤
+    room) where
+  long-enough : minPayload ≤ length
+      (take {A = ℕ} (c .before .before .before .before .before .before .before .before .before .before .before .payload-len .result) (replicate room 0))
+  long-enough =
+      omega (
+        arith,
+        lent-is (c .before .before .before .before .before .before .before .before .before .before .before .payload-len .result) room fits,
+        c .if5 .left,
+      )
 
   written-is : (let s = c .before .before .before .before .before .before .before .before .before .before .before .before .before in
-      asJob (d s) (entries (s .args .table)) (heldAs (s .args .at)) (s .args .number) (length (take {A = ℕ} (c .before .before .before .before .before .before .before .before .before .before .before .payload-len .result) (replicate room 0))) (s .args .word .now) (prescribedOf (s .args .prescription))
+      asJob (d s) (entries (s .args .table)) (heldAs (s .args .at)) (s .args .number)
+      (length (take {A = ℕ} (c .before .before .before .before .before .before .before .before .before .before .before .payload-len .result)
+      (replicate room 0))) (s .args .word .now) (prescribedOf (s .args .prescription))
       ≡ prescriptionWriteUnder (d s) (entries (s .args .table)) (heldAs (s .args .at)) (s .args .number) (s .args .prescription) (s .args .word .now))
   written-is =
       let s = c .before .before .before .before .before .before .before .before .before .before .before .before .before in
       let five = c .before .before .before .before .before .before .before .before .before .before in
-      ap (λ (K : ℕ). asJob (d s) (entries (s .args .table)) (heldAs (s .args .at)) (s .args .number) K (s .args .word .now) (prescribedOf (s .args .prescription)))
+      ap (λ (K : ℕ). asJob (d s) (entries (s .args .table)) (heldAs (s .args .at)) (s .args .number) K (s .args .word .now)
+      (prescribedOf (s .args .prescription)))
       (lent-is (c .before .before .before .before .before .before .before .before .before .before .before .payload-len .result) room fits ∙ as-many five)
-      ∙ sym (write-as-job (d s) (entries (s .args .table)) (heldAs (s .args .at)) (s .args .number) (s .args .prescription) (s .args .word .now) (goes-on five) (c .before .before .before .before .before .before .before .if2 .left ∙ is s .bursts-is) (c .before .before .before .before .before .if3 .left ∙ is s .word-is)
+      ∙ sym (write-as-job (d s) (entries (s .args .table)) (heldAs (s .args .at)) (s .args .number) (s .args .prescription) (s .args .word .now)
+      (goes-on five) (c .before .before .before .before .before .before .before .if2 .left ∙ is s .bursts-is)
+      (c .before .before .before .before .before .if3 .left ∙ is s .word-is)
       (apart-in (l s) (s .pre .serves) (startsIn (s .args .at)) ∙ sym (c .before .before .apart .ensures) ∙ not-false _ (c .before .if4 .left))
       (omega (arith, as-many five, c .if5 .left)))
 
@@ -70,7 +85,8 @@ returns : tie.Need-returns
 returns c =
     let s = c .before .before .before in
     let len = c .before .payload-len in
-    sym (write-few (l s) (entries (s .args .table)) (heldAs (s .args .at)) (s .args .number) (s .args .prescription) (s .args .word .now) (s .pre) (len .result) (len .ensures) (c .if1 .taken))
+    sym (write-few (l s) (entries (s .args .table)) (heldAs (s .args .at)) (s .args .number) (s .args .prescription) (s .args .word .now) (s .pre)
+    (len .result) (len .ensures) (c .if1 .taken))
 
 cast-if2 : tie.Need-cast-if2
 cast-if2 c = search needs
@@ -78,15 +94,18 @@ cast-if2 c = search needs
 returns-2 : tie.Need-returns-2
 returns-2 c =
     let s = c .before .before .before .before .before .before in
-    sym (write-count (d s) (entries (s .args .table)) (heldAs (s .args .at)) (s .args .number) (s .args .prescription) (s .args .word .now) (goes-on (c .before .before .before)) (λ e. c .if2 .taken (e ∙ sym (is s .bursts-is))))
+    sym (write-count (d s) (entries (s .args .table)) (heldAs (s .args .at)) (s .args .number) (s .args .prescription) (s .args .word .now)
+    (goes-on (c .before .before .before)) (λ e. c .if2 .taken (e ∙ sym (is s .bursts-is))))
 
 returns-3 : tie.Need-returns-3
 returns-3 c =
     let s = c .before .before .before .before .before .before .before .before in
-    sym (write-length (d s) (entries (s .args .table)) (heldAs (s .args .at)) (s .args .number) (s .args .prescription) (s .args .word .now) (goes-on (c .before .before .before .before .before)) (c .before .before .if2 .left ∙ is s .bursts-is) (λ e. c .if3 .taken (e ∙ sym (is s .word-is))))
+    sym (write-length (d s) (entries (s .args .table)) (heldAs (s .args .at)) (s .args .number) (s .args .prescription) (s .args .word .now)
+    (goes-on (c .before .before .before .before .before)) (c .before .before .if2 .left ∙ is s .bursts-is) (λ e. c .if3 .taken (e ∙ sym (is s .word-is))))
 
 cast-apart : tie.Need-cast-apart
-cast-apart c = let s = c .before .before .before .before .before .before .before .before .before in omega (arith, bound (l s) (in-shape (l s) (s .pre .serves)) .n-most)
+cast-apart c = let s = c .before .before .before .before .before .before .before .before .before in
+    omega (arith, bound (l s) (in-shape (l s) (s .pre .serves)) .n-most)
 
 cast-apart-2 : tie.Need-cast-apart-2
 cast-apart-2 c =
@@ -94,19 +113,24 @@ cast-apart-2 c =
     omega (arith, bound (l s) (in-shape (l s) (s .pre .serves)) .n-most, long (l s) (in-shape (l s) (s .pre .serves)))
 
 apart-requires : tie.Need-apart-requires
-apart-requires c κs = let s = c .before .before .before .before .before .before .before .before .before .before in omega (arith, c .before .before .before .before .if2 .left, bound (l s) (in-shape (l s) (s .pre .serves)) .m-most)
+apart-requires c κs = let s = c .before .before .before .before .before .before .before .before .before .before in
+    omega (arith, c .before .before .before .before .if2 .left, bound (l s) (in-shape (l s) (s .pre .serves)) .m-most)
 
 returns-4 : tie.Need-returns-4
 returns-4 c =
     let s = c .before .before .before .before .before .before .before .before .before .before .before .before in
-    sym (write-starts (d s) (entries (s .args .table)) (heldAs (s .args .at)) (s .args .number) (s .args .prescription) (s .args .word .now) (goes-on (c .before .before .before .before .before .before .before .before .before)) (c .before .before .before .before .before .before .if2 .left ∙ is s .bursts-is) (c .before .before .before .before .if3 .left ∙ is s .word-is)
+    sym (write-starts (d s) (entries (s .args .table)) (heldAs (s .args .at)) (s .args .number) (s .args .prescription) (s .args .word .now)
+    (goes-on (c .before .before .before .before .before .before .before .before .before))
+    (c .before .before .before .before .before .before .if2 .left ∙ is s .bursts-is) (c .before .before .before .before .if3 .left ∙ is s .word-is)
     (apart-in (l s) (s .pre .serves) (startsIn (s .args .at)) ∙ sym (c .before .apart .ensures) ∙ not-true _ (c .if4 .taken)))
 
 returns-5 : tie.Need-returns-5
 returns-5 c =
     let s = c .before .before .before .before .before .before .before .before .before .before .before .before .before in
     let five = c .before .before .before .before .before .before .before .before .before .before in
-    sym (write-short (d s) (entries (s .args .table)) (heldAs (s .args .at)) (s .args .number) (s .args .prescription) (s .args .word .now) (goes-on five) (c .before .before .before .before .before .before .before .if2 .left ∙ is s .bursts-is) (c .before .before .before .before .before .if3 .left ∙ is s .word-is)
+    sym (write-short (d s) (entries (s .args .table)) (heldAs (s .args .at)) (s .args .number) (s .args .prescription) (s .args .word .now) (goes-on five)
+    (c .before .before .before .before .before .before .before .if2 .left ∙ is s .bursts-is)
+    (c .before .before .before .before .before .if3 .left ∙ is s .word-is)
     (apart-in (l s) (s .pre .serves) (startsIn (s .args .at)) ∙ sym (c .before .before .apart .ensures) ∙ not-false _ (c .before .if4 .left))
     (omega (arith, as-many five, c .if5 .taken)))
 
@@ -114,53 +138,50 @@ array-borrow-prefix-short : tie.Need-array-borrow-prefix-short
 array-borrow-prefix-short c = search needs
 
 slice-aggregate-write-payload : tie.Need-slice-aggregate-write-payload
-slice-aggregate-write-payload c = sym (lent-is (c .before .before .before .before .before .before .before .before .before .before .before .before .before .payload-len .result) shortWord (omega (arith, c .before .if6 .taken)))
+slice-aggregate-write-payload c =
+    sym (lent-is (c .before .before .before .before .before .before .before .before .before .before .before .before .before .payload-len .result) shortWord
+    (omega (arith, c .before .if6 .taken)))
 
 write-payload-requires : tie.Need-write-payload-requires
-write-payload-requires c κs = (c .before .before .before .before .before .before .before .before .before .before .before .before .before .before .before .before .pre, long-enough (c .before .before .before) shortWord (omega (arith, c .before .before .if6 .taken)))
+write-payload-requires c κs = (
+  c .before .before .before .before .before .before .before .before .before .before .before .before .before .before .before .before .pre,
+  long-enough
+      (c .before .before .before) shortWord (omega (arith, c .before .before .if6 .taken)),
+)
 
 same-length : tie.Need-same-length
 same-length c = search needs
 
 returns-6 : tie.Need-returns-6
-returns-6 c = c .before .before .before .write-payload .ensures ∙ written-is (c .before .before .before .before .before .before .before) shortWord (omega (arith, c .before .before .before .before .before .before .if6 .taken))
+returns-6 c = c .before .before .before .write-payload .ensures ∙ written-is (c .before .before .before .before .before .before .before) shortWord
+    (omega (arith, c .before .before .before .before .before .before .if6 .taken))
 
 array-borrow-prefix-payload : tie.Need-array-borrow-prefix-payload
 array-borrow-prefix-payload c = count-most (c .before)
 
 slice-aggregate-write-payload-2 : tie.Need-slice-aggregate-write-payload-2
-slice-aggregate-write-payload-2 c = sym (lent-is (c .before .before .before .before .before .before .before .before .before .before .before .before .before .payload-len .result) maxWord (count-most (c .before .before)))
+slice-aggregate-write-payload-2 c =
+    sym (lent-is (c .before .before .before .before .before .before .before .before .before .before .before .before .before .payload-len .result) maxWord
+    (count-most (c .before .before)))
 
 write-payload-requires-2 : tie.Need-write-payload-requires-2
-write-payload-requires-2 c κs = (c .before .before .before .before .before .before .before .before .before .before .before .before .before .before .before .before .pre, long-enough (c .before .before .before) maxWord (count-most (c .before .before .before)))
+write-payload-requires-2 c κs = (
+  c .before .before .before .before .before .before .before .before .before .before .before .before .before .before .before .before .pre,
+  long-enough
+      (c .before .before .before) maxWord (count-most (c .before .before .before)),
+)
 
 same-length-2 : tie.Need-same-length-2
 same-length-2 c = search needs
 
 returns-7 : tie.Need-returns-7
-returns-7 c = c .before .before .before .write-payload2 .ensures ∙ written-is (c .before .before .before .before .before .before .before) maxWord (count-most (c .before .before .before .before .before .before .before))
+returns-7 c = c .before .before .before .write-payload2 .ensures ∙ written-is (c .before .before .before .before .before .before .before) maxWord
+    (count-most (c .before .before .before .before .before .before .before))
 
 pub write-laid-spec : {M : Type 1} → statement M
 write-laid-spec =
     tie.close
     (tie.spec
-    payload-len-requires
-    returns
-    cast-if2
-    returns-2
-    returns-3
-    cast-apart
-    cast-apart-2
-    apart-requires
-    returns-4
-    returns-5
-    array-borrow-prefix-short
-    slice-aggregate-write-payload
-    write-payload-requires
-    same-length
-    returns-6
-    array-borrow-prefix-payload
-    slice-aggregate-write-payload-2
-    write-payload-requires-2
-    same-length-2
-    returns-7)
+    payload-len-requires returns cast-if2 returns-2 returns-3 cast-apart cast-apart-2 apart-requires returns-4 returns-5
+    array-borrow-prefix-short slice-aggregate-write-payload write-payload-requires same-length returns-6 array-borrow-prefix-payload
+    slice-aggregate-write-payload-2 write-payload-requires-2 same-length-2 returns-7)

@@ -33,7 +33,8 @@ returns : tie.Need-returns
 returns c =
     let s = c .before .before .before .before .before .before .before in
     let text = c .before .before .before .write-text in
-    text-refused (s .args .prescription) (s .args .payload .now) (text .last .1 .0) (text .result) (s .pre .1) (text .ensures) (codingIn (s .args .layout)) (entries (s .args .table)) (heldAs (s .args .at)) (s .args .number) (length (s .args .payload .now)) (s .args .word .now) (c .if1 .taken)
+    text-refused (s .args .prescription) (s .args .payload .now) (text .last .1 .0) (text .result) (s .pre .1) (text .ensures) (codingIn (s .args .layout))
+    (entries (s .args .table)) (heldAs (s .args .at)) (s .args .number) (length (s .args .payload .now)) (s .args .word .now) (c .if1 .taken)
 
 slice-relend-prefix-spell-value : tie.Need-slice-relend-prefix-spell-value
 slice-relend-prefix-spell-value c = search needs
@@ -65,23 +66,14 @@ returns-2 c =
     let y = s .args .payload .now in
     let front = spelt .last .1 .1 .0 in
     c .before .before .write-laid .ensures
-    ∙ text-goes-on (s .args .prescription) y (text .last .1 .0) (text .result) (s .pre .1) (text .ensures) (codingIn (s .args .layout)) (entries (s .args .table)) (heldAs (s .args .at)) (s .args .number) (length (s .args .payload .now)) (s .args .word .now) (c .before .before .before .before .before .before .before .before .before .if1 .left) front
+    ∙ text-goes-on (s .args .prescription) y (text .last .1 .0) (text .result) (s .pre .1) (text .ensures) (codingIn (s .args .layout))
+    (entries (s .args .table)) (heldAs (s .args .at)) (s .args .number) (length (s .args .payload .now)) (s .args .word .now)
+    (c .before .before .before .before .before .before .before .before .before .if1 .left) front
     (number-spelt y (text .last .1 .0) (s .args .number) (s .pre .1) front (spelt .ensures)) refl
 
 pub write-payload-spec : {M : Type 1} → statement M
 write-payload-spec =
     tie.close
     (tie.spec
-    sub-write-text
-    part-write-text-start
-    part-write-text-end
-    write-text-requires
-    same-length
-    returns
-    slice-relend-prefix-spell-value
-    slice-aggregate-spell-value
-    spell-value-requires
-    write-laid-requires
-    same-length-2
-    same-length-3
-    returns-2)
+    sub-write-text part-write-text-start part-write-text-end write-text-requires same-length returns slice-relend-prefix-spell-value
+    slice-aggregate-spell-value spell-value-requires write-laid-requires same-length-2 same-length-3 returns-2)

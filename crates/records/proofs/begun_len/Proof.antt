@@ -40,18 +40,12 @@ returns-4 : tie.Need-returns-4
 returns-4 c =
     let a = c .before .before .before .before .before .before .before .before .args in
     begun-measured (sessionOf (a .session)) (a .received .now) (c .record-len .result) (recordLen (sessionOf (a .session)) (letterOf (a .received .now)))
-    (begun-both (sessionOf (a .session)) (a .received .now) (c .before .before .before .before .before .before .if1 .left) (c .before .before .before .before .if2 .left) (c .before .before .if3 .left))
+    (begun-both (sessionOf (a .session)) (a .received .now) (c .before .before .before .before .before .before .if1 .left)
+    (c .before .before .before .before .if2 .left) (c .before .before .if3 .left))
     (c .record-len .ensures .0)
 
 pub begun-len-spec : {M : Type 1} → statement M
 begun-len-spec =
     tie.close
     (tie.spec
-    returns
-    shared-slice-read-if2
-    returns-2
-    shared-slice-read-if3
-    returns-3
-    shared-slice-read-record-len
-    record-len-requires
-    returns-4)
+    returns shared-slice-read-if2 returns-2 shared-slice-read-if3 returns-3 shared-slice-read-record-len record-len-requires returns-4)

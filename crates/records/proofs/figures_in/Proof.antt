@@ -39,19 +39,11 @@ cast-t12 c = search needs
 returns : tie.Need-returns
 returns c =
     let bytes = c .before .before .before .before .before .args .received .now in
-    ap₂ {C = Figures} (λ (n b : ℕ). Ranked (record { n = n; q = getD bytes 5 0 + 1; m = getD bytes 6 0; b = b })) (c .before .before .before .two-bytes .ensures) (c .two-bytes2 .ensures)
+    ap₂ {C = Figures} (λ (n b : ℕ). Ranked (record { n = n; q = getD bytes 5 0 + 1; m = getD bytes 6 0; b = b }))
+    (c .before .before .before .two-bytes .ensures) (c .two-bytes2 .ensures)
 
 pub figures-in-spec : {M : Type 1} → statement M
 figures-in-spec =
     tie.close
     (tie.spec
-    two-bytes-requires
-    cast-t3
-    shared-slice-read-t5
-    cast-t6
-    add-t7
-    shared-slice-read-t9
-    cast-t10
-    two-bytes-requires-2
-    cast-t12
-    returns)
+    two-bytes-requires cast-t3 shared-slice-read-t5 cast-t6 add-t7 shared-slice-read-t9 cast-t10 two-bytes-requires-2 cast-t12 returns)

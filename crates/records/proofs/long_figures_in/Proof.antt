@@ -39,11 +39,4 @@ pub long-figures-in-spec : {M : Type 1} → statement M
 long-figures-in-spec =
     tie.close
     (tie.spec
-    two-bytes-requires
-    cast-t3
-    shared-slice-read-t5
-    cast-t6
-    add-t7
-    two-bytes-requires-2
-    cast-t9
-    returns)
+    two-bytes-requires cast-t3 shared-slice-read-t5 cast-t6 add-t7 two-bytes-requires-2 cast-t9 returns)

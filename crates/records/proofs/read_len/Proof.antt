@@ -24,7 +24,8 @@ returns c =
 
 -- the figures and their layout
 is-current : (c : tie.After-struct-known)
-    → IsCurrent (lastFigures (c .before .before .before .before .before .args .figures)) (c .before .before .answer .given .0 .0) (c .before .before .answer .given .0 .1 .0)
+    → IsCurrent (lastFigures (c .before .before .before .before .before .args .figures)) (c .before .before .answer .given .0 .0)
+    (c .before .before .answer .given .0 .1 .0)
 is-current c =
     current-laid (lastFigures (c .before .before .before .before .before .args .figures)) _ _ _ (c .before .before .answer .given .1)
     (c .before .before .before .before .current .ensures)

@@ -59,12 +59,4 @@ pub write-len-spec : {M : Type 1} → statement M
 write-len-spec =
     tie.close
     (tie.spec
-    current-requires
-    enum-known-answer
-    enum-told
-    returns
-    mul-result
-    add-result
-    payload-len-requires
-    add-result-2
-    returns-2)
+    current-requires enum-known-answer enum-told returns mul-result add-result payload-len-requires add-result-2 returns-2)

@@ -29,7 +29,13 @@ in-burst-requires : tie.Need-in-burst-requires Inv-loop μ-loop
 in-burst-requires c κs = c .before .before .before .before .pre .few
 
 shared-slice-read-word : tie.Need-shared-slice-read-word Inv-loop μ-loop
-shared-slice-read-word c = omega (arith, c .before .before .before .before .before .before .before .pre .room, c .before .before .before .before .loop .inv .1 .size, c .before .before .before .loop-test .taken)
+shared-slice-read-word c =
+    omega (
+      arith,
+      c .before .before .before .before .before .before .before .pre .room,
+      c .before .before .before .before .loop .inv .1 .size,
+      c .before .before .before .loop-test .taken,
+    )
 
 slice-write-word : tie.Need-slice-write-word Inv-loop μ-loop
 slice-write-word c = omega (arith, c .before .before .before .loop-test .taken)
@@ -65,14 +71,4 @@ pub spoil-spec : {M : Type 1} → statement M
 spoil-spec =
     tie.close
     (tie.spec
-    Inv-loop
-    μ-loop
-    loop-holds
-    in-burst-requires
-    shared-slice-read-word
-    slice-write-word
-    add-x
-    loop-less
-    loop-again
-    same-length
-    returns)
+    Inv-loop μ-loop loop-holds in-burst-requires shared-slice-read-word slice-write-word add-x loop-less loop-again same-length returns)

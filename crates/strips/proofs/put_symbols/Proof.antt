@@ -40,13 +40,4 @@ pub put-symbols-spec : {M : Type 1} → statement M
 put-symbols-spec =
     tie.close
     (tie.spec
-    Inv-loop
-    μ-loop
-    loop-holds
-    shared-slice-read-symbol
-    cast-print-decimal
-    print-decimal-requires
-    add-i
-    loop-less
-    loop-again
-    returns)
+    Inv-loop μ-loop loop-holds shared-slice-read-symbol cast-print-decimal print-decimal-requires add-i loop-less loop-again returns)

@@ -69,23 +69,6 @@ pub table-rows-spec : {M : Type 1} → statement M
 table-rows-spec =
     tie.close
     (tie.spec
-    Inv-loop
-    μ-loop
-    empty-requires
-    loop-holds
-    open-requires
-    slice-aggregate-call-row
-    call-row-requires
-    add-number
-    loop-less
-    loop-again
-    open-requires-2
-    slice-aggregate-call-row-2
-    call-row-requires-2
-    finish-requires
-    slice-aggregate-call-row-3
-    call-row-requires-3
-    open-requires-3
-    slice-aggregate-call-row-4
-    call-row-requires-4
-    returns)
+    Inv-loop μ-loop empty-requires loop-holds open-requires slice-aggregate-call-row call-row-requires add-number loop-less loop-again
+    open-requires-2 slice-aggregate-call-row-2 call-row-requires-2 finish-requires slice-aggregate-call-row-3 call-row-requires-3
+    open-requires-3 slice-aggregate-call-row-4 call-row-requires-4 returns)

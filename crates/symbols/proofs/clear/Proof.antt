@@ -49,7 +49,8 @@ loop-again c =
     let z = getD-replicate {A = ℕ} n (s .loop .i) 0 0 (omega (arith, s .loop .inv .1)) in (
       omega (arith, s .loop .inv .1),
       simp length-set (s .loop .inv .1),
-      rw z at (fill-turn (s .loop .symbols) (replicate n 0) (s .loop .i) (omega arith) (omega (arith, s .loop .inv .1, length-replicate {A = ℕ} n 0)) (s .loop .inv .2)),
+      rw z at (fill-turn (s .loop .symbols) (replicate n 0) (s .loop .i) (omega arith) (omega (arith, s .loop .inv .1, length-replicate {A = ℕ} n 0))
+          (s .loop .inv .2)),
     )
 
 same-length-2 : tie.Need-same-length-2 Inv-loop μ-loop
@@ -67,15 +68,5 @@ pub clear-spec : {M : Type 1} → statement M
 clear-spec =
     tie.close
     (tie.spec
-    Inv-loop
-    μ-loop
-    slice-write-symbols
-    same-length
-    returns
-    loop-holds
-    slice-write-symbols-2
-    add-i
-    loop-less
-    loop-again
-    same-length-2
+    Inv-loop μ-loop slice-write-symbols same-length returns loop-holds slice-write-symbols-2 add-i loop-less loop-again same-length-2
     returns-2)

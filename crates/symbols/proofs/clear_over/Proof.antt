@@ -41,12 +41,5 @@ pub clear-over-spec : {M : Type 1} → statement M
 clear-over-spec =
     tie.close
     (tie.spec
-    slice-relend-prefix-clear
-    slice-aggregate-clear
-    clear-requires
-    same-length
-    returns
-    slice-aggregate-copy-over
-    copy-over-requires
-    same-length-2
-    returns-2)
+    slice-relend-prefix-clear slice-aggregate-clear clear-requires same-length returns slice-aggregate-copy-over copy-over-requires
+    same-length-2 returns-2)

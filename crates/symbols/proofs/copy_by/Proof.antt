@@ -16,7 +16,8 @@ abbrev μ-loop : tie.MeasureT-loop
 μ-loop to from size room₀ i₀ room i = size - i
 
 abbrev Inv-loop2 : tie.InvT-loop2
-Inv-loop2 to₀ from size room i₀ to i = (i ≤ size) × (length to ≡ length to₀) × (take i to ≡ take i from) × (length room ≡ 64) × (take size room ≡ take size from)
+Inv-loop2 to₀ from size room i₀ to i = (i ≤ size) × (length to ≡ length to₀) × (take i to ≡ take i from) × (length room ≡ 64)
+    × (take size room ≡ take size from)
 
 abbrev μ-loop2 : tie.MeasureT-loop2
 μ-loop2 to₀ from size room i₀ to i = size - i
@@ -68,7 +69,8 @@ loop2-again c =
     let room = s .before .before .loop .room in (
       omega arith,
       simp length-set (s .loop2 .inv .1),
-      fill-over (s .loop2 .to) room (s .before .before .before .args .from .now) (s .loop2 .i) (s .before .before .before .args .size) (omega arith) (omega (arith, s .loop2 .inv .3)) (search needs) (search needs) (s .loop2 .inv .4) (s .loop2 .inv .2),
+      fill-over (s .loop2 .to) room (s .before .before .before .args .from .now) (s .loop2 .i) (s .before .before .before .args .size) (omega arith)
+          (omega (arith, s .loop2 .inv .3)) (search needs) (search needs) (s .loop2 .inv .4) (s .loop2 .inv .2),
       s .loop2 .inv .3,
       s .loop2 .inv .4,
     )
@@ -86,21 +88,5 @@ pub copy-by-spec : {M : Type 1} → statement M
 copy-by-spec =
     tie.close
     (tie.spec
-    Inv-loop
-    μ-loop
-    Inv-loop2
-    μ-loop2
-    loop-holds
-    shared-slice-read-room
-    array-write-room
-    add-i
-    loop-less
-    loop-again
-    loop2-holds
-    array-read-to
-    slice-write-to
-    add-i-2
-    loop2-less
-    loop2-again
-    same-length
-    returns)
+    Inv-loop μ-loop Inv-loop2 μ-loop2 loop-holds shared-slice-read-room array-write-room add-i loop-less loop-again loop2-holds
+    array-read-to slice-write-to add-i-2 loop2-less loop2-again same-length returns)

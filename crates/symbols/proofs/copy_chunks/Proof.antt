@@ -52,7 +52,8 @@ returns : tie.Need-returns Inv-loop μ-loop
 returns c =
     let s = c .before .before .before .before .before .before .before in
     let part = c .before .before .copy-rest in
-    copied-rest (s .loop .done) (s .before .before .before .args .len) (s .loop .to) (s .before .before .before .args .from .now) (part .last .0) (omega arith) (search needs) (search needs) (s .loop .inv .3) (part .ensures)
+    copied-rest (s .loop .done) (s .before .before .before .args .len) (s .loop .to) (s .before .before .before .args .from .now) (part .last .0)
+    (omega arith) (search needs) (search needs) (s .loop .inv .3) (part .ensures)
 
 sub-if2 : tie.Need-sub-if2 Inv-loop μ-loop
 sub-if2 c = search needs
@@ -88,7 +89,8 @@ returns-2 : tie.Need-returns-2 Inv-loop μ-loop
 returns-2 c =
     let s = c .before .before .before .before .before .before .before .before in
     let part = c .before .before .copy-rest2 in
-    copied-rest (s .loop .done) (s .before .before .before .args .len) (s .loop .to) (s .before .before .before .args .from .now) (part .last .0) (omega arith) (search needs) (search needs) (s .loop .inv .3) (part .ensures)
+    copied-rest (s .loop .done) (s .before .before .before .args .len) (s .loop .to) (s .before .before .before .args .from .now) (part .last .0)
+    (omega arith) (search needs) (search needs) (s .loop .inv .3) (part .ensures)
 
 sub-copy-by : tie.Need-sub-copy-by Inv-loop μ-loop
 sub-copy-by c = search needs
@@ -124,7 +126,8 @@ loop-again c =
       omega (arith, s .loop .inv .2),
       omega arith,
       same-len-mid (s .loop .done) (length (s .loop .to) - s .loop .done) (s .loop .to) (part .last .0) (search needs) ∙ s .loop .inv .2,
-      copied-turn (s .loop .done) 32 (s .loop .to) (s .before .before .before .args .from .now) (part .last .0) (search needs) (search needs) (s .loop .inv .3) (part .ensures),
+      copied-turn (s .loop .done) 32 (s .loop .to) (s .before .before .before .args .from .now) (part .last .0) (search needs) (search needs)
+          (s .loop .inv .3) (part .ensures),
     )
 
 same-length-3 : tie.Need-same-length-3 Inv-loop μ-loop
@@ -139,40 +142,8 @@ pub copy-chunks-spec : {M : Type 1} → statement M
 copy-chunks-spec =
     tie.close
     (tie.spec
-    Inv-loop
-    μ-loop
-    loop-holds
-    sub-if1
-    sub-copy-rest
-    part-copy-rest-start
-    part-copy-rest-end
-    sub-copy-rest-2
-    part-copy-rest-start-2
-    part-copy-rest-end-2
-    sub-copy-rest-3
-    copy-rest-requires
-    same-length
-    returns
-    sub-if2
-    sub-copy-rest-4
-    part-copy-rest-start-3
-    part-copy-rest-end-3
-    sub-copy-rest-5
-    part-copy-rest-start-4
-    part-copy-rest-end-4
-    sub-copy-rest-6
-    copy-rest-requires-2
-    same-length-2
-    returns-2
-    sub-copy-by
-    part-copy-by-start
-    part-copy-by-end
-    sub-copy-by-2
-    part-copy-by-start-2
-    part-copy-by-end-2
-    copy-by-requires
-    add-done
-    loop-less
-    loop-again
-    same-length-3
-    returns-3)
+    Inv-loop μ-loop loop-holds sub-if1 sub-copy-rest part-copy-rest-start part-copy-rest-end sub-copy-rest-2 part-copy-rest-start-2
+    part-copy-rest-end-2 sub-copy-rest-3 copy-rest-requires same-length returns sub-if2 sub-copy-rest-4 part-copy-rest-start-3
+    part-copy-rest-end-3 sub-copy-rest-5 part-copy-rest-start-4 part-copy-rest-end-4 sub-copy-rest-6 copy-rest-requires-2 same-length-2
+    returns-2 sub-copy-by part-copy-by-start part-copy-by-end sub-copy-by-2 part-copy-by-start-2 part-copy-by-end-2 copy-by-requires
+    add-done loop-less loop-again same-length-3 returns-3)

@@ -44,20 +44,12 @@ returns c =
     let second = c .before .before .copy-two2 in
     let left = first .ensures .2 (omega arith) in
     let all : s .args .len ≡ first .result + second .result = omega (arith, second .ensures .2 left, first .ensures .0, second .ensures .0) in
-    rw all (copied-turn (first .result) (second .result) (first .last .0) (s .args .from .now) (second .last .0) (search needs) (search needs) (first .ensures .1) (second .ensures .1))
+    rw all (copied-turn (first .result) (second .result) (first .last .0) (s .args .from .now) (second .last .0) (search needs) (search needs)
+    (first .ensures .1) (second .ensures .1))
 
 pub copy-few-spec : {M : Type 1} → statement M
 copy-few-spec =
     tie.close
     (tie.spec
-    copy-two-requires
-    sub-copy-two
-    part-copy-two-start
-    part-copy-two-end
-    sub-copy-two-2
-    part-copy-two-start-2
-    part-copy-two-end-2
-    sub-copy-two-3
-    copy-two-requires-2
-    same-length
-    returns)
+    copy-two-requires sub-copy-two part-copy-two-start part-copy-two-end sub-copy-two-2 part-copy-two-start-2 part-copy-two-end-2
+    sub-copy-two-3 copy-two-requires-2 same-length returns)

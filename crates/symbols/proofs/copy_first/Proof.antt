@@ -40,20 +40,12 @@ returns c =
     let s = c .before .before .before .before .before .before .before .before .before .before .before in
     let first = c .before .before .before .before .before .before .before .copy-most in
     let second = c .before .before .copy-rest in
-    copied-rest (first .result) (s .args .len) (first .last .0) (s .args .from .now) (second .last .0) (first .ensures .0) (search needs) (search needs) (first .ensures .1) (second .ensures)
+    copied-rest (first .result) (s .args .len) (first .last .0) (s .args .from .now) (second .last .0) (first .ensures .0) (search needs) (search needs)
+    (first .ensures .1) (second .ensures)
 
 pub copy-first-spec : {M : Type 1} → statement M
 copy-first-spec =
     tie.close
     (tie.spec
-    copy-most-requires
-    sub-copy-rest
-    part-copy-rest-start
-    part-copy-rest-end
-    sub-copy-rest-2
-    part-copy-rest-start-2
-    part-copy-rest-end-2
-    sub-copy-rest-3
-    copy-rest-requires
-    same-length
-    returns)
+    copy-most-requires sub-copy-rest part-copy-rest-start part-copy-rest-end sub-copy-rest-2 part-copy-rest-start-2 part-copy-rest-end-2
+    sub-copy-rest-3 copy-rest-requires same-length returns)

@@ -54,7 +54,8 @@ loop-again c =
     let part = c .before .before .copy-by in (
       omega arith,
       same-len-mid (s .loop .done) (length (s .loop .to) - s .loop .done) (s .loop .to) (part .last .0) (search needs) ∙ s .loop .inv .1,
-      copied-turn (s .loop .done) 64 (s .loop .to) (s .before .before .before .args .from .now) (part .last .0) (search needs) (search needs) (s .loop .inv .2) (part .ensures),
+      copied-turn (s .loop .done) 64 (s .loop .to) (s .before .before .before .args .from .now) (part .last .0) (search needs) (search needs)
+          (s .loop .inv .2) (part .ensures),
     )
 
 same-length : tie.Need-same-length Inv-loop μ-loop
@@ -67,19 +68,5 @@ pub copy-most-spec : {M : Type 1} → statement M
 copy-most-spec =
     tie.close
     (tie.spec
-    Inv-loop
-    μ-loop
-    loop-holds
-    sub-loop
-    sub-copy-by
-    part-copy-by-start
-    part-copy-by-end
-    sub-copy-by-2
-    part-copy-by-start-2
-    part-copy-by-end-2
-    copy-by-requires
-    add-done
-    loop-less
-    loop-again
-    same-length
-    returns)
+    Inv-loop μ-loop loop-holds sub-loop sub-copy-by part-copy-by-start part-copy-by-end sub-copy-by-2 part-copy-by-start-2
+    part-copy-by-end-2 copy-by-requires add-done loop-less loop-again same-length returns)

@@ -40,20 +40,12 @@ returns c =
     let s = c .before .before .before .before .before .before .before .before .before .before .before in
     let first = c .before .before .before .before .before .before .before .copy-most in
     let second = c .before .before .copy-chunks in
-    copied-rest (first .result) (s .args .len) (first .last .0) (s .args .from .now) (second .last .0) (first .ensures .0) (search needs) (search needs) (first .ensures .1) (second .ensures)
+    copied-rest (first .result) (s .args .len) (first .last .0) (s .args .from .now) (second .last .0) (first .ensures .0) (search needs) (search needs)
+    (first .ensures .1) (second .ensures)
 
 pub copy-over-spec : {M : Type 1} → statement M
 copy-over-spec =
     tie.close
     (tie.spec
-    copy-most-requires
-    sub-copy-chunks
-    part-copy-chunks-start
-    part-copy-chunks-end
-    sub-copy-chunks-2
-    part-copy-chunks-start-2
-    part-copy-chunks-end-2
-    sub-copy-chunks-3
-    copy-chunks-requires
-    same-length
-    returns)
+    copy-most-requires sub-copy-chunks part-copy-chunks-start part-copy-chunks-end sub-copy-chunks-2 part-copy-chunks-start-2
+    part-copy-chunks-end-2 sub-copy-chunks-3 copy-chunks-requires same-length returns)

@@ -40,20 +40,12 @@ returns c =
     let s = c .before .before .before .before .before .before .before .before .before .before .before in
     let first = c .before .before .before .before .before .before .before .copy-two in
     let second = c .before .before .copy-few in
-    copied-rest (first .result) (s .args .len) (first .last .0) (s .args .from .now) (second .last .0) (first .ensures .0) (search needs) (search needs) (first .ensures .1) (second .ensures)
+    copied-rest (first .result) (s .args .len) (first .last .0) (s .args .from .now) (second .last .0) (first .ensures .0) (search needs) (search needs)
+    (first .ensures .1) (second .ensures)
 
 pub copy-rest-spec : {M : Type 1} → statement M
 copy-rest-spec =
     tie.close
     (tie.spec
-    copy-two-requires
-    sub-copy-few
-    part-copy-few-start
-    part-copy-few-end
-    sub-copy-few-2
-    part-copy-few-start-2
-    part-copy-few-end-2
-    sub-copy-few-3
-    copy-few-requires
-    same-length
-    returns)
+    copy-two-requires sub-copy-few part-copy-few-start part-copy-few-end sub-copy-few-2 part-copy-few-start-2 part-copy-few-end-2
+    sub-copy-few-3 copy-few-requires same-length returns)

@@ -47,7 +47,8 @@ returns c =
     let first = c .before .before .before .before .before .before .before .copy-step in
     let second = c .before .before .copy-step2 in (
       omega (arith, first .ensures .0, second .ensures .0),
-      copied-turn (first .result) (second .result) (first .last .0) (s .args .from .now) (second .last .0) (search needs) (search needs) (first .ensures .1) (second .ensures .1),
+      copied-turn (first .result) (second .result) (first .last .0) (s .args .from .now) (second .last .0) (search needs) (search needs) (first .ensures .1)
+          (second .ensures .1),
       λ h. let left = first .ensures .2 (omega arith) in omega (arith, second .ensures .2 left),
     )
 
@@ -55,16 +56,5 @@ pub copy-two-spec : {M : Type 1} → statement M
 copy-two-spec =
     tie.close
     (tie.spec
-    mul-copy-step
-    copy-step-requires
-    sub-copy-step
-    part-copy-step-start
-    part-copy-step-end
-    sub-copy-step-2
-    part-copy-step-start-2
-    part-copy-step-end-2
-    sub-copy-step-3
-    copy-step-requires-2
-    add-result
-    same-length
-    returns)
+    mul-copy-step copy-step-requires sub-copy-step part-copy-step-start part-copy-step-end sub-copy-step-2 part-copy-step-start-2
+    part-copy-step-end-2 sub-copy-step-3 copy-step-requires-2 add-result same-length returns)

@@ -50,12 +50,4 @@ pub largest-spec : {M : Type 1} → statement M
 largest-spec =
     tie.close
     (tie.spec
-    Inv-loop
-    μ-loop
-    loop-holds
-    shared-slice-read-larger
-    larger-requires
-    add-i
-    loop-less
-    loop-again
-    returns)
+    Inv-loop μ-loop loop-holds shared-slice-read-larger larger-requires add-i loop-less loop-again returns)

@@ -37,9 +37,4 @@ pub put-decimal-spec : {M : Type 1} → statement M
 put-decimal-spec =
     tie.close
     (tie.spec
-    decimal-requires
-    array-share-prefix-digits
-    slice-aggregate-put-text
-    put-text-requires
-    same-length
-    returns)
+    decimal-requires array-share-prefix-digits slice-aggregate-put-text put-text-requires same-length returns)

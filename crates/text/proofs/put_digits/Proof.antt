@@ -69,15 +69,5 @@ pub put-digits-spec : {M : Type 1} → statement M
 put-digits-spec =
     tie.close
     (tie.spec
-    Inv-loop
-    μ-loop
-    loop-holds
-    shared-slice-read-hex-digit
-    hex-digit-requires
-    add-line
-    slice-write-line
-    add-i
-    loop-less
-    loop-again
-    same-length
-    returns)
+    Inv-loop μ-loop loop-holds shared-slice-read-hex-digit hex-digit-requires add-line slice-write-line add-i loop-less loop-again
+    same-length returns)

@@ -56,14 +56,5 @@ pub put-hex-spec : {M : Type 1} → statement M
 put-hex-spec =
     tie.close
     (tie.spec
-    put-hex-chunks-requires
-    mul-put-hex-chunk
-    add-put-hex-chunk
-    sub-put-hex-chunk
-    part-put-hex-chunk-start
-    part-put-hex-chunk-end
-    put-hex-chunk-requires
-    mul-result
-    add-result
-    same-length
-    returns)
+    put-hex-chunks-requires mul-put-hex-chunk add-put-hex-chunk sub-put-hex-chunk part-put-hex-chunk-start part-put-hex-chunk-end
+    put-hex-chunk-requires mul-result add-result same-length returns)

@@ -44,10 +44,5 @@ pub put-hex-chunk-spec : {M : Type 1} → statement M
 put-hex-chunk-spec =
     tie.close
     (tie.spec
-    slice-aggregate-put-nibbles
-    put-nibbles-requires
-    array-share-prefix-room
-    slice-aggregate-put-digits
-    put-digits-requires
-    same-length
+    slice-aggregate-put-nibbles put-nibbles-requires array-share-prefix-room slice-aggregate-put-digits put-digits-requires same-length
     returns)

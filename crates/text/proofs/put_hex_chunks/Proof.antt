@@ -75,18 +75,5 @@ pub put-hex-chunks-spec : {M : Type 1} → statement M
 put-hex-chunks-spec =
     tie.close
     (tie.spec
-    Inv-loop
-    μ-loop
-    loop-holds
-    sub-loop
-    add-next
-    mul-put-hex-chunk
-    add-put-hex-chunk
-    sub-put-hex-chunk
-    part-put-hex-chunk-start
-    part-put-hex-chunk-end
-    put-hex-chunk-requires
-    loop-less
-    loop-again
-    same-length
-    returns)
+    Inv-loop μ-loop loop-holds sub-loop add-next mul-put-hex-chunk add-put-hex-chunk sub-put-hex-chunk part-put-hex-chunk-start
+    part-put-hex-chunk-end put-hex-chunk-requires loop-less loop-again same-length returns)

@@ -73,13 +73,4 @@ pub put-nibbles-spec : {M : Type 1} → statement M
 put-nibbles-spec =
     tie.close
     (tie.spec
-    Inv-loop
-    μ-loop
-    loop-holds
-    shared-slice-read-put-nibbles-of
-    put-nibbles-of-requires
-    add-i
-    loop-less
-    loop-again
-    same-length
-    returns)
+    Inv-loop μ-loop loop-holds shared-slice-read-put-nibbles-of put-nibbles-of-requires add-i loop-less loop-again same-length returns)

@@ -63,15 +63,4 @@ pub put-text-spec : {M : Type 1} → statement M
 put-text-spec =
     tie.close
     (tie.spec
-    Inv-loop
-    μ-loop
-    loop-holds
-    shared-slice-read-line
-    add-line
-    slice-write-line
-    add-i
-    loop-less
-    loop-again
-    add-result
-    same-length
-    returns)
+    Inv-loop μ-loop loop-holds shared-slice-read-line add-line slice-write-line add-i loop-less loop-again add-result same-length returns)

@@ -30,7 +30,14 @@ longest : (c : tie.After-payload-len) → c .payload-len .result ≤ maxWord
 longest c =
     let s = c .before .before .before in
     let k = s .args .layout .«message_len» in
-    omega (arith, payload-within (s .args .layout .q) k, c .payload-len .ensures, s .pre .numbers .len-is, s .pre .small .message-most, s .pre .small .word-most)
+    omega (
+      arith,
+      payload-within (s .args .layout .q) k,
+      c .payload-len .ensures,
+      s .pre .numbers .len-is,
+      s .pre .small .message-most,
+      s .pre .small .word-most,
+    )
 
 -- what was shown is the record's line, whatever array the payload is lent in
 module _ (c : tie.After-payload-len) (room : ℕ) (le : c .payload-len .result ≤ room) where
@@ -39,7 +46,9 @@ module _ (c : tie.After-payload-len) (room : ℕ) (le : c .payload-len .result �
 
   line-is : (r : StepAnswer) (line : List ℕ)
       → (let a = c .before .before .before .args in let bytes = a .received .now in let s = sessionOf (a .session) in
-      Shown r (a .line .now) line (readStep s (jobReadUnder (codingOf (a .figures)) (s .table) (take (length bytes - recordHeadLen) (drop recordHeadLen bytes)) (take {A = ℕ} (c .payload-len .result) (replicate room 0))))
+      Shown r (a .line .now) line
+      (readStep s (jobReadUnder (codingOf (a .figures)) (s .table) (take (length bytes - recordHeadLen) (drop recordHeadLen bytes))
+      (take {A = ℕ} (c .payload-len .result) (replicate room 0))))
       → Shown r (a .line .now) line (readOut s bytes (some (a .figures))))
   line-is r line =
       let s = c .before .before .before in
@@ -48,7 +57,8 @@ module _ (c : tie.After-payload-len) (room : ℕ) (le : c .payload-len .result �
       let bytes = a .received .now in
       let count = c .payload-len in
       let is = s .pre .numbers in
-      shown-read r (a .line .now) line (sessionOf (a .session)) (codingOf (a .figures)) (take (length bytes - recordHeadLen) (drop recordHeadLen bytes)) (drop recordHeadLen bytes)
+      shown-read r (a .line .now) line (sessionOf (a .session)) (codingOf (a .figures)) (take (length bytes - recordHeadLen) (drop recordHeadLen bytes))
+      (drop recordHeadLen bytes)
       (take {A = ℕ} (count .result) (replicate room 0)) (replicate {A = ℕ} (payloadLenOf (a .figures)) 0) (rest-all recordHeadLen bytes)
       (zeros (count .result) room le ∙ ap (λ (k : ℕ). replicate {A = ℕ} k 0) (count .ensures ∙ ap₂ payloadLen (is .alphabet-is) (is .len-is)))
 
@@ -78,7 +88,8 @@ same-length c = search needs
 returns : tie.Need-returns
 returns c =
     let read = c .before .before .before .read-payload in
-    line-is (c .before .before .before .before .before .before .before .before) shortWord (omega (arith, c .before .before .before .before .before .before .before .if1 .taken)) (read .result) (read .last .1 .1 .1 .1 .0) (read .ensures)
+    line-is (c .before .before .before .before .before .before .before .before) shortWord
+    (omega (arith, c .before .before .before .before .before .before .before .if1 .taken)) (read .result) (read .last .1 .1 .1 .1 .0) (read .ensures)
 
 sub-read-payload-2 : tie.Need-sub-read-payload-2
 sub-read-payload-2 c = search needs
@@ -113,20 +124,6 @@ pub read-laid-spec : {M : Type 1} → statement M
 read-laid-spec =
     tie.close
     (tie.spec
-    payload-len-requires
-    sub-read-payload
-    part-read-payload-start
-    part-read-payload-end
-    array-borrow-prefix-short
-    slice-aggregate-read-payload
-    read-payload-requires
-    same-length
-    returns
-    sub-read-payload-2
-    part-read-payload-start-2
-    part-read-payload-end-2
-    array-borrow-prefix-payload
-    slice-aggregate-read-payload-2
-    read-payload-requires-2
-    same-length-2
-    returns-2)
+    payload-len-requires sub-read-payload part-read-payload-start part-read-payload-end array-borrow-prefix-short
+    slice-aggregate-read-payload read-payload-requires same-length returns sub-read-payload-2 part-read-payload-start-2
+    part-read-payload-end-2 array-borrow-prefix-payload slice-aggregate-read-payload-2 read-payload-requires-2 same-length-2 returns-2)

@@ -39,15 +39,18 @@ returns c =
     let put = c .before .before .before .put-refusal in
     let line = a .line .now in
     let out = jobReadUnder (codingOf (a .figures)) (s .table) (a .word .now) (a .payload .now) in
-    shown-refused (c .counted .result) line (put .last .0) s letterR (job .result) (out .answer) (hex (take 4 (out .payload)) ∷ hex (drop 4 (out .payload)) ∷ []) (job .ensures .0) (c .before .before .before .before .before .if1 .taken)
-    (shown-goes (c .counted .result) line (put .last .0) (nextSession s (s .figures) (s .table)) (refusalLine letterR (job .result)) (put .result) (c .counted .ensures) (put .ensures))
+    shown-refused (c .counted .result) line (put .last .0) s letterR (job .result) (out .answer)
+    (hex (take 4 (out .payload)) ∷ hex (drop 4 (out .payload)) ∷ []) (job .ensures .0) (c .before .before .before .before .before .if1 .taken)
+    (shown-goes (c .counted .result) line (put .last .0) (nextSession s (s .figures) (s .table)) (refusalLine letterR (job .result)) (put .result)
+    (c .counted .ensures) (put .ensures))
 
 put-payload-requires : tie.Need-put-payload-requires
 put-payload-requires c κs =
     let s = c .before .before .before .before .before .before .before .before .before .before .before in
     let a = s .args in
     let job = c .before .before .before .before .before .job-read in
-    let number = read-number (codingOf (a .figures)) (entries (a .session .table)) (a .word .now) (a .payload .now) (sym (job .ensures .0) ∙ c .before .before .if1 .left) in
+    let number = read-number (codingOf (a .figures)) (entries (a .session .table)) (a .word .now) (a .payload .now)
+    (sym (job .ensures .0) ∙ c .before .before .if1 .left) in
     (s .pre .0 .room, omega (arith, s .pre .1, job .kept .1 .1 .1 .0), omega (arith, number, job .kept .1 .1 .1 .0))
 
 counted-requires-2 : tie.Need-counted-requires-2
@@ -71,20 +74,12 @@ returns-2 c =
     shown-served (c .counted2 .result) line (put .last .0) s letterR (job .result) (out .answer) (hex (take 4 payload) ∷ hex (drop 4 payload) ∷ [])
     (hex (take 4 (out .payload)) ∷ hex (drop 4 (out .payload)) ∷ []) (job .ensures .0) (c .before .before .before .before .before .before .if1 .left)
     (ap (λ (x : List ℕ). hex (take 4 x) ∷ hex (drop 4 x) ∷ []) (job .ensures .1))
-    (shown-goes (c .counted2 .result) line (put .last .0) (nextSession s (s .figures) (s .table)) (servedLine letterR (hex (take 4 payload) ∷ hex (drop 4 payload) ∷ [])) (put .result) (c .counted2 .ensures) (put .ensures))
+    (shown-goes (c .counted2 .result) line (put .last .0) (nextSession s (s .figures) (s .table))
+    (servedLine letterR (hex (take 4 payload) ∷ hex (drop 4 payload) ∷ [])) (put .result) (c .counted2 .ensures) (put .ensures))
 
 pub read-payload-spec : {M : Type 1} → statement M
 read-payload-spec =
     tie.close
     (tie.spec
-    job-read-requires
-    put-refusal-requires
-    counted-requires
-    same-length
-    same-length-2
-    returns
-    put-payload-requires
-    counted-requires-2
-    same-length-3
-    same-length-4
-    returns-2)
+    job-read-requires put-refusal-requires counted-requires same-length same-length-2 returns put-payload-requires counted-requires-2
+    same-length-3 same-length-4 returns-2)

@@ -49,13 +49,21 @@ serve-write-requires : tie.Need-serve-write-requires
 serve-write-requires c κs =
     let s = c .before .before .before .before .before in
     let bytes = s .args .received .now in
-    record { ready = s .pre .ready; whole = ap (isWhole bytes) (sym (len-W (sessionOf (s .args .session)) (letterOf bytes) (c .before .match .keys3))) ∙ s .pre .whole }
+    record {
+      ready = s .pre .ready;
+      whole = ap (isWhole bytes) (sym (len-W (sessionOf (s .args .session)) (letterOf bytes) (c .before .match .keys3)))
+          ∙ s .pre .whole;
+    }
 
 serve-read-requires : tie.Need-serve-read-requires
 serve-read-requires c κs =
     let s = c .before .before .before .before .before in
     let bytes = s .args .received .now in
-    record { ready = s .pre .ready; whole = ap (isWhole bytes) (sym (len-R (sessionOf (s .args .session)) (letterOf bytes) (c .before .match .keys4))) ∙ s .pre .whole }
+    record {
+      ready = s .pre .ready;
+      whole = ap (isWhole bytes) (sym (len-R (sessionOf (s .args .session)) (letterOf bytes) (c .before .match .keys4)))
+          ∙ s .pre .whole;
+    }
 
 sub-job-number : tie.Need-sub-job-number
 sub-job-number c =
@@ -77,7 +85,13 @@ job-number-requires c κs =
     let from = sessionOf (s .args .session) in
     let other = c .before .match .rest in
     let is = len-call from (letterOf bytes) bytes (other .0 .0 .0 .1) (other .0 .0 .1) (other .0 .1) (other .1) (s .pre .whole) in
-    omega (arith, whole-len bytes (recordLen from (letterOf bytes)) 7 (is .0) (s .pre .whole), ap (λ (x : List ℕ). length x) (rest-all recordHeadLen bytes), length-drop recordHeadLen bytes)
+    omega (
+      arith,
+      whole-len bytes (recordLen from (letterOf bytes)) 7 (is .0) (s .pre .whole),
+      ap (λ (x : List ℕ). length x)
+          (rest-all recordHeadLen bytes),
+      length-drop recordHeadLen bytes,
+    )
 
 serve-call-requires : tie.Need-serve-call-requires
 serve-call-requires c κs = search needs
@@ -91,8 +105,10 @@ returns c =
     let from = sessionOf (a .session) in
     let bytes = a .received .now in
     let done = c .before .before .serve-figures in
-    subst (λ (o : Step). Shown (done .result) (a .line .now) (done .last .1 .1 .1 .0) o) (sym (serve-S from (letterOf bytes) bytes (c .before .before .before .before .before .match .keys1)))
-    (subst (λ (f : Figures). Shown (done .result) (a .line .now) (done .last .1 .1 .1 .0) (figuresStep from (letterOf bytes) f (figuresUnder (codingOf f)))) (c .before .before .before .before .figures-in .ensures) (done .ensures))
+    subst (λ (o : Step). Shown (done .result) (a .line .now) (done .last .1 .1 .1 .0) o)
+    (sym (serve-S from (letterOf bytes) bytes (c .before .before .before .before .before .match .keys1)))
+    (subst (λ (f : Figures). Shown (done .result) (a .line .now) (done .last .1 .1 .1 .0) (figuresStep from (letterOf bytes) f (figuresUnder (codingOf f))))
+    (c .before .before .before .before .figures-in .ensures) (done .ensures))
 
 same-length-2 : tie.Need-same-length-2
 same-length-2 c = search needs
@@ -103,8 +119,10 @@ returns-2 c =
     let from = sessionOf (a .session) in
     let bytes = a .received .now in
     let done = c .before .before .serve-figures2 in
-    subst (λ (o : Step). Shown (done .result) (a .line .now) (done .last .1 .1 .1 .0) o) (sym (serve-L from (letterOf bytes) bytes (c .before .before .before .before .before .match .keys2)))
-    (subst (λ (f : Figures). Shown (done .result) (a .line .now) (done .last .1 .1 .1 .0) (figuresStep from (letterOf bytes) f (figuresUnder (codingOf f)))) (c .before .before .before .before .long-figures-in .ensures) (done .ensures))
+    subst (λ (o : Step). Shown (done .result) (a .line .now) (done .last .1 .1 .1 .0) o)
+    (sym (serve-L from (letterOf bytes) bytes (c .before .before .before .before .before .match .keys2)))
+    (subst (λ (f : Figures). Shown (done .result) (a .line .now) (done .last .1 .1 .1 .0) (figuresStep from (letterOf bytes) f (figuresUnder (codingOf f))))
+    (c .before .before .before .before .long-figures-in .ensures) (done .ensures))
 
 same-length-3 : tie.Need-same-length-3
 same-length-3 c = search needs
@@ -114,7 +132,8 @@ returns-3 c =
     let a = c .before .before .before .before .before .before .before .before .args in
     let bytes = a .received .now in
     let done = c .before .before .serve-write in
-    subst (λ (o : Step). Shown (done .result) (a .line .now) (done .last .1 .1 .0) o) (sym (serve-W (sessionOf (a .session)) (letterOf bytes) bytes (c .before .before .before .before .match .keys3))) (done .ensures)
+    subst (λ (o : Step). Shown (done .result) (a .line .now) (done .last .1 .1 .0) o)
+    (sym (serve-W (sessionOf (a .session)) (letterOf bytes) bytes (c .before .before .before .before .match .keys3))) (done .ensures)
 
 same-length-4 : tie.Need-same-length-4
 same-length-4 c = search needs
@@ -124,7 +143,8 @@ returns-4 c =
     let a = c .before .before .before .before .before .before .before .before .args in
     let bytes = a .received .now in
     let done = c .before .before .serve-read in
-    subst (λ (o : Step). Shown (done .result) (a .line .now) (done .last .1 .1 .0) o) (sym (serve-R (sessionOf (a .session)) (letterOf bytes) bytes (c .before .before .before .before .match .keys4))) (done .ensures)
+    subst (λ (o : Step). Shown (done .result) (a .line .now) (done .last .1 .1 .0) o)
+    (sym (serve-R (sessionOf (a .session)) (letterOf bytes) bytes (c .before .before .before .before .match .keys4))) (done .ensures)
 
 same-length-5 : tie.Need-same-length-5
 same-length-5 c = search needs
@@ -139,7 +159,8 @@ returns-5 c =
     let other = c .before .before .before .before .before .before .match .rest in
     let done = c .before .before .serve-call in
     let is = len-call from letter bytes (other .0 .0 .0 .1) (other .0 .0 .1) (other .0 .1) (other .1) (s .pre .whole) in
-    subst (λ (o : Step). Shown (done .result) (a .line .now) (done .last .1 .1 .1 .0) o) (sym (serve-call-is from letter bytes (other .0 .0 .0 .1) (other .0 .0 .1) (is .1)))
+    subst (λ (o : Step). Shown (done .result) (a .line .now) (done .last .1 .1 .1 .0) o)
+    (sym (serve-call-is from letter bytes (other .0 .0 .0 .1) (other .0 .0 .1) (is .1)))
     (subst (λ (n : ℕ). Shown (done .result) (a .line .now) (done .last .1 .1 .1 .0) (callStep from letter (callBy (kindOf letter) (from .table) n)))
     (c .before .before .before .before .job-number .ensures ∙ ap jobNumber (rest-all recordHeadLen bytes)) (done .ensures))
 
@@ -147,25 +168,6 @@ pub serve-spec : {M : Type 1} → statement M
 serve-spec =
     tie.close
     (tie.spec
-    shared-slice-read-letter
-    figures-in-requires
-    serve-figures-requires
-    long-figures-in-requires
-    serve-figures-requires-2
-    serve-write-requires
-    serve-read-requires
-    sub-job-number
-    part-job-number-start
-    part-job-number-end
-    job-number-requires
-    serve-call-requires
-    same-length
-    returns
-    same-length-2
-    returns-2
-    same-length-3
-    returns-3
-    same-length-4
-    returns-4
-    same-length-5
-    returns-5)
+    shared-slice-read-letter figures-in-requires serve-figures-requires long-figures-in-requires serve-figures-requires-2
+    serve-write-requires serve-read-requires sub-job-number part-job-number-start part-job-number-end job-number-requires
+    serve-call-requires same-length returns same-length-2 returns-2 same-length-3 returns-3 same-length-4 returns-4 same-length-5 returns-5)

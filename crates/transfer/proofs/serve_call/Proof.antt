@@ -32,7 +32,8 @@ returns c =
     let put = c .before .before .before .before .put-refusal in
     let line = a .line .now in
     subst (λ (o : TableOut). Shown (c .after .result) line (put .last .0) (callStep s (a .letter) o)) (out .ensures)
-    (shown-goes (c .after .result) line (put .last .0) (nextSession s (s .figures) (entries (out .result .table))) (refusalLine (a .letter) (out .result .answer)) (put .result) (c .after .ensures) (put .ensures))
+    (shown-goes (c .after .result) line (put .last .0) (nextSession s (s .figures) (entries (out .result .table)))
+    (refusalLine (a .letter) (out .result .answer)) (put .result) (c .after .ensures) (put .ensures))
 
 pub serve-call-spec : {M : Type 1} → statement M
 serve-call-spec =

@@ -50,7 +50,8 @@ returns c =
     let line = a .line .now in
     let e = sym (c .before .before .before .before .before .before .before .before .layout .ensures .0) ∙ ap figuredAs (told .1) in
     subst (λ (o : FiguresOut). Shown (c .counted .result) line (put .last .0) (figuresStep s (a .letter) f o)) (sym e)
-    (shown-goes (c .counted .result) line (put .last .0) (nextSession s (s .figures) (s .table)) (refusalLine (a .letter) (told .0 .0)) (put .result) (c .counted .ensures) (put .ensures))
+    (shown-goes (c .counted .result) line (put .last .0) (nextSession s (s .figures) (s .table)) (refusalLine (a .letter) (told .0 .0)) (put .result)
+    (c .counted .ensures) (put .ensures))
 
 same-length-2 : tie.Need-same-length-2
 same-length-2 c = search needs
@@ -64,23 +65,16 @@ returns-2 c =
     let l = told .0 .0 in
     let put = c .before .before .before .before .put-figures in
     let line = a .line .now in
-    let e : figured (l .«placement_count») (l .«index_tail») (l .«message_len») ≡ figuresUnder (codingOf f) = sym (ap figuredAs (told .1)) ∙ c .before .before .before .before .before .before .before .before .before .layout .ensures .0 in
+    let e : figured (l .«placement_count») (l .«index_tail») (l .«message_len») ≡ figuresUnder (codingOf f) =
+    sym (ap figuredAs (told .1)) ∙ c .before .before .before .before .before .before .before .before .before .layout .ensures .0 in
     subst (λ (o : FiguresOut). Shown (c .after .result) line (put .last .0) (figuresStep s (a .letter) f o)) e
     (shown-goes (c .after .result) line (put .last .0) (nextSession s (some f) (s .table))
-    (servedLine (a .letter) (decimal (l .«placement_count») ∷ decimal (l .«index_tail») ∷ decimal (l .«message_len») ∷ [])) (put .result) (c .after .ensures) (put .ensures))
+    (servedLine (a .letter) (decimal (l .«placement_count») ∷ decimal (l .«index_tail») ∷ decimal (l .«message_len») ∷ [])) (put .result)
+    (c .after .ensures) (put .ensures))
 
 pub serve-figures-spec : {M : Type 1} → statement M
 serve-figures-spec =
     tie.close
     (tie.spec
-    layout-requires
-    enum-known-answer
-    put-refusal-requires
-    counted-requires
-    enum-known-answer-2
-    put-figures-requires
-    after-requires
-    same-length
-    returns
-    same-length-2
-    returns-2)
+    layout-requires enum-known-answer put-refusal-requires counted-requires enum-known-answer-2 put-figures-requires after-requires
+    same-length returns same-length-2 returns-2)

@@ -31,7 +31,8 @@ returns c =
     let told = c .before .before .before .before .enum-told .given in
     let end = c .before .before .stop in
     let e = current-none (lastFigures (a .session .figures)) _ (told .1) (c .before .before .before .before .before .before .current .ensures) in
-    subst (λ (f : Option Figures). Shown (end .result) (a .line .now) (end .last .1 .0) (readOut (sessionOf (a .session)) (a .received .now) f)) (sym e) (end .ensures)
+    subst (λ (f : Option Figures). Shown (end .result) (a .line .now) (end .last .1 .0) (readOut (sessionOf (a .session)) (a .received .now) f)) (sym e)
+    (end .ensures)
 
 read-laid-requires : tie.Need-read-laid-requires
 read-laid-requires c κs =
@@ -50,18 +51,11 @@ returns-2 c =
     let told = c .before .before .before .before .before .answer .given in
     let laid = c .before .before .read-laid in
     let is = current-laid (lastFigures (a .session .figures)) _ _ _ (told .1) (c .before .before .before .before .before .before .before .current .ensures) in
-    subst (λ (f : Option Figures). Shown (laid .result) (a .line .now) (laid .last .1 .1 .1 .1 .0) (readOut (sessionOf (a .session)) (a .received .now) f)) (sym (is .are)) (laid .ensures)
+    subst (λ (f : Option Figures). Shown (laid .result) (a .line .now) (laid .last .1 .1 .1 .1 .0) (readOut (sessionOf (a .session)) (a .received .now) f))
+    (sym (is .are)) (laid .ensures)
 
 pub serve-read-spec : {M : Type 1} → statement M
 serve-read-spec =
     tie.close
     (tie.spec
-    current-requires
-    enum-known-answer
-    enum-told
-    stop-requires
-    same-length
-    returns
-    read-laid-requires
-    same-length-2
-    returns-2)
+    current-requires enum-known-answer enum-told stop-requires same-length returns read-laid-requires same-length-2 returns-2)

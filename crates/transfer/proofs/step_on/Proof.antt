@@ -21,7 +21,8 @@ returns : tie.Need-returns
 returns c =
     let a = c .before .before .before .before .before .before .before .args in
     let done = c .before .before .end in
-    subst (λ (o : Step). Shown (done .result) (a .line .now) (done .last .1 .0) o) (sym (step-end (sessionOf (a .session)) (a .received .now) (c .before .before .before .before .if1 .taken))) (done .ensures)
+    subst (λ (o : Step). Shown (done .result) (a .line .now) (done .last .1 .0) o)
+    (sym (step-end (sessionOf (a .session)) (a .received .now) (c .before .before .before .before .if1 .taken))) (done .ensures)
 
 stop-requires : tie.Need-stop-requires
 stop-requires c κs = search needs
@@ -33,7 +34,9 @@ returns-2 : tie.Need-returns-2
 returns-2 c =
     let a = c .before .before .before .before .before .before .before .before .before .args in
     let done = c .before .before .stop in
-    subst (λ (o : Step). Shown (done .result) (a .line .now) (done .last .1 .0) o) (sym (step-many (sessionOf (a .session)) (a .received .now) (c .before .before .before .before .before .before .if1 .left) (c .before .before .before .before .if2 .taken))) (done .ensures)
+    subst (λ (o : Step). Shown (done .result) (a .line .now) (done .last .1 .0) o)
+    (sym (step-many (sessionOf (a .session)) (a .received .now) (c .before .before .before .before .before .before .if1 .left)
+    (c .before .before .before .before .if2 .taken))) (done .ensures)
 
 is-readable-requires : tie.Need-is-readable-requires
 is-readable-requires c κs = search needs
@@ -49,7 +52,9 @@ returns-3 c =
     let a = c .before .before .before .before .before .before .before .before .before .before .before .args in
     let done = c .before .before .stop2 in
     subst (λ (o : Step). Shown (done .result) (a .line .now) (done .last .1 .0) o)
-    (sym (step-unreadable (sessionOf (a .session)) (a .received .now) (c .before .before .before .before .before .before .before .before .if1 .left) (omega (arith, c .before .before .before .before .before .before .if2 .left)) (sym (c .before .before .before .before .before .is-readable .ensures) ∙ not-true _ (c .before .before .before .before .if3 .taken)))) (done .ensures)
+    (sym (step-unreadable (sessionOf (a .session)) (a .received .now) (c .before .before .before .before .before .before .before .before .if1 .left)
+    (omega (arith, c .before .before .before .before .before .before .if2 .left))
+    (sym (c .before .before .before .before .before .is-readable .ensures) ∙ not-true _ (c .before .before .before .before .if3 .taken)))) (done .ensures)
 
 serve-requires : tie.Need-serve-requires
 serve-requires c κs =
@@ -68,22 +73,13 @@ returns-4 c =
     let a = c .before .before .before .before .before .before .before .before .before .before .before .args in
     let done = c .before .before .serve in
     subst (λ (o : Step). Shown (done .result) (a .line .now) (done .last .1 .1 .0) o)
-    (sym (step-serves (sessionOf (a .session)) (a .received .now) (c .before .before .before .before .before .before .before .before .if1 .left) (omega (arith, c .before .before .before .before .before .before .if2 .left)) (sym (c .before .before .before .before .before .is-readable .ensures) ∙ not-false _ (c .before .before .before .before .if3 .left)))) (done .ensures)
+    (sym (step-serves (sessionOf (a .session)) (a .received .now) (c .before .before .before .before .before .before .before .before .if1 .left)
+    (omega (arith, c .before .before .before .before .before .before .if2 .left))
+    (sym (c .before .before .before .before .before .is-readable .ensures) ∙ not-false _ (c .before .before .before .before .if3 .left)))) (done .ensures)
 
 pub step-on-spec : {M : Type 1} → statement M
 step-on-spec =
     tie.close
     (tie.spec
-    end-requires
-    same-length
-    returns
-    stop-requires
-    same-length-2
-    returns-2
-    is-readable-requires
-    stop-requires-2
-    same-length-3
-    returns-3
-    serve-requires
-    same-length-4
-    returns-4)
+    end-requires same-length returns stop-requires same-length-2 returns-2 is-readable-requires stop-requires-2 same-length-3 returns-3
+    serve-requires same-length-4 returns-4)

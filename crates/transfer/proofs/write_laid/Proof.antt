@@ -45,8 +45,10 @@ module _ (c : tie.After-placement-in) (room : ℕ) (le : c .before .before .befo
   lent-is = length-take-le {A = ℕ} (c .before .before .before .args .layout .n) (replicate room 0) (omega (arith, length-replicate {A = ℕ} room 0))
 
   line-is : (r : StepAnswer) (line : List ℕ)
-      → (let a = c .before .before .before .args in let from = recordHeadLen + 2 * a .layout .m in let bytes = a .received .now in let s = sessionOf (a .session) in
-      Shown r (a .line .now) line (writeStep s (jobWriteUnder (codingOf (a .figures)) (s .table) (heldAs (c .placement-in .result)) (take (length bytes - from) (drop from bytes)) (take {A = ℕ} (a .layout .n) (replicate room 0))))
+      → (let a = c .before .before .before .args in let from = recordHeadLen + 2 * a .layout .m in let bytes = a .received .now in let s =
+      sessionOf (a .session) in
+      Shown r (a .line .now) line (writeStep s (jobWriteUnder (codingOf (a .figures)) (s .table) (heldAs (c .placement-in .result))
+      (take (length bytes - from) (drop from bytes)) (take {A = ℕ} (a .layout .n) (replicate room 0))))
       → Shown r (a .line .now) line (writeOut s bytes (some (a .figures))))
   line-is r line =
       let s = c .before .before .before in
@@ -56,9 +58,11 @@ module _ (c : tie.After-placement-in) (room : ℕ) (le : c .before .before .befo
       let from = recordHeadLen + 2 * l .m in
       let m = s .pre .numbers .bursts-is in
       shown-write r (a .line .now) line (sessionOf (a .session)) (codingOf (a .figures)) (heldAs (c .placement-in .result)) (recordStarts (a .figures) bytes)
-      (take (length bytes - from) (drop from bytes)) (payloadOf (a .figures) bytes) (take {A = ℕ} (l .n) (replicate room 0)) (replicate {A = ℕ} (codingOf (a .figures) .codec .wordLen) 0)
+      (take (length bytes - from) (drop from bytes)) (payloadOf (a .figures) bytes) (take {A = ℕ} (l .n) (replicate room 0))
+      (replicate {A = ℕ} (codingOf (a .figures) .codec .wordLen) 0)
       (c .placement-in .ensures ∙ ap (λ (k : ℕ). held (tabulate k 0 (λ i. twoBytes bytes (recordHeadLen + 2 * i)))) m)
-      (rest-all from bytes ∙ ap (λ (k : ℕ). drop (recordHeadLen + 2 * k) bytes) m) (zeros (l .n) room le ∙ ap (λ (k : ℕ). replicate {A = ℕ} k 0) (s .pre .numbers .word-is))
+      (rest-all from bytes ∙ ap (λ (k : ℕ). drop (recordHeadLen + 2 * k) bytes) m)
+      (zeros (l .n) room le ∙ ap (λ (k : ℕ). replicate {A = ℕ} k 0) (s .pre .numbers .word-is))
 
 sub-write-word : tie.Need-sub-write-word
 sub-write-word c = search needs
@@ -86,7 +90,8 @@ same-length c = search needs
 returns : tie.Need-returns
 returns c =
     let put = c .before .before .before .write-word in
-    line-is (c .before .before .before .before .before .before .before .before) shortWord (omega (arith, c .before .before .before .before .before .before .before .if1 .taken)) (put .result) (put .last .1 .1 .1 .1 .1 .0) (put .ensures)
+    line-is (c .before .before .before .before .before .before .before .before) shortWord
+    (omega (arith, c .before .before .before .before .before .before .before .if1 .taken)) (put .result) (put .last .1 .1 .1 .1 .1 .0) (put .ensures)
 
 sub-write-word-2 : tie.Need-sub-write-word-2
 sub-write-word-2 c = search needs
@@ -121,22 +126,6 @@ pub write-laid-spec : {M : Type 1} → statement M
 write-laid-spec =
     tie.close
     (tie.spec
-    placement-in-requires
-    mul-from
-    add-from
-    sub-write-word
-    part-write-word-start
-    part-write-word-end
-    array-borrow-prefix-short
-    slice-aggregate-write-word
-    write-word-requires
-    same-length
-    returns
-    sub-write-word-2
-    part-write-word-start-2
-    part-write-word-end-2
-    array-borrow-prefix-word
-    slice-aggregate-write-word-2
-    write-word-requires-2
-    same-length-2
-    returns-2)
+    placement-in-requires mul-from add-from sub-write-word part-write-word-start part-write-word-end array-borrow-prefix-short
+    slice-aggregate-write-word write-word-requires same-length returns sub-write-word-2 part-write-word-start-2 part-write-word-end-2
+    array-borrow-prefix-word slice-aggregate-write-word-2 write-word-requires-2 same-length-2 returns-2)

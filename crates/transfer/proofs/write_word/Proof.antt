@@ -37,8 +37,10 @@ returns c =
     let put = c .before .before .before .put-refusal in
     let line = a .line .now in
     let out = jobWriteUnder (codingOf (a .figures)) (s .table) (heldAs (a .at)) (a .payload .now) (a .word .now) in
-    shown-refused (c .counted .result) line (put .last .0) s letterW (job .result) (out .answer) (hex (out .word) ∷ []) (job .ensures .0) (c .before .before .before .before .before .if1 .taken)
-    (shown-goes (c .counted .result) line (put .last .0) (nextSession s (s .figures) (s .table)) (refusalLine letterW (job .result)) (put .result) (c .counted .ensures) (put .ensures))
+    shown-refused (c .counted .result) line (put .last .0) s letterW (job .result) (out .answer) (hex (out .word) ∷ []) (job .ensures .0)
+    (c .before .before .before .before .before .if1 .taken)
+    (shown-goes (c .counted .result) line (put .last .0) (nextSession s (s .figures) (s .table)) (refusalLine letterW (job .result)) (put .result)
+    (c .counted .ensures) (put .ensures))
 
 put-word-requires : tie.Need-put-word-requires
 put-word-requires c κs = search needs
@@ -61,22 +63,15 @@ returns-2 c =
     let line = a .line .now in
     let word = job .last .1 .1 .1 .1 .0 in
     let out = jobWriteUnder (codingOf (a .figures)) (s .table) (heldAs (a .at)) (a .payload .now) (a .word .now) in
-    shown-served (c .counted2 .result) line (put .last .0) s letterW (job .result) (out .answer) (hex word ∷ []) (hex (out .word) ∷ []) (job .ensures .0) (c .before .before .before .before .before .before .if1 .left)
+    shown-served (c .counted2 .result) line (put .last .0) s letterW (job .result) (out .answer) (hex word ∷ []) (hex (out .word) ∷ []) (job .ensures .0)
+    (c .before .before .before .before .before .before .if1 .left)
     (ap (λ (x : List ℕ). hex x ∷ []) (job .ensures .1))
-    (shown-goes (c .counted2 .result) line (put .last .0) (nextSession s (s .figures) (s .table)) (servedLine letterW (hex word ∷ [])) (put .result) (c .counted2 .ensures) (put .ensures))
+    (shown-goes (c .counted2 .result) line (put .last .0) (nextSession s (s .figures) (s .table)) (servedLine letterW (hex word ∷ [])) (put .result)
+    (c .counted2 .ensures) (put .ensures))
 
 pub write-word-spec : {M : Type 1} → statement M
 write-word-spec =
     tie.close
     (tie.spec
-    job-write-requires
-    put-refusal-requires
-    counted-requires
-    same-length
-    same-length-2
-    returns
-    put-word-requires
-    counted-requires-2
-    same-length-3
-    same-length-4
-    returns-2)
+    job-write-requires put-refusal-requires counted-requires same-length same-length-2 returns put-word-requires counted-requires-2
+    same-length-3 same-length-4 returns-2)

@@ -27,7 +27,8 @@ returns c =
       (
         f .ensures .1 .within,
         (
-          front-room (o .result) (f .result) (s .args .input .now) (o .last .1 .1 .0) (viewOf (s .args .state) (s .args .input .now) (s .args .output .now)) (f .ensures .1) (o .ensures .1 .0) (s .pre .0 .0) (search needs) (o .ensures .0),
+          front-room (o .result) (f .result) (s .args .input .now) (o .last .1 .1 .0) (viewOf (s .args .state) (s .args .input .now) (s .args .output .now))
+              (f .ensures .1) (o .ensures .1 .0) (s .pre .0 .0) (search needs) (o .ensures .0),
           f .ensures .1 .repeats ∙ o .ensures .1 .1,
         ),
       ),

@@ -8,18 +8,27 @@ use Rattle.turns.proofs.put_first.Statement.{statement}
 use Rattle.turns.proofs.put_first.Tie as tie
 
 slice-aggregate-put-text : tie.Need-slice-aggregate-put-text
-slice-aggregate-put-text c = sym (length-take-le (c .before .before .before .before .args .len) (c .before .before .before .before .args .line .now) (c .before .before .before .before .pre .0))
+slice-aggregate-put-text c = sym (length-take-le (c .before .before .before .before .args .len) (c .before .before .before .before .args .line .now)
+    (c .before .before .before .before .pre .0))
 
 put-text-requires : tie.Need-put-text-requires
-put-text-requires c κs = omega (arith, length-take-le (c .before .before .before .before .args .len) (c .before .before .before .before .args .line .now) (c .before .before .before .before .pre .0))
+put-text-requires c κs =
+    omega (
+      arith,
+      length-take-le (c .before .before .before .before .args .len) (c .before .before .before .before .args .line .now)
+          (c .before .before .before .before .pre .0),
+    )
 
 same-length : tie.Need-same-length
 same-length c = search needs
 
 returns : tie.Need-returns
 returns c =
-    let s = c .before .before .before .before .before .before .before in
-    (c .before .before .put-text .ensures .0, c .before .before .put-text .ensures .1 ∙ ap (λ (n : ℕ). s .args .at + n) (length-take-le (s .args .len) (s .args .line .now) (s .pre .0)))
+    let s = c .before .before .before .before .before .before .before in (
+      c .before .before .put-text .ensures .0,
+      c .before .before .put-text .ensures .1
+          ∙ ap (λ (n : ℕ). s .args .at + n) (length-take-le (s .args .len) (s .args .line .now) (s .pre .0)),
+    )
 
 pub put-first-spec : {M : Type 1} → statement M
 put-first-spec =

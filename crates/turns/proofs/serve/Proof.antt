@@ -51,11 +51,13 @@ returns c =
     let p = c .before .before .before .before .put-first in
     let l : length (a .last .1 .1 .1 .0) ≡ maxLine = search needs in (
       served-view (s .args .state) (s .args .input .now) (s .pre .1 .within) (s .pre .0 .0) (s .args .needed) (n .result) (s .pre .2) (n .ensures)
-          (s .args .output .now) (s .pre .0 .1) (s .pre .1 .room) (a .result) _ (a .last .1 .1 .1 .0) (a .ensures) l (p .last .0) (p .result) (c .phase-after .result)
+          (s .args .output .now) (s .pre .0 .1) (s .pre .1 .room) (a .result) _ (a .last .1 .1 .1 .0) (a .ensures) l (p .last .0) (p .result)
+          (c .phase-after .result)
           (p .ensures .0) (p .ensures .1) (c .phase-after .ensures),
       (
         served-within (s .args .state) (s .args .input .now) (s .pre .1 .within) (s .pre .0 .0) (s .args .needed) (n .result) (s .pre .2) (n .ensures)
-            (s .args .output .now) (s .pre .0 .1) (s .pre .1 .room) (a .result) _ (a .last .1 .1 .1 .0) (a .ensures) l (p .last .0) (p .result) (c .phase-after .result)
+            (s .args .output .now) (s .pre .0 .1) (s .pre .1 .room) (a .result) _ (a .last .1 .1 .1 .0) (a .ensures) l (p .last .0) (p .result)
+            (c .phase-after .result)
             (p .ensures .0) (p .ensures .1) (c .phase-after .ensures),
         refl,
       ),
@@ -65,14 +67,5 @@ pub serve-spec : {M : Type 1} → statement M
 serve-spec =
     tie.close
     (tie.spec
-    sub-least
-    least-requires
-    add-end
-    sub-step-at
-    part-step-at-start
-    part-step-at-end
-    step-at-requires
-    put-first-requires
-    phase-after-requires
-    same-length
-    returns)
+    sub-least least-requires add-end sub-step-at part-step-at-start part-step-at-end step-at-requires put-first-requires
+    phase-after-requires same-length returns)

@@ -16,7 +16,8 @@ use Rattle.turns.proofs.serve_on.Tie as tie
 
 abbrev Inv-loop : tie.InvT-loop
 Inv-loop input output₀ line₀ now₀ output line now =
-    WithinBuffers now × (length output ≡ bufferLen) × (advanceOut (viewOf now input output) ≡ advanceOut (viewOf now₀ input output₀)) × (now .repeats ≡ now₀ .repeats)
+    WithinBuffers now × (length output ≡ bufferLen) × (advanceOut (viewOf now input output) ≡ advanceOut (viewOf now₀ input output₀))
+    × (now .repeats ≡ now₀ .repeats)
 
 abbrev μ-loop : tie.MeasureT-loop
 μ-loop input output₀ line₀ now₀ output line now = turnsAt (now .phase) (length (waitingIn now input))
@@ -53,7 +54,8 @@ returns c =
     let r = c .before .is-ready in
     let room = c .before .before .before .before .before .before .has-room in
     let rests : isServable (viewOf (t .now) (s .args .input .now) (t .output)) ≡ false =
-    servable-is (t .now) (s .args .input .now) (t .output) (n .result) (room .result) (r .result) (t .inv .0) (s .pre .0 .0) (t .inv .1) (room .ensures) (n .ensures .0) (r .ensures)
+    servable-is (t .now) (s .args .input .now) (t .output) (n .result) (room .result) (r .result) (t .inv .0) (s .pre .0 .0) (t .inv .1) (room .ensures)
+    (n .ensures .0) (r .ensures)
     ∙ cut-ready (room .result) (r .result) (not-true (r .result) (c .if2 .taken)) in
     (sym (advance-rests (viewOf (t .now) (s .args .input .now) (t .output)) rests) ∙ t .inv .2, (t .inv .0, t .inv .3))
 
@@ -64,7 +66,11 @@ serve-requires c κs =
     let n = c .before .before .before .before .needed in
     let room = c .before .before .before .before .before .before .before .before .has-room in (
       (s .pre .0 .0, t .inv .1),
-      record { within = t .inv .0; room = room-le (t .now .gathered) (sym (room .ensures) ∙ c .before .before .before .before .before .before .before .if1 .taken) },
+      record {
+        within = t .inv .0;
+        room = room-le (t .now .gathered)
+            (sym (room .ensures) ∙ c .before .before .before .before .before .before .before .if1 .taken);
+      },
       n .ensures .0,
     )
 
@@ -77,8 +83,10 @@ loop-less c =
     let room = c .before .before .before .before .before .before .before .before .before .before .before .has-room in
     let v = c .before .before .serve in
     let goes : isServable (viewOf (t .now) (s .args .input .now) (t .output)) ≡ true =
-    servable-is (t .now) (s .args .input .now) (t .output) (n .result) (room .result) (r .result) (t .inv .0) (s .pre .0 .0) (t .inv .1) (room .ensures) (n .ensures .0) (r .ensures)
-    ∙ both-true (room .result) (r .result) (c .before .before .before .before .before .before .before .before .before .before .if1 .taken) (not-false (r .result) (c .before .before .before .before .before .if2 .left)) in
+    servable-is (t .now) (s .args .input .now) (t .output) (n .result) (room .result) (r .result) (t .inv .0) (s .pre .0 .0) (t .inv .1) (room .ensures)
+    (n .ensures .0) (r .ensures)
+    ∙ both-true (room .result) (r .result) (c .before .before .before .before .before .before .before .before .before .before .if1 .taken)
+    (not-false (r .result) (c .before .before .before .before .before .if2 .left)) in
     subst (λ (x : View). turnsAt (x .phase) (length (x .waiting)) < turnsAt (t .now .phase) (length (waitingIn (t .now) (s .args .input .now))))
     (sym (v .ensures .0)) (serves-less (viewOf (t .now) (s .args .input .now) (t .output)) goes)
 
@@ -91,9 +99,16 @@ loop-again c =
     let room = c .before .before .before .before .before .before .before .before .before .before .before .has-room in
     let v = c .before .before .serve in
     let goes : isServable (viewOf (t .now) (s .args .input .now) (t .output)) ≡ true =
-    servable-is (t .now) (s .args .input .now) (t .output) (n .result) (room .result) (r .result) (t .inv .0) (s .pre .0 .0) (t .inv .1) (room .ensures) (n .ensures .0) (r .ensures)
-    ∙ both-true (room .result) (r .result) (c .before .before .before .before .before .before .before .before .before .before .if1 .taken) (not-false (r .result) (c .before .before .before .before .before .if2 .left)) in
-    (v .ensures .1 .0, search needs, ap advanceOut (v .ensures .0) ∙ sym (advance-serves (viewOf (t .now) (s .args .input .now) (t .output)) goes) ∙ t .inv .2, v .ensures .1 .1 ∙ t .inv .3)
+    servable-is (t .now) (s .args .input .now) (t .output) (n .result) (room .result) (r .result) (t .inv .0) (s .pre .0 .0) (t .inv .1) (room .ensures)
+    (n .ensures .0) (r .ensures)
+    ∙ both-true (room .result) (r .result) (c .before .before .before .before .before .before .before .before .before .before .if1 .taken)
+    (not-false (r .result) (c .before .before .before .before .before .if2 .left)) in (
+      v .ensures .1 .0,
+      search needs,
+      ap advanceOut (v .ensures .0) ∙ sym (advance-serves (viewOf (t .now) (s .args .input .now) (t .output)) goes)
+          ∙ t .inv .2,
+      v .ensures .1 .1 ∙ t .inv .3,
+    )
 
 same-length-2 : tie.Need-same-length-2 Inv-loop μ-loop
 same-length-2 c = search needs
@@ -114,19 +129,5 @@ pub serve-on-spec : {M : Type 1} → statement M
 serve-on-spec =
     tie.close
     (tie.spec
-    Inv-loop
-    μ-loop
-    loop-holds
-    has-room-requires
-    sub-needed
-    part-needed-start
-    part-needed-end
-    needed-requires
-    is-ready-requires
-    same-length
-    returns
-    serve-requires
-    loop-less
-    loop-again
-    same-length-2
-    returns-2)
+    Inv-loop μ-loop loop-holds has-room-requires sub-needed part-needed-start part-needed-end needed-requires is-ready-requires same-length
+    returns serve-requires loop-less loop-again same-length-2 returns-2)

@@ -34,7 +34,8 @@ returns : tie.Need-returns
 returns c =
     let s = c .before .before .before .before .before in
     let e = c .unreadable .ensures in
-    shown-at (c .unreadable .result) _ _ (s .args .received .now) (sessionOf (s .args .session)) (s .args .phase) Failed (c .before .before .enum-told .given .1)
+    shown-at (c .unreadable .result) _ _ (s .args .received .now) (sessionOf (s .args .session)) (s .args .phase) Failed
+    (c .before .before .enum-told .given .1)
     (record { next = e .0; printed = e .1 .0; len = e .1 .1 .0; stops = e .1 .1 .1 })
 
 returns-2 : tie.Need-returns-2
@@ -62,15 +63,5 @@ pub step-at-spec : {M : Type 1} → statement M
 step-at-spec =
     tie.close
     (tie.spec
-    enum-told
-    unreadable-requires
-    enum-told-2
-    step-requires
-    enum-told-3
-    step-requires-2
-    enum-told-4
-    step-requires-3
-    returns
-    returns-2
-    returns-3
-    returns-4)
+    enum-told unreadable-requires enum-told-2 step-requires enum-told-3 step-requires-2 enum-told-4 step-requires-3 returns returns-2
+    returns-3 returns-4)

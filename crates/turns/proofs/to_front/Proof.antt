@@ -60,15 +60,4 @@ pub to-front-spec : {M : Type 1} → statement M
 to-front-spec =
     tie.close
     (tie.spec
-    Inv-loop
-    μ-loop
-    sub-rest
-    loop-holds
-    add-input
-    slice-read-input
-    slice-write-input
-    add-i
-    loop-less
-    loop-again
-    same-length
-    returns)
+    Inv-loop μ-loop sub-rest loop-holds add-input slice-read-input slice-write-input add-i loop-less loop-again same-length returns)

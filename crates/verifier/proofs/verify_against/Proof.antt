@@ -25,7 +25,11 @@ abbrev f : tie.Start → Params
 f s = given (s .args .figures)
 
 -- writing was refused nothing
-wrote : (c : tie.Else1) → Wrote (f (c .before .before .before .before .before .before .before .before)) (heldAs (c .before .before .before .before .before .before .before .before .args .at)) (c .before .before .before .before .before .before .before .before .args .message .now) (c .before .before .before .before .before .before .before .before .args .word .now) (c .before .before .before .before .before .before .before .before .args .expected .now)
+wrote : (c : tie.Else1) → Wrote (f (c .before .before .before .before .before .before .before .before))
+    (heldAs (c .before .before .before .before .before .before .before .before .args .at))
+    (c .before .before .before .before .before .before .before .before .args .message .now)
+    (c .before .before .before .before .before .before .before .before .args .word .now)
+    (c .before .before .before .before .before .before .before .before .args .expected .now)
 unfolding encodeOut
 wrote c =
     let s = c .before .before .before .before .before .before .before .before in
@@ -44,7 +48,8 @@ returns c =
     let s = c .before .before .before .before .before .before .before .before in
     let e = c .before .before .before .encode .ensures .0 in
     ap unchecked e
-    ∙ sym (verify-refused (f s) (heldAs (s .args .at)) (s .args .message .now) (s .args .word .now) (s .args .expected .now) (s .pre .room ∙ sym (s .pre .complete))
+    ∙ sym (verify-refused (f s) (heldAs (s .args .at)) (s .args .message .now) (s .args .word .now) (s .args .expected .now)
+    (s .pre .room ∙ sym (s .pre .complete))
     (λ d. c .if1 .taken (e ∙ d)))
 
 found-bound-requires : tie.Need-found-bound-requires
@@ -57,7 +62,9 @@ same-length-2 : tie.Need-same-length-2
 same-length-2 c = search needs
 
 -- the test of the word's symbols
-symbols-are : (c : tie.After-all-below) → c .all-below .result ≡ allBelow (foundBound (f (c .before .before .before .before .before .before .before .before .before .before) .q)) (c .before .before .before .before .before .before .before .before .before .before .args .word .now)
+symbols-are : (c : tie.After-all-below) → c .all-below .result ≡ allBelow
+    (foundBound (f (c .before .before .before .before .before .before .before .before .before .before) .q))
+    (c .before .before .before .before .before .before .before .before .before .before .args .word .now)
 symbols-are c =
     let s = c .before .before .before .before .before .before .before .before .before .before in
     c .all-below .ensures
@@ -67,21 +74,29 @@ returns-2 : tie.Need-returns-2
 returns-2 c =
     let s = c .before .before .before .before .before .before .before .before .before .before .before in
     sym (wrote (c .before .before .before) .rest
-    ∙ ap (λ (t : Bool). must t (unchecked badSymbol) (cond (agreesOutside (constructionA (f s)) (s .args .word .now) (startsIn (s .args .at)) (s .args .message .now)) agreeing differing))
+    ∙ ap (λ (t : Bool). must t (unchecked badSymbol) (cond (agreesOutside (constructionA (f s)) (s .args .word .now) (startsIn (s .args .at))
+    (s .args .message .now)) agreeing differing))
     (sym (symbols-are (c .before)) ∙ not-true _ (c .if2 .taken)))
 
 cover-differences-requires : tie.Need-cover-differences-requires
 unfolding encodeOut
 cover-differences-requires c κs =
-    let s = c .before .before .before .before .before .before .before .before .before .before .before .before in
-    (wrote (c .before .before .before .before) .few, ap length (c .before .before .before .before .before .before .before .encode .ensures .1 ∙ wrote (c .before .before .before .before) .word-is) ∙ word-length (f s) (startsIn (s .args .at)) (s .args .message .now) ∙ ap (λ (g : Params). g .n) (sym (s .pre .laid .same)) ∙ sym (s .pre .complete))
+    let s = c .before .before .before .before .before .before .before .before .before .before .before .before in (
+      wrote (c .before .before .before .before) .few,
+      ap length (c .before .before .before .before .before .before .before .encode .ensures .1
+          ∙ wrote (c .before .before .before .before) .word-is) ∙ word-length (f s) (startsIn (s .args .at)) (s .args .message .now)
+          ∙ ap (λ (g : Params). g .n) (sym (s .pre .laid .same)) ∙ sym (s .pre .complete),
+    )
 
 same-length-3 : tie.Need-same-length-3
 same-length-3 c = search needs
 
 -- the verdict is that of the differences
 judged : (c : tie.After-cover-differences) (b : Bool) → c .cover-differences .result ≡ b
-    → verifyOut (f (c .before .before .before .before .before .before .before .before .before .before .before .before .before)) (heldAs (c .before .before .before .before .before .before .before .before .before .before .before .before .before .args .at)) (c .before .before .before .before .before .before .before .before .before .before .before .before .before .args .message .now) (c .before .before .before .before .before .before .before .before .before .before .before .before .before .args .word .now) ≡ cond b agreeing differing
+    → verifyOut (f (c .before .before .before .before .before .before .before .before .before .before .before .before .before))
+    (heldAs (c .before .before .before .before .before .before .before .before .before .before .before .before .before .args .at))
+    (c .before .before .before .before .before .before .before .before .before .before .before .before .before .args .message .now)
+    (c .before .before .before .before .before .before .before .before .before .before .before .before .before .args .word .now) ≡ cond b agreeing differing
 unfolding encodeOut
 judged c b e =
     let s = c .before .before .before .before .before .before .before .before .before .before .before .before .before in
@@ -92,10 +107,12 @@ judged c b e =
     let n-is : length w ≡ f s .n = s .pre .complete ∙ ap (λ (g : Params). g .n) (s .pre .laid .same) in
     let agrees : agreesOutside (constructionA (f s)) w ss ms ≡ b =
     sym (agreement (f s) w ss ms) ∙ ap (λ (n : ℕ). covers n (f s .b) (differAt w (word (f s) ss ms)) ss) (sym n-is)
-    ∙ ap (λ (v : List ℕ). covers (length w) (f s .b) (differAt w v) ss) (sym (c .before .before .before .before .before .before .before .before .encode .ensures .1 ∙ held .word-is))
+    ∙ ap (λ (v : List ℕ). covers (length w) (f s .b) (differAt w v) ss)
+    (sym (c .before .before .before .before .before .before .before .before .encode .ensures .1 ∙ held .word-is))
     ∙ sym (c .cover-differences .ensures) ∙ e in
     held .rest
-    ∙ ap (λ (t : Bool). must t (unchecked badSymbol) (cond (agreesOutside (constructionA (f s)) w ss ms) agreeing differing)) (sym (symbols-are (c .before .before .before)) ∙ not-false _ (c .before .before .if2 .left))
+    ∙ ap (λ (t : Bool). must t (unchecked badSymbol) (cond (agreesOutside (constructionA (f s)) w ss ms) agreeing differing))
+    (sym (symbols-are (c .before .before .before)) ∙ not-false _ (c .before .before .if2 .left))
     ∙ ap (λ (t : Bool). cond t agreeing differing) agrees
 
 returns-3 : tie.Need-returns-3
@@ -111,15 +128,5 @@ pub verify-against-spec : {M : Type 1} → statement M
 verify-against-spec =
     tie.close
     (tie.spec
-    encode-requires
-    same-length
-    returns
-    found-bound-requires
-    all-below-requires
-    same-length-2
-    returns-2
-    cover-differences-requires
-    same-length-3
-    returns-3
-    same-length-4
-    returns-4)
+    encode-requires same-length returns found-bound-requires all-below-requires same-length-2 returns-2 cover-differences-requires
+    same-length-3 returns-3 same-length-4 returns-4)

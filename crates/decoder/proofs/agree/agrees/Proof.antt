@@ -25,12 +25,14 @@ same-index-requires c κs =
     (blocks-fit (s .args .layout) (s .pre .0 .layout), bound (s .args .layout) (s .pre .0 .layout) .m-most)
 
 -- what the first test says of the word's blocks
-shown : (c : tie.After-same-index) → c .same-index .result ≡ sameList (members (blocks (figuresOf (c .before .before .before .args .layout))) 0 (ofKind indexKind (c .before .before .before .args .kinds .now)))
+shown : (c : tie.After-same-index) → c .same-index .result ≡ sameList
+    (members (blocks (figuresOf (c .before .before .before .args .layout))) 0 (ofKind indexKind (c .before .before .before .args .kinds .now)))
     (take (c .before .before .before .args .layout .m) (c .before .before .before .args .index))
 shown c =
     let a = c .before .before .before .args in
     c .same-index .ensures
-    ∙ ap (λ (n : ℕ). sameList (members n 0 (ofKind indexKind (a .kinds .now))) (take (a .layout .m) (a .index))) (blocks-is (a .layout) (c .before .before .before .pre .0 .layout))
+    ∙ ap (λ (n : ℕ). sameList (members n 0 (ofKind indexKind (a .kinds .now))) (take (a .layout .m) (a .index)))
+    (blocks-is (a .layout) (c .before .before .before .pre .0 .layout))
 
 returns : tie.Need-returns
 returns c =

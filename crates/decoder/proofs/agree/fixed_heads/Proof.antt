@@ -24,7 +24,8 @@ use Rattle.decoder.proofs.agree.fixed_heads.Tie as tie
 abbrev Inv-loop : tie.InvT-loop
 Inv-loop layout heads kinds word blocks k₀ k =
     (k ≤ blocks) × (blocks ≡ layout .parts * layout .m)
-    × (has (blocks - k) k (λ x. ofKind fixedKind kinds x && not (looksFixed (figuresOf layout) word x)) ≡ has blocks 0 (λ x. ofKind fixedKind kinds x && not (looksFixed (figuresOf layout) word x)))
+    × (has (blocks - k) k (λ x. ofKind fixedKind kinds x && not (looksFixed (figuresOf layout) word x)) ≡ has blocks 0
+    (λ x. ofKind fixedKind kinds x && not (looksFixed (figuresOf layout) word x)))
 
 abbrev μ-loop : tie.MeasureT-loop
 μ-loop layout heads kinds word blocks k₀ k = blocks - k
@@ -39,7 +40,8 @@ Off s = λ x. ofKind fixedKind (s .args .kinds .now) x && not (looksFixed (figur
 by-blocks : (s : Start) → has (s .args .layout .parts * s .args .layout .m) 0 (Off s) ≡ has (blocksOf (figuresOf (s .args .layout))) 0 (Off s)
 by-blocks s = ap (λ (n : ℕ). has n 0 (Off s)) (blocks-is (s .args .layout) (s .pre .0 .layout))
 
-room : (s : Start) (k at : ℕ) → k < s .args .layout .parts * s .args .layout .m → at ≡ blockHead (s .args .layout .n) (s .args .layout .parts) (s .args .layout .m) k
+room : (s : Start) (k at : ℕ) → k < s .args .layout .parts * s .args .layout .m
+    → at ≡ blockHead (s .args .layout .n) (s .args .layout .parts) (s .args .layout .m) k
     → at < length (s .args .word .now)
 room s k at h e = omega (arith, s .pre .0 .complete, head-room (s .args .layout) (s .pre .0 .layout) k h)
 
@@ -74,7 +76,8 @@ looks-fixed-requires : tie.Need-looks-fixed-requires Inv-loop μ-loop
 looks-fixed-requires c κs =
     let s = c .before .before .before .before .before .before .before .before in
     let at = c .before .block-head .result in
-    rw (part-length at (s .args .word .now)) (omega (arith, room s (c .before .before .before .before .before .loop .k) at (omega arith) (c .before .block-head .ensures)))
+    rw (part-length at (s .args .word .now))
+    (omega (arith, room s (c .before .before .before .before .before .loop .k) at (omega arith) (c .before .block-head .ensures)))
 
 returns : tie.Need-returns Inv-loop μ-loop
 returns c =
@@ -83,12 +86,14 @@ returns c =
     let l = s .args .layout in
     let w = s .args .word .now in
     let e : looksFixed (figuresOf l) w (t .k) ≡ false =
-    sym (stretch-looks l (s .pre .0 .layout) w (t .k) (c .before .before .before .block-head .result) (c .before .before .before .block-head .ensures)) ∙ sym (c .before .looks-fixed .ensures) ∙ not-true _ (c .if2 .taken) in
+    sym (stretch-looks l (s .pre .0 .layout) w (t .k) (c .before .before .before .block-head .result) (c .before .before .before .block-head .ensures))
+    ∙ sym (c .before .looks-fixed .ensures) ∙ not-true _ (c .if2 .taken) in
     let off : Off s (t .k) ≡ true = rw (marked fixedKind (s .args .kinds .now) (t .k) (c .before .before .before .before .if1 .taken), e) in
     ap not (sym (has-here (l .parts * l .m) (t .k) (Off s) (omega arith) off) ∙ t .inv .2 ∙ by-blocks s)
 
 add-k : tie.Need-add-k Inv-loop μ-loop
-add-k c = omega (arith, bound (c .before .before .before .before .before .before .args .layout) (c .before .before .before .before .before .before .pre .0 .layout))
+add-k c =
+    omega (arith, bound (c .before .before .before .before .before .before .args .layout) (c .before .before .before .before .before .before .pre .0 .layout))
 
 loop-less : tie.Need-loop-less Inv-loop μ-loop
 loop-less c = search needs
@@ -120,18 +125,5 @@ pub fixed-heads-spec : {M : Type 1} → statement M
 fixed-heads-spec =
     tie.close
     (tie.spec
-    Inv-loop
-    μ-loop
-    mul-blocks
-    loop-holds
-    element-copy-out-if1
-    block-head-requires
-    sub-looks-fixed
-    part-looks-fixed-start
-    part-looks-fixed-end
-    looks-fixed-requires
-    returns
-    add-k
-    loop-less
-    loop-again
-    returns-2)
+    Inv-loop μ-loop mul-blocks loop-holds element-copy-out-if1 block-head-requires sub-looks-fixed part-looks-fixed-start
+    part-looks-fixed-end looks-fixed-requires returns add-k loop-less loop-again returns-2)

@@ -20,7 +20,8 @@ use Rattle.decoder.proofs.agree.same_index.Tie as tie
 
 abbrev Inv-loop : tie.InvT-loop
 Inv-loop kinds blocks m index met₀ k₀ met k =
-    (k ≤ blocks) × (met ≤ m) × (SameLeft blocks (ofKind indexKind kinds) (take m index) k met ≡ sameList (members blocks 0 (ofKind indexKind kinds)) (take m index))
+    (k ≤ blocks) × (met ≤ m) × (SameLeft blocks (ofKind indexKind kinds) (take m index) k met ≡ sameList (members blocks 0 (ofKind indexKind kinds))
+    (take m index))
 
 abbrev μ-loop : tie.MeasureT-loop
 μ-loop kinds blocks m index met₀ k₀ met k = blocks - k
@@ -49,7 +50,8 @@ returns : tie.Need-returns Inv-loop μ-loop
 returns c =
     let s = c .before .before .before .before .before in
     let t = c .before .before .before .before .loop in
-    sym (same-more (s .args .blocks) (S s) (ks s) (t .k) (t .met) (c .before .before .before .loop-test .taken) (marked indexKind (s .args .kinds .now) (t .k) (c .before .if1 .taken)) (omega (arith, read s)))
+    sym (same-more (s .args .blocks) (S s) (ks s) (t .k) (t .met) (c .before .before .before .loop-test .taken)
+    (marked indexKind (s .args .kinds .now) (t .k) (c .before .if1 .taken)) (omega (arith, read s)))
     ∙ t .inv .2
 
 array-read-if3 : tie.Need-array-read-if3 Inv-loop μ-loop
@@ -62,7 +64,8 @@ returns-2 : tie.Need-returns-2 Inv-loop μ-loop
 returns-2 c =
     let s = c .before .before .before .before .before .before in
     let t = c .before .before .before .before .before .loop in
-    sym (same-other (s .args .blocks) (S s) (ks s) (t .k) (t .met) (c .before .before .before .before .loop-test .taken) (marked indexKind (s .args .kinds .now) (t .k) (c .before .before .if1 .taken)) (omega (arith, read s))
+    sym (same-other (s .args .blocks) (S s) (ks s) (t .k) (t .met) (c .before .before .before .before .loop-test .taken)
+    (marked indexKind (s .args .kinds .now) (t .k) (c .before .before .if1 .taken)) (omega (arith, read s))
     (λ e. c .if3 .taken (sym (getD-take (s .args .m) (s .args .t3) (t .met) 0 (omega arith)) ∙ e)))
     ∙ t .inv .2
 
@@ -85,14 +88,16 @@ loop-again c =
       omega arith,
       rw (u .3) (omega arith),
       rw (u .3)
-          (sym (same-next (s .args .blocks) (S s) (ks s) (t .k) (t .met) inside (marked indexKind (s .args .kinds .now) (t .k) (u .0 .taken)) (omega (arith, read s, u .1 .left))
+          (sym (same-next (s .args .blocks) (S s) (ks s) (t .k) (t .met) inside (marked indexKind (s .args .kinds .now) (t .k) (u .0 .taken))
+          (omega (arith, read s, u .1 .left))
           (getD-take (s .args .m) (s .args .t3) (t .met) 0 (u .1 .left) ∙ u .2 .left))
           ∙ t .inv .2),
     ))
     (λ u. (
       omega arith,
       rw (u .1) (omega arith),
-      rw (u .1) (sym (same-skip (s .args .blocks) (S s) (ks s) (t .k) (t .met) inside (unmarked indexKind (s .args .kinds .now) (t .k) (u .0 .left))) ∙ t .inv .2),
+      rw (u .1) (sym (same-skip (s .args .blocks) (S s) (ks s) (t .k) (t .met) inside (unmarked indexKind (s .args .kinds .now) (t .k) (u .0 .left)))
+          ∙ t .inv .2),
     ))
     (c .if1 .came)
 
@@ -106,16 +111,4 @@ pub same-index-spec : {M : Type 1} → statement M
 same-index-spec =
     tie.close
     (tie.spec
-    Inv-loop
-    μ-loop
-    loop-holds
-    element-copy-out-if1
-    returns
-    array-read-if3
-    cast-if3
-    returns-2
-    add-met
-    add-k
-    loop-less
-    loop-again
-    returns-3)
+    Inv-loop μ-loop loop-holds element-copy-out-if1 returns array-read-if3 cast-if3 returns-2 add-met add-k loop-less loop-again returns-3)

@@ -14,7 +14,8 @@ use Rattle.params.proofs.LongFitting.{long-shaped}
 use Rattle.params.proofs.Shape.{bound, long}
 use Rattle.placements.specs.Bridge.{startsIn}
 use Rattle.decoder.specs.Reader.{readMessage}
-use Rattle.decoder.proofs.Started.{before-lt, part-head, part-end-is, part-among, part-within, value-is, too-long, before-word, started, long-read, start-room, start-counts, start-starts, start-valid, start-placing, start-is-held}
+use Rattle.decoder.proofs.Started.{before-lt, part-head, part-end-is, part-among, part-within, value-is, too-long, before-word, started, long-read}
+use Rattle.decoder.proofs.Started.{start-room, start-counts, start-starts, start-valid, start-placing, start-is-held}
 use Rattle.decoder.proofs.offset.decode_offset.Statement.{statement}
 use Rattle.decoder.proofs.offset.decode_offset.Tie as tie
 
@@ -44,16 +45,23 @@ add-block-head c = let s = c .before .before .before .before in omega (arith, c 
 
 block-head-requires-2 : tie.Need-block-head-requires-2
 block-head-requires-2 c κs =
-    let s = c .before .before .before .before in
-    (long-shaped (l s) (g s), s .pre .1, part-among (l s) (g s) (c .before .part-before .result + 1) (omega (arith, c .before .part-before .ensures, ends-lt s)))
+    let s = c .before .before .before .before in (
+      long-shaped (l s) (g s),
+      s .pre .1,
+      part-among (l s) (g s) (c .before .part-before .result + 1)
+          (omega (arith, c .before .part-before .ensures, ends-lt s)),
+    )
 
 -- where it starts, and how long it is
-head-at : (c : tie.After-block-head2) → c .before .block-head .result ≡ headOf (f (c .before .before .before .before .before)) (before (c .before .before .before .before .before .args .part))
+head-at : (c : tie.After-block-head2) → c .before .block-head .result ≡ headOf (f (c .before .before .before .before .before))
+    (before (c .before .before .before .before .before .args .part))
 head-at c =
     let s = c .before .before .before .before .before in
-    c .before .block-head .ensures ∙ part-head (l s) (g s) (c .before .before .part-before .result) ∙ ap (headOf (f s)) (c .before .before .part-before .ensures)
+    c .before .block-head .ensures ∙ part-head (l s) (g s) (c .before .before .part-before .result)
+    ∙ ap (headOf (f s)) (c .before .before .part-before .ensures)
 
-next-at : (c : tie.After-block-head2) → c .block-head2 .result ≡ c .before .block-head .result + partLen (f (c .before .before .before .before .before)) (before (c .before .before .before .before .before .args .part))
+next-at : (c : tie.After-block-head2) → c .block-head2 .result ≡ c .before .block-head .result + partLen (f (c .before .before .before .before .before))
+    (before (c .before .before .before .before .before .args .part))
 next-at c =
     let s = c .before .before .before .before .before in
     let e = c .before .before .part-before .result in
@@ -71,7 +79,8 @@ returns c =
     let s = c .before .before .before .before .before .before .before in
     c .unread .ensures (s .args .message .now)
     ∙ sym (ap (decodedFrom (l s .b) (s .args .message .now))
-    (too-long (l s) (g s) (s .args .word .now) (s .args .part) (s .args .value) (s .pre .0 .spelled) (omega (arith, c .before .if1 .taken, next-at (c .before .before)))))
+    (too-long (l s) (g s) (s .args .word .now) (s .args .part) (s .args .value) (s .pre .0 .spelled)
+    (omega (arith, c .before .if1 .taken, next-at (c .before .before)))))
 
 -- ---- A value below its length
 
@@ -86,7 +95,8 @@ value-at c =
     let s = start c in
     value-is (l s) (g s) (s .args .word .now) (s .args .part) (s .args .value) (s .pre .0 .spelled) (below c)
 
-end-at : (c : tie.Else1) → c .before .before .block-head .result + start c .args .value + 1 ≡ endAt (f (start c)) (before (start c .args .part)) (start c .args .value)
+end-at : (c : tie.Else1) → c .before .before .block-head .result + start c .args .value + 1 ≡ endAt (f (start c)) (before (start c .args .part))
+    (start c .args .value)
 unfolding endAt
 end-at c = omega (arith, head-at (c .before))
 
@@ -123,10 +133,12 @@ inside : (c : tie.Else2) → at c + l (start (c .before .before)) .b ≤ l (star
 inside c = omega (arith, c .if2 .left, end-within (c .before .before))
 
 cast-unrank : tie.Need-cast-unrank
-cast-unrank c = let s = c .before .before .before .before .before .before .before .before .before .before in omega (arith, bound (l s) (long-shaped (l s) (g s)) .n-most)
+cast-unrank c = let s = c .before .before .before .before .before .before .before .before .before .before in
+    omega (arith, bound (l s) (long-shaped (l s) (g s)) .n-most)
 
 cast-unrank-2 : tie.Need-cast-unrank-2
-cast-unrank-2 c = let s = c .before .before .before .before .before .before .before .before .before .before .before in omega (arith, bound (l s) (long-shaped (l s) (g s)) .m-most)
+cast-unrank-2 c = let s = c .before .before .before .before .before .before .before .before .before .before .before in
+    omega (arith, bound (l s) (long-shaped (l s) (g s)) .m-most)
 
 cast-unrank-3 : tie.Need-cast-unrank-3
 cast-unrank-3 c =
@@ -147,8 +159,12 @@ kinds-of-requires c κs =
     start-placing (l s) (g s) (at here) (c .unrank .result) (inside here) (c .unrank .ensures)
 
 -- what is left to read goes by its placement
-placed : (c : tie.After-unrank) → readPart (f (start (c .before .before .before .before .before .before .before))) (start (c .before .before .before .before .before .before .before) .args .word .now) (before (start (c .before .before .before .before .before .before .before) .args .part)) (start (c .before .before .before .before .before .before .before) .args .value)
-    ≡ readMessage (l (start (c .before .before .before .before .before .before .before))) (start (c .before .before .before .before .before .before .before) .args .word .now) (startsIn (c .unrank .result))
+placed : (c : tie.After-unrank) → readPart (f (start (c .before .before .before .before .before .before .before)))
+    (start (c .before .before .before .before .before .before .before) .args .word .now)
+    (before (start (c .before .before .before .before .before .before .before) .args .part))
+    (start (c .before .before .before .before .before .before .before) .args .value)
+    ≡ readMessage (l (start (c .before .before .before .before .before .before .before)))
+    (start (c .before .before .before .before .before .before .before) .args .word .now) (startsIn (c .unrank .result))
 placed c =
     let here = c .before .before .before .before .before in
     let s = start (here .before .before) in
@@ -156,7 +172,8 @@ placed c =
     let e = before (s .args .part) in
     let p = c .unrank .result in
     let ends = end-at (here .before .before) in
-    started (l s) (g s) w e (s .args .value) (below (here .before .before)) (at here) (ap (λ (x : ℕ). x - l s .b) ends) (omega (arith, here .if2 .left, ends)) (start-valid (l s) (g s) (at here) p (inside here) (c .unrank .ensures))
+    started (l s) (g s) w e (s .args .value) (below (here .before .before)) (at here) (ap (λ (x : ℕ). x - l s .b) ends)
+    (omega (arith, here .if2 .left, ends)) (start-valid (l s) (g s) (at here) p (inside here) (c .unrank .ensures))
     ∙ ap (readMessage (l s) w) (sym (start-starts (l s) (g s) (at here) p (inside here) (c .unrank .ensures)))
 
 decode-placed-requires : tie.Need-decode-placed-requires
@@ -170,7 +187,8 @@ decode-placed-requires c κs =
         placing = start-placing (l s) (g s) (at here) p (inside here) (un .ensures);
         is-held = start-is-held (l s) (g s) (at here) p (inside here) (un .ensures);
         ranked = sym (ap (rankOf (l s .b)) (start-starts (l s) (g s) (at here) p (inside here) (un .ensures)) ∙ rank-is (f s) (at here));
-        read-as = long-read (l s) (g s) (s .args .word .now) (s .args .part) (s .args .value) (s .pre .0 .index) (value-at (here .before .before)) ∙ placed (c .before .before .before);
+        read-as = long-read (l s) (g s) (s .args .word .now) (s .args .part) (s .args .value) (s .pre .0 .index) (value-at (here .before .before))
+            ∙ placed (c .before .before .before);
       },
       (s .pre .1, c .before .before .kinds-of .ensures),
     )
@@ -184,28 +202,13 @@ returns-3 c =
     let s = start (here .before .before) in
     c .before .before .decode-placed .ensures
     ∙ ap (decodedFrom (l s .b) (s .args .message .now))
-    (sym (placed (c .before .before .before .before .before .before)) ∙ ap (readPart (f s) (s .args .word .now) (before (s .args .part))) (value-at (here .before .before)))
+    (sym (placed (c .before .before .before .before .before .before))
+    ∙ ap (readPart (f s) (s .args .word .now) (before (s .args .part))) (value-at (here .before .before)))
 
 pub decode-offset-spec : {M : Type 1} → statement M
 decode-offset-spec =
     tie.close
     (tie.spec
-    part-before-requires
-    block-head-requires
-    add-block-head
-    block-head-requires-2
-    sub-if1
-    unread-requires
-    returns
-    add-end
-    add-end-2
-    unread-requires-2
-    returns-2
-    cast-unrank
-    cast-unrank-2
-    cast-unrank-3
-    unrank-requires
-    kinds-of-requires
-    decode-placed-requires
-    same-length
+    part-before-requires block-head-requires add-block-head block-head-requires-2 sub-if1 unread-requires returns add-end add-end-2
+    unread-requires-2 returns-2 cast-unrank cast-unrank-2 cast-unrank-3 unrank-requires kinds-of-requires decode-placed-requires same-length
     returns-3)

@@ -25,7 +25,8 @@ mul-if1 c = let s = c .before .before .before .before in omega (arith, bound (l 
 returns : tie.Need-returns
 returns c =
     let s = c .before .before .before .before .before in
-    sym (exported-length (codingIn (l s)) (s .args .word .now) (s .args .message .now) (s .args .starts .now) (in-order (l s) (s .pre) .0) (in-order (l s) (s .pre) .1) (λ e. c .if1 .taken (e ∙ sym (twice s))))
+    sym (exported-length (codingIn (l s)) (s .args .word .now) (s .args .message .now) (s .args .starts .now) (in-order (l s) (s .pre) .0)
+    (in-order (l s) (s .pre) .1) (λ e. c .if1 .taken (e ∙ sym (twice s))))
 
 decode-fitting-requires : tie.Need-decode-fitting-requires
 decode-fitting-requires c κs = search needs
@@ -34,8 +35,10 @@ put-decoded-requires : tie.Need-put-decoded-requires
 put-decoded-requires c κs =
     let s = c .before .before .before .before .before .before .before .before .before .before in
     let call = c .before .before .before .decode-fitting in
-    starts-fit (codingIn (l s)) (s .args .word .now) (s .args .message .now) (s .args .starts .now) (l s .m) (accepted-count (l s) (s .pre) (s .args .word .now) (s .args .message .now))
-    (omega (arith, bound (l s) (in-shape (l s) (s .pre)))) (c .before .before .before .before .before .if1 .left) (call .result) (call .last .1 .1 .0) (call .ensures)
+    starts-fit (codingIn (l s)) (s .args .word .now) (s .args .message .now) (s .args .starts .now) (l s .m)
+    (accepted-count (l s) (s .pre) (s .args .word .now) (s .args .message .now))
+    (omega (arith, bound (l s) (in-shape (l s) (s .pre)))) (c .before .before .before .before .before .if1 .left) (call .result) (call .last .1 .1 .0)
+    (call .ensures)
 
 same-length : tie.Need-same-length
 same-length c = search needs
@@ -49,16 +52,11 @@ returns-2 c =
     let call = c .before .before .before .before .before .before .decode-fitting in
     let put = c .before .before .put-decoded in
     exported-put (codingIn (l s)) (s .args .word .now) (s .args .message .now) (s .args .starts .now) (in-order (l s) (s .pre) .0) (in-order (l s) (s .pre) .1)
-    (c .before .before .before .before .before .before .before .before .if1 .left ∙ twice s) (call .result) (call .last .1 .1 .0) (call .ensures) (put .result) (put .last .1 .0) (put .ensures (call .last .1 .1 .0))
+    (c .before .before .before .before .before .before .before .before .if1 .left ∙ twice s) (call .result) (call .last .1 .1 .0) (call .ensures)
+    (put .result) (put .last .1 .0) (put .ensures (call .last .1 .1 .0))
 
 pub decode-bytes-spec : {M : Type 1} → statement M
 decode-bytes-spec =
     tie.close
     (tie.spec
-    mul-if1
-    returns
-    decode-fitting-requires
-    put-decoded-requires
-    same-length
-    same-length-2
-    returns-2)
+    mul-if1 returns decode-fitting-requires put-decoded-requires same-length same-length-2 returns-2)

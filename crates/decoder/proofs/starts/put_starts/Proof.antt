@@ -78,7 +78,8 @@ loop-again : tie.Need-loop-again Inv-loop μ-loop
 loop-again c =
     let s = c .before .before .before in
     let t = c .before .before .loop in
-    let e : getD (startsIn (s .args .t1)) (t .j) 0 ≡ getD (s .args .t1 .starts) (t .j) 0 = getD-take (s .args .t1 .count) (s .args .t1 .starts) (t .j) 0 (omega arith) in (
+    let e : getD (startsIn (s .args .t1)) (t .j) 0 ≡ getD (s .args .t1 .starts) (t .j) 0 =
+    getD-take (s .args .t1 .count) (s .args .t1 .starts) (t .j) 0 (omega arith) in (
       omega arith,
       simp length-set (t .inv .1),
       rw e at (bytes-turn (startsIn (s .args .t1)) (t .bytes) (t .j) (omega (arith, many s, t .inv .1)) (t .inv .2) (omega (arith, many s))),
@@ -97,22 +98,5 @@ pub put-starts-spec : {M : Type 1} → statement M
 put-starts-spec =
     tie.close
     (tie.spec
-    Inv-loop
-    μ-loop
-    cast-count
-    loop-holds
-    mul-s
-    element-copy-out-s
-    cast-start
-    cast-bytes
-    mul-bytes
-    slice-write-bytes
-    cast-bytes-2
-    mul-bytes-2
-    add-bytes
-    slice-write-bytes-2
-    add-j
-    loop-less
-    loop-again
-    same-length
-    returns)
+    Inv-loop μ-loop cast-count loop-holds mul-s element-copy-out-s cast-start cast-bytes mul-bytes slice-write-bytes cast-bytes-2
+    mul-bytes-2 add-bytes slice-write-bytes-2 add-j loop-less loop-again same-length returns)

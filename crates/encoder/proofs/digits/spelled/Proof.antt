@@ -27,8 +27,12 @@ mul-i c = rw (add-one (c .args .tail)) (omega (arith, c .pre .room))
 loop-holds : tie.Need-loop-holds Inv-loop μ-loop
 loop-holds c =
     let a = c .args in
-    rw (add-one (a .tail), ← length-places (a .m) (a .tail))
-    (omega arith, refl, start (a .q) (places (a .m) (a .tail)) (a .value) (c .pre .alphabet) (replicate 128 0) (c .pre .below) (omega (arith, c .pre .room, length-places (a .m) (a .tail))))
+    rw (add-one (a .tail), ← length-places (a .m) (a .tail)) (
+      omega arith,
+      refl,
+      start (a .q) (places (a .m) (a .tail)) (a .value) (c .pre .alphabet) (replicate 128 0) (c .pre .below)
+          (omega (arith, c .pre .room, length-places (a .m) (a .tail))),
+    )
 
 sub-i : tie.Need-sub-i Inv-loop μ-loop
 sub-i c = search needs
@@ -83,7 +87,8 @@ loop-again c =
       simp length-set (s .loop .inv .1),
       rw (c .radix-at .ensures, offset-is (a .q) x (s .before .pre .alphabet))
           (turn (a .q) ps (a .value) (s .before .pre .alphabet) j (s .loop .left) (s .loop .digits) x l (omega (arith, s .before .pre .room))
-          (place-is (a .m) (a .tail) j (omega arith)) (subst (λ (y : ℕ). Spelling (a .q) ps (a .value) y (s .loop .left) (s .loop .digits)) e (s .loop .inv .2))),
+          (place-is (a .m) (a .tail) j (omega arith)) (subst (λ (y : ℕ). Spelling (a .q) ps (a .value) y (s .loop .left) (s .loop .digits)) e
+          (s .loop .inv .2))),
     )
 
 returns : tie.Need-returns Inv-loop μ-loop
@@ -100,19 +105,5 @@ pub spelled-spec : {M : Type 1} → statement M
 spelled-spec =
     tie.close
     (tie.spec
-    Inv-loop
-    μ-loop
-    add-i
-    mul-i
-    loop-holds
-    sub-i
-    radix-at-requires
-    sub-digits
-    rem-digits
-    add-digits
-    cast-digits
-    array-write-digits
-    div-left
-    loop-less
-    loop-again
-    returns)
+    Inv-loop μ-loop add-i mul-i loop-holds sub-i radix-at-requires sub-digits rem-digits add-digits cast-digits array-write-digits div-left
+    loop-less loop-again returns)

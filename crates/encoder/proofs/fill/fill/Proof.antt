@@ -34,10 +34,12 @@ spelled-requires c κs =
     spellable (l s) (s .pre .0) (startsIn (s .args .at)) _ (s .pre .1 .placing .placed) (c .index-value .ensures)
 
 add-count : tie.Need-add-count
-add-count c = let s = c .before .before .before .before .before .before in omega (arith, bound (l s) (in-shape (l s) (s .pre .0)) .tail-room, bound (l s) (in-shape (l s) (s .pre .0)) .n-most)
+add-count c = let s = c .before .before .before .before .before .before in
+    omega (arith, bound (l s) (in-shape (l s) (s .pre .0)) .tail-room, bound (l s) (in-shape (l s) (s .pre .0)) .n-most)
 
 mul-count : tie.Need-mul-count
-mul-count c = let s = c .before .before .before .before .before .before .before in rw (add-one (l s .«index_tail»)) (omega (arith, count-most (l s) (s .pre .0)))
+mul-count c = let s = c .before .before .before .before .before .before .before in
+    rw (add-one (l s .«index_tail»)) (omega (arith, count-most (l s) (s .pre .0)))
 
 walk-of-requires : tie.Need-walk-of-requires
 walk-of-requires c κs = search needs
@@ -46,7 +48,8 @@ heads-of-requires : tie.Need-heads-of-requires
 heads-of-requires c κs = search needs
 
 array-share-prefix-digits : tie.Need-array-share-prefix-digits
-array-share-prefix-digits c = let s = c .before .before .before .before .before .before .before .before .before .before .before in rw (add-one (l s .«index_tail»)) (omega (arith, count-most (l s) (s .pre .0)))
+array-share-prefix-digits c = let s = c .before .before .before .before .before .before .before .before .before .before .before in
+    rw (add-one (l s .«index_tail»)) (omega (arith, count-most (l s) (s .pre .0)))
 
 slice-aggregate-fill-cells : tie.Need-slice-aggregate-fill-cells
 slice-aggregate-fill-cells c =
@@ -98,15 +101,5 @@ pub fill-spec : {M : Type 1} → statement M
 fill-spec =
     tie.close
     (tie.spec
-    kinds-of-requires
-    index-value-requires
-    spelled-requires
-    add-count
-    mul-count
-    walk-of-requires
-    heads-of-requires
-    array-share-prefix-digits
-    slice-aggregate-fill-cells
-    fill-cells-requires
-    same-length
-    returns)
+    kinds-of-requires index-value-requires spelled-requires add-count mul-count walk-of-requires heads-of-requires array-share-prefix-digits
+    slice-aggregate-fill-cells fill-cells-requires same-length returns)

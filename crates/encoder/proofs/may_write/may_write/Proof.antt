@@ -24,7 +24,8 @@ returns-2 c =
 returns-3 : tie.Need-returns-3
 returns-3 c =
     let a = c .before .before .before .before .before .args in
-    sym (number-word (a .n) (a .m) (a .b) (a .q) (a .k) (heldAs (a .at)) (a .message .now) (a .lent) (c .before .before .if1 .left) (c .before .if2 .left) (λ e. c .if3 .taken e))
+    sym (number-word (a .n) (a .m) (a .b) (a .q) (a .k) (heldAs (a .at)) (a .message .now) (a .lent) (c .before .before .if1 .left) (c .before .if2 .left)
+    (λ e. c .if3 .taken e))
 
 cast-apart : tie.Need-cast-apart
 cast-apart c = search needs
@@ -38,7 +39,8 @@ apart-requires c κs = search needs
 returns-4 : tie.Need-returns-4
 returns-4 c =
     let a = c .before .before .before .before .before .before .before .args in
-    sym (number-starts (a .n) (a .m) (a .b) (a .q) (a .k) (heldAs (a .at)) (a .message .now) (a .lent) (c .before .before .before .before .if1 .left) (c .before .before .before .if2 .left) (c .before .before .if3 .left)
+    sym (number-starts (a .n) (a .m) (a .b) (a .q) (a .k) (heldAs (a .at)) (a .message .now) (a .lent) (c .before .before .before .before .if1 .left)
+    (c .before .before .before .if2 .left) (c .before .before .if3 .left)
     (sym (c .before .apart .ensures) ∙ not-true _ (c .if4 .taken)))
 
 all-below-requires : tie.Need-all-below-requires
@@ -47,27 +49,23 @@ all-below-requires c κs = search needs
 returns-5 : tie.Need-returns-5
 returns-5 c =
     let a = c .before .before .before .before .before .before .before .before .before .args in
-    sym (number-symbol (a .n) (a .m) (a .b) (a .q) (a .k) (heldAs (a .at)) (a .message .now) (a .lent) (c .before .before .before .before .before .before .if1 .left) (c .before .before .before .before .before .if2 .left) (c .before .before .before .before .if3 .left)
-    (sym (c .before .before .before .apart .ensures) ∙ not-false _ (c .before .before .if4 .left)) (sym (c .before .all-below .ensures) ∙ not-true _ (c .if5 .taken)))
+    sym (number-symbol (a .n) (a .m) (a .b) (a .q) (a .k) (heldAs (a .at)) (a .message .now) (a .lent)
+    (c .before .before .before .before .before .before .if1 .left) (c .before .before .before .before .before .if2 .left)
+    (c .before .before .before .before .if3 .left)
+    (sym (c .before .before .before .apart .ensures) ∙ not-false _ (c .before .before .if4 .left))
+    (sym (c .before .all-below .ensures) ∙ not-true _ (c .if5 .taken)))
 
 returns-6 : tie.Need-returns-6
 returns-6 c =
     let a = c .before .before .before .before .before .before .before .before .before .args in
-    sym (number-none (a .n) (a .m) (a .b) (a .q) (a .k) (heldAs (a .at)) (a .message .now) (a .lent) (c .before .before .before .before .before .before .if1 .left) (c .before .before .before .before .before .if2 .left) (c .before .before .before .before .if3 .left)
-    (sym (c .before .before .before .apart .ensures) ∙ not-false _ (c .before .before .if4 .left)) (sym (c .before .all-below .ensures) ∙ not-false _ (c .if5 .left)))
+    sym (number-none (a .n) (a .m) (a .b) (a .q) (a .k) (heldAs (a .at)) (a .message .now) (a .lent)
+    (c .before .before .before .before .before .before .if1 .left) (c .before .before .before .before .before .if2 .left)
+    (c .before .before .before .before .if3 .left)
+    (sym (c .before .before .before .apart .ensures) ∙ not-false _ (c .before .before .if4 .left))
+    (sym (c .before .all-below .ensures) ∙ not-false _ (c .if5 .left)))
 
 pub may-write-spec : {M : Type 1} → statement M
 may-write-spec =
     tie.close
     (tie.spec
-    cast-if1
-    returns
-    returns-2
-    returns-3
-    cast-apart
-    cast-apart-2
-    apart-requires
-    returns-4
-    all-below-requires
-    returns-5
-    returns-6)
+    cast-if1 returns returns-2 returns-3 cast-apart cast-apart-2 apart-requires returns-4 all-below-requires returns-5 returns-6)

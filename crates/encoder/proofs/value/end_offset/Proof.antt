@@ -37,8 +37,12 @@ piece-of-requires : tie.Need-piece-of-requires
 piece-of-requires c κs =
     let s = c .before .before in
     let g = s .pre .0 in
-    let ok = served-long (l s) g in
-    (omega (arith, g .laid .parts-is), omega (arith, g .laid .parts-is, ok .range .n-least), omega (arith, first-in (l s) (s .args .t2) g (s .pre .1), ok .range .b-least))
+    let ok = served-long (l s) g in (
+      omega (arith, g .laid .parts-is),
+      omega (arith, g .laid .parts-is, ok .range .n-least),
+      omega
+          (arith, first-in (l s) (s .args .t2) g (s .pre .1), ok .range .b-least),
+    )
 
 piece-start-requires : tie.Need-piece-start-requires
 piece-start-requires c κs = search needs
@@ -52,18 +56,12 @@ returns c =
     let f = longOf (figuresOf (l s)) in
     let start = getD (s .args .t2 .starts) 0 0 in
     let part = c .before .piece-of in
-    offset-is f start (l s .parts) (part .result) (c .piece-start .result) (s .pre .0 .laid .parts-is) (c .piece-start .ensures) (part .ensures .0) (part .ensures .1) (part .ensures .2)
+    offset-is f start (l s .parts) (part .result) (c .piece-start .result) (s .pre .0 .laid .parts-is) (c .piece-start .ensures) (part .ensures .0)
+    (part .ensures .1) (part .ensures .2)
     ∙ ap (endOffset f) (first-start (l s) (s .args .t2) (s .pre .0) (s .pre .1))
 
 pub end-offset-spec : {M : Type 1} → statement M
 end-offset-spec =
     tie.close
     (tie.spec
-    element-copy-out-start
-    cast-last
-    add-last
-    sub-last
-    piece-of-requires
-    piece-start-requires
-    sub-result
-    returns)
+    element-copy-out-start cast-last add-last sub-last piece-of-requires piece-start-requires sub-result returns)

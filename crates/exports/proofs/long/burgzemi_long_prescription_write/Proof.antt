@@ -21,7 +21,8 @@ returns : tie.Need-returns
 returns c =
     let a = c .before .before .before .before .before .before .before .before .args in
     c .before .before .write .ensures
-    ∙ ap (λ (p : Prescription). prescriptionWriteBytesUnder (coding (longParams (a .n) (a .q) (a .b))) (a .table .now) (a .starts .now) (a .number) p (a .word .now))
+    ∙ ap (λ (p : Prescription). prescriptionWriteBytesUnder (coding (longParams (a .n) (a .q) (a .b))) (a .table .now) (a .starts .now) (a .number) p
+    (a .word .now))
     (c .before .before .before .before .prescription-from .ensures)
 
 pub burgzemi-long-prescription-write-spec : {M : Type 1} → statement M

@@ -14,7 +14,8 @@ use Rattle.heads.proofs.looks.looks_of.Statement.{statement}
 use Rattle.heads.proofs.looks.looks_of.Tie as tie
 
 abbrev Inv-loop : tie.InvT-loop
-Inv-loop layout heads word blocks looks₀ k₀ looks k = (k ≤ blocks) × (blocks ≡ layout .parts * layout .m) × (length looks ≡ maxBlocks) × Marked (looksFixed (figuresOf layout) word) k looks
+Inv-loop layout heads word blocks looks₀ k₀ looks k = (k ≤ blocks) × (blocks ≡ layout .parts * layout .m) × (length looks ≡ maxBlocks)
+    × Marked (looksFixed (figuresOf layout) word) k looks
 
 abbrev μ-loop : tie.MeasureT-loop
 μ-loop layout heads word blocks looks₀ k₀ looks k = blocks - k
@@ -50,10 +51,20 @@ looks-fixed-requires c κs =
     (omega (arith, c .before .block-head .ensures, head-room (s .args .layout) (s .pre .0 .layout) (c .before .before .before .loop .k) (omega arith)))
 
 array-write-looks : tie.Need-array-write-looks Inv-loop μ-loop
-array-write-looks c = omega (arith, bound (c .before .before .before .before .before .before .before .before .args .layout) (c .before .before .before .before .before .before .before .before .pre .0 .layout))
+array-write-looks c =
+    omega (
+      arith,
+      bound (c .before .before .before .before .before .before .before .before .args .layout)
+          (c .before .before .before .before .before .before .before .before .pre .0 .layout),
+    )
 
 add-k : tie.Need-add-k Inv-loop μ-loop
-add-k c = omega (arith, bound (c .before .before .before .before .before .before .before .before .args .layout) (c .before .before .before .before .before .before .before .before .pre .0 .layout))
+add-k c =
+    omega (
+      arith,
+      bound (c .before .before .before .before .before .before .before .before .args .layout)
+          (c .before .before .before .before .before .before .before .before .pre .0 .layout),
+    )
 
 loop-less : tie.Need-loop-less Inv-loop μ-loop
 loop-less c = search needs
@@ -66,9 +77,16 @@ loop-again c =
     let h = s .pre .0 .layout in
     let w = s .args .word .now in
     let S : ℕ → Bool = looksFixed (figuresOf l) w in
-    let e : c .before .looks-fixed .result ≡ S (t .k) = c .before .looks-fixed .ensures ∙ stretch-looks l h w (t .k) (c .before .before .before .block-head .result) (c .before .before .before .block-head .ensures) in
+    let e : c .before .looks-fixed .result ≡ S (t .k) = c .before .looks-fixed .ensures
+    ∙ stretch-looks l h w (t .k) (c .before .before .before .block-head .result) (c .before .before .before .block-head .ensures) in
     ⊎-elim
-    (λ u. (omega arith, refl, rw (u .1) (simp length-set (t .inv .2)), rw (u .1) (marked-in S (t .k) (t .looks) (t .inv .3) (omega (arith, bound l h)) (sym e ∙ u .0 .taken))))
+    (λ u. (
+      omega arith,
+      refl,
+      rw (u .1) (simp length-set (t .inv .2)),
+      rw (u .1)
+          (marked-in S (t .k) (t .looks) (t .inv .3) (omega (arith, bound l h)) (sym e ∙ u .0 .taken)),
+    ))
     (λ u. (omega arith, refl, rw (u .1) (t .inv .2), rw (u .1) (marked-out S (t .k) (t .looks) (t .inv .3) (sym e ∙ u .0 .left))))
     (c .if1 .came)
 
@@ -76,23 +94,12 @@ returns : tie.Need-returns Inv-loop μ-loop
 returns c =
     let s = c .before .before .before .before in
     let t = c .before .loop in
-    λ x g. marked-all (looksFixed (figuresOf (s .args .layout)) (s .args .word .now)) (t .k) (t .looks) (t .inv .3) x (omega (arith, blocks-is (s .args .layout) (s .pre .0 .layout)))
+    λ x g. marked-all (looksFixed (figuresOf (s .args .layout)) (s .args .word .now)) (t .k) (t .looks) (t .inv .3) x
+    (omega (arith, blocks-is (s .args .layout) (s .pre .0 .layout)))
 
 pub looks-of-spec : {M : Type 1} → statement M
 looks-of-spec =
     tie.close
     (tie.spec
-    Inv-loop
-    μ-loop
-    mul-blocks
-    loop-holds
-    block-head-requires
-    sub-looks-fixed
-    part-looks-fixed-start
-    part-looks-fixed-end
-    looks-fixed-requires
-    array-write-looks
-    add-k
-    loop-less
-    loop-again
-    returns)
+    Inv-loop μ-loop mul-blocks loop-holds block-head-requires sub-looks-fixed part-looks-fixed-start part-looks-fixed-end
+    looks-fixed-requires array-write-looks add-k loop-less loop-again returns)

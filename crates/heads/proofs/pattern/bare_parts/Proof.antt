@@ -38,7 +38,12 @@ with-next-requires : tie.Need-with-next-requires Inv-loop μ-loop
 with-next-requires c κs =
     let t = c .before .before .before .before .loop in
     let a = c .before .before .before .before .before .before .args in
-    omega (arith, candidates-few (t .bare) (t .i) (λ x. not (has (a .m) 0 (row (a .m) (looksIn (a .looks .now)) x))) (t .inv .1), c .before .before .before .before .before .before .pre .few-parts)
+    omega (
+      arith,
+      candidates-few (t .bare) (t .i) (λ x. not (has (a .m) 0 (row (a .m) (looksIn (a .looks .now)) x)))
+          (t .inv .1),
+      c .before .before .before .before .before .before .pre .few-parts,
+    )
 
 add-i : tie.Need-add-i Inv-loop μ-loop
 add-i c = search needs
@@ -55,8 +60,16 @@ loop-again c =
     let shown = openBlocks (a .m) looks (t .i) in
     let n = count-is (c .before .before .open-blocks .result) shown (c .before .before .open-blocks .ensures) in
     ⊎-elim
-    (λ u. (omega arith, u .2 ∙ u .1 .ensures (members (t .i) 0 w) (t .inv .1) ∙ candidates-in (t .i) w (bare-is (a .m) (t .i) looks ∙ eqb-same (length shown) (a .m) (sym n ∙ u .0 .taken))))
-    (λ u. (omega arith, u .1 ∙ candidates-out (t .bare) (t .i) w (t .inv .1) (bare-is (a .m) (t .i) looks ∙ eqb-other (length shown) (a .m) (λ z. u .0 .left (n ∙ z)))))
+    (λ u. (
+      omega arith,
+      u .2 ∙ u .1 .ensures (members (t .i) 0 w) (t .inv .1)
+          ∙ candidates-in (t .i) w (bare-is (a .m) (t .i) looks ∙ eqb-same (length shown) (a .m) (sym n ∙ u .0 .taken)),
+    ))
+    (λ u. (
+      omega arith,
+      u .1 ∙ candidates-out (t .bare) (t .i) w (t .inv .1)
+          (bare-is (a .m) (t .i) looks ∙ eqb-other (length shown) (a .m) (λ z. u .0 .left (n ∙ z))),
+    ))
     (c .if1 .came)
 
 returns : tie.Need-returns Inv-loop μ-loop
@@ -71,13 +84,4 @@ pub bare-parts-spec : {M : Type 1} → statement M
 bare-parts-spec =
     tie.close
     (tie.spec
-    Inv-loop
-    μ-loop
-    none-requires
-    loop-holds
-    open-blocks-requires
-    with-next-requires
-    add-i
-    loop-less
-    loop-again
-    returns)
+    Inv-loop μ-loop none-requires loop-holds open-blocks-requires with-next-requires add-i loop-less loop-again returns)

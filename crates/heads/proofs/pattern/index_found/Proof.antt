@@ -12,7 +12,8 @@ use Rattle.construction_a.specs.Writing.{row}
 use Rattle.construction_a.specs.Reading.{bareParts, later}
 use Rattle.heads.specs.Looks.{looksIn}
 use Rattle.heads.specs.Patterns.{indexIn}
-use Rattle.heads.proofs.Listed.{part-fits, candidates-below, count-is, numbered-in, numbered-out, found-whole, found-none, found-few, found-each, index-none}
+use Rattle.heads.proofs.Listed.{part-fits, candidates-below, count-is, numbered-in, numbered-out, found-whole, found-none, found-few, found-each}
+use Rattle.heads.proofs.Listed.{index-none}
 use Rattle.heads.proofs.pattern.index_found.Statement.{statement}
 use Rattle.heads.proofs.pattern.index_found.Tie as tie
 
@@ -23,7 +24,8 @@ later-requires : tie.Need-later-requires
 unfolding bareParts
 later-requires c κs =
     let s = c .before in
-    candidates-below (c .bare-parts .result) (s .args .parts) (λ i. not (has (s .args .m) 0 (row (s .args .m) (looksIn (s .args .looks .now)) i))) (c .bare-parts .ensures) (s .pre .some-parts)
+    candidates-below (c .bare-parts .result) (s .args .parts) (λ i. not (has (s .args .m) 0 (row (s .args .m) (looksIn (s .args .looks .now)) i)))
+    (c .bare-parts .ensures) (s .pre .some-parts)
 
 whole-part-requires : tie.Need-whole-part-requires
 whole-part-requires c κs =
@@ -36,7 +38,9 @@ returns c =
     let looks = looksIn (a .looks .now) in
     let i = c .before .before .later .result in
     c .whole-part .ensures
-    ∙ sym (found-whole (a .parts) (a .m) looks i (sym (c .before .before .later .ensures (bareParts (a .parts) (a .m) looks) (c .before .before .before .bare-parts .ensures)) ∙ numbered-in (a .parts) i (omega arith)))
+    ∙ sym (found-whole (a .parts) (a .m) looks i
+    (sym (c .before .before .later .ensures (bareParts (a .parts) (a .m) looks) (c .before .before .before .bare-parts .ensures))
+    ∙ numbered-in (a .parts) i (omega arith)))
 
 -- ---- No part is singled out
 
@@ -44,7 +48,8 @@ abbrev bare : tie.Start → List ℕ
 bare s = bareParts (s .args .parts) (s .args .m) (looksIn (s .args .looks .now))
 
 no-part : (c : tie.Else1) → later (c .before .before .before .args .parts) (bare (c .before .before .before)) ≡ none
-no-part c = sym (c .before .later .ensures (bare (c .before .before .before)) (c .before .before .bare-parts .ensures)) ∙ numbered-out (c .before .before .before .args .parts) (c .before .later .result) (omega arith)
+no-part c = sym (c .before .later .ensures (bare (c .before .before .before)) (c .before .before .bare-parts .ensures))
+    ∙ numbered-out (c .before .before .before .args .parts) (c .before .later .result) (omega arith)
 
 bare-count : (c : tie.Else1) → c .before .before .bare-parts .result .count ≡ length (bare (c .before .before .before))
 bare-count c = count-is (c .before .before .bare-parts .result) (bare (c .before .before .before)) (c .before .before .bare-parts .ensures)
@@ -56,7 +61,8 @@ returns-2 : tie.Need-returns-2
 returns-2 c =
     let a = c .before .before .before .before .before .before .args in
     index-none (a .m) (c .none .result) (c .none .ensures)
-    ∙ sym (found-none (a .parts) (a .m) (looksIn (a .looks .now)) (no-part (c .before .before .before)) (λ z. c .before .if2 .taken (bare-count (c .before .before .before) ∙ z)))
+    ∙ sym (found-none (a .parts) (a .m) (looksIn (a .looks .now)) (no-part (c .before .before .before))
+    (λ z. c .before .if2 .taken (bare-count (c .before .before .before) ∙ z)))
 
 none-requires-2 : tie.Need-none-requires-2
 none-requires-2 c κs = search needs
@@ -65,7 +71,8 @@ returns-3 : tie.Need-returns-3
 returns-3 c =
     let a = c .before .before .before .before .before .before .before .args in
     index-none (a .m) (c .none2 .result) (c .none2 .ensures)
-    ∙ sym (found-few (a .parts) (a .m) (looksIn (a .looks .now)) (no-part (c .before .before .before .before)) (omega (arith, bare-count (c .before .before .before .before))) (omega arith))
+    ∙ sym (found-few (a .parts) (a .m) (looksIn (a .looks .now)) (no-part (c .before .before .before .before))
+    (omega (arith, bare-count (c .before .before .before .before))) (omega arith))
 
 one-each-requires : tie.Need-one-each-requires
 one-each-requires c κs = search needs
@@ -75,19 +82,12 @@ returns-4 c =
     let a = c .before .before .before .before .before .before .before .args in
     let e : a .parts ≡ a .m = c .before .before .before .before .before .before .before .pre .alike (omega arith) in
     ap (λ (y : ℕ). indexIn y (c .one-each .result)) (sym e) ∙ c .one-each .ensures
-    ∙ sym (found-each (a .parts) (a .m) (looksIn (a .looks .now)) (no-part (c .before .before .before .before)) (omega (arith, bare-count (c .before .before .before .before))) (omega arith))
+    ∙ sym (found-each (a .parts) (a .m) (looksIn (a .looks .now)) (no-part (c .before .before .before .before))
+    (omega (arith, bare-count (c .before .before .before .before))) (omega arith))
 
 pub index-found-spec : {M : Type 1} → statement M
 index-found-spec =
     tie.close
     (tie.spec
-    bare-parts-requires
-    later-requires
-    whole-part-requires
-    returns
-    none-requires
-    returns-2
-    none-requires-2
-    returns-3
-    one-each-requires
+    bare-parts-requires later-requires whole-part-requires returns none-requires returns-2 none-requires-2 returns-3 one-each-requires
     returns-4)

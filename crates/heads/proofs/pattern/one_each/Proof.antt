@@ -18,7 +18,8 @@ use Rattle.heads.proofs.pattern.one_each.Statement.{statement}
 use Rattle.heads.proofs.pattern.one_each.Tie as tie
 
 abbrev Inv-loop : tie.InvT-loop
-Inv-loop looks parts m blocks₀ i₀ blocks i = (i ≤ parts) × (length blocks ≡ maxBursts) × ((x : ℕ) → x < i → indexInPart m (looksIn looks) x ≡ some (getD blocks x 0))
+Inv-loop looks parts m blocks₀ i₀ blocks i = (i ≤ parts) × (length blocks ≡ maxBursts)
+    × ((x : ℕ) → x < i → indexInPart m (looksIn looks) x ≡ some (getD blocks x 0))
 
 abbrev μ-loop : tie.MeasureT-loop
 μ-loop looks parts m blocks₀ i₀ blocks i = parts - i
@@ -35,7 +36,8 @@ later-requires : tie.Need-later-requires Inv-loop μ-loop
 unfolding openBlocks
 later-requires c κs =
     let s = c .before .before .before in
-    candidates-below (c .open-blocks .result) (s .args .m) (λ j. not (row (s .args .m) (looksIn (s .args .looks .now)) (c .before .before .loop .i) j)) (c .open-blocks .ensures) (s .pre .some-blocks)
+    candidates-below (c .open-blocks .result) (s .args .m) (λ j. not (row (s .args .m) (looksIn (s .args .looks .now)) (c .before .before .loop .i) j))
+    (c .open-blocks .ensures) (s .pre .some-blocks)
 
 none-requires : tie.Need-none-requires Inv-loop μ-loop
 none-requires c κs = search needs
@@ -47,16 +49,32 @@ returns c =
     let looks = looksIn (a .looks .now) in
     index-none (a .parts) (c .none .result) (c .none .ensures)
     ∙ sym (collect-none (a .parts) 0 (t .i) (indexInPart (a .m) looks) (omega arith) (omega arith)
-    (in-part-none (a .m) (t .i) (c .before .before .later .result) looks (c .before .before .later .ensures (openBlocks (a .m) looks (t .i)) (c .before .before .before .open-blocks .ensures)) (c .before .if1 .taken)))
+    (in-part-none (a .m) (t .i) (c .before .before .later .result) looks
+    (c .before .before .later .ensures (openBlocks (a .m) looks (t .i)) (c .before .before .before .open-blocks .ensures)) (c .before .if1 .taken)))
 
 mul-blocks : tie.Need-mul-blocks Inv-loop μ-loop
-mul-blocks c = omega (arith, part-fits (c .before .before .before .before .before .args .parts) (c .before .before .before .before .before .args .m) (c .before .before .before .before .loop .i) (c .before .before .before .before .before .pre) (omega arith))
+mul-blocks c =
+    omega (
+      arith,
+      part-fits (c .before .before .before .before .before .args .parts) (c .before .before .before .before .before .args .m)
+          (c .before .before .before .before .loop .i) (c .before .before .before .before .before .pre) (omega arith),
+    )
 
 add-blocks : tie.Need-add-blocks Inv-loop μ-loop
-add-blocks c = omega (arith, part-fits (c .before .before .before .before .before .args .parts) (c .before .before .before .before .before .args .m) (c .before .before .before .before .loop .i) (c .before .before .before .before .before .pre) (omega arith))
+add-blocks c =
+    omega (
+      arith,
+      part-fits (c .before .before .before .before .before .args .parts) (c .before .before .before .before .before .args .m)
+          (c .before .before .before .before .loop .i) (c .before .before .before .before .before .pre) (omega arith),
+    )
 
 cast-blocks : tie.Need-cast-blocks Inv-loop μ-loop
-cast-blocks c = omega (arith, part-fits (c .before .before .before .before .before .args .parts) (c .before .before .before .before .before .args .m) (c .before .before .before .before .loop .i) (c .before .before .before .before .before .pre) (omega arith))
+cast-blocks c =
+    omega (
+      arith,
+      part-fits (c .before .before .before .before .before .args .parts) (c .before .before .before .before .before .args .m)
+          (c .before .before .before .before .loop .i) (c .before .before .before .before .before .pre) (omega arith),
+    )
 
 array-write-blocks : tie.Need-array-write-blocks Inv-loop μ-loop
 array-write-blocks c = omega (arith, c .before .before .before .before .before .pre .few-parts)
@@ -75,7 +93,8 @@ loop-again c =
     let j = c .before .later .result in (
       omega arith,
       simp length-set (t .inv .1),
-      filled-on (λ x v. indexInPart (a .m) looks x ≡ some v) (t .blocks) (t .i) (t .i * a .m + j) (omega (arith, c .before .before .before .before .before .pre .few-parts)) (t .inv .2)
+      filled-on (λ x v. indexInPart (a .m) looks x ≡ some v) (t .blocks) (t .i) (t .i * a .m + j)
+          (omega (arith, c .before .before .before .before .before .pre .few-parts)) (t .inv .2)
           (in-part (a .m) (t .i) j looks (c .before .later .ensures (openBlocks (a .m) looks (t .i)) (c .before .before .open-blocks .ensures)) (omega arith)),
     )
 
@@ -84,25 +103,13 @@ returns-2 c =
     let a = c .before .before .args in
     let t = c .before .loop in
     let f : ℕ → ℕ = λ x. getD (t .blocks) x 0 in
-    index-some (a .parts) (t .blocks) (tabulate (a .parts) 0 f) (take-is (a .parts) 0 (t .blocks) f (omega (arith, c .before .before .pre .few-parts)) (λ x _. ap f (let z : x ≡ 0 + x = omega arith in z)))
+    index-some (a .parts) (t .blocks) (tabulate (a .parts) 0 f)
+    (take-is (a .parts) 0 (t .blocks) f (omega (arith, c .before .before .pre .few-parts)) (λ x _. ap f (let z : x ≡ 0 + x = omega arith in z)))
     ∙ sym (collect-tabulate (a .parts) 0 (indexInPart (a .m) (looksIn (a .looks .now))) f (λ x _ l. t .inv .2 x (omega arith)))
 
 pub one-each-spec : {M : Type 1} → statement M
 one-each-spec =
     tie.close
     (tie.spec
-    Inv-loop
-    μ-loop
-    loop-holds
-    open-blocks-requires
-    later-requires
-    none-requires
-    returns
-    mul-blocks
-    add-blocks
-    cast-blocks
-    array-write-blocks
-    add-i
-    loop-less
-    loop-again
-    returns-2)
+    Inv-loop μ-loop loop-holds open-blocks-requires later-requires none-requires returns mul-blocks add-blocks cast-blocks
+    array-write-blocks add-i loop-less loop-again returns-2)

@@ -54,7 +54,12 @@ loop-again c =
     let a = c .before .before .before .before .before .args in
     let w : ℕ → Bool = λ x. not (row (a .m) (looksIn (a .looks .now)) (a .part) x) in
     ⊎-elim
-    (λ u. (omega arith, refl, u .2 ∙ u .1 .ensures (members (t .j) 0 w) (t .inv .2) ∙ candidates-in (t .j) w (look-open (a .looks .now) (a .part * a .m + t .j) (u .0 .taken))))
+    (λ u. (
+      omega arith,
+      refl,
+      u .2 ∙ u .1 .ensures (members (t .j) 0 w) (t .inv .2)
+          ∙ candidates-in (t .j) w (look-open (a .looks .now) (a .part * a .m + t .j) (u .0 .taken)),
+    ))
     (λ u. (omega arith, refl, u .1 ∙ candidates-out (t .shown) (t .j) w (t .inv .2) (look-fixed (a .looks .now) (a .part * a .m + t .j) (u .0 .left))))
     (c .if1 .came)
 
@@ -70,15 +75,4 @@ pub open-blocks-spec : {M : Type 1} → statement M
 open-blocks-spec =
     tie.close
     (tie.spec
-    Inv-loop
-    μ-loop
-    mul-from
-    none-requires
-    loop-holds
-    add-if1
-    element-copy-out-if1
-    with-next-requires
-    add-j
-    loop-less
-    loop-again
-    returns)
+    Inv-loop μ-loop mul-from none-requires loop-holds add-if1 element-copy-out-if1 with-next-requires add-j loop-less loop-again returns)

@@ -41,27 +41,23 @@ loop-less c = search needs
 loop-again : tie.Need-loop-again Inv-loop μ-loop
 loop-again c =
     let t = c .before .loop in
-    let a = c .before .before .args in
-    (omega arith, refl, simp length-set (t .inv .2), filled-on (λ x v. v ≡ a .part * a .m + x) (t .blocks) (t .j) (a .part * a .m + t .j) (omega arith) (t .inv .3) refl)
+    let a = c .before .before .args in (
+      omega arith,
+      refl,
+      simp length-set (t .inv .2),
+      filled-on (λ x v. v ≡ a .part * a .m + x) (t .blocks) (t .j) (a .part * a .m + t .j) (omega arith)
+          (t .inv .3) refl,
+    )
 
 returns : tie.Need-returns Inv-loop μ-loop
 returns c =
     let t = c .before .loop in
     let a = c .before .before .args in
-    index-some (a .m) (t .blocks) (consecutive (a .m) (a .part * a .m)) (take-is (a .m) (a .part * a .m) (t .blocks) (λ x. x) (omega arith) (λ x l. t .inv .3 x (omega arith)))
+    index-some (a .m) (t .blocks) (consecutive (a .m) (a .part * a .m))
+    (take-is (a .m) (a .part * a .m) (t .blocks) (λ x. x) (omega arith) (λ x l. t .inv .3 x (omega arith)))
 
 pub whole-part-spec : {M : Type 1} → statement M
 whole-part-spec =
     tie.close
     (tie.spec
-    Inv-loop
-    μ-loop
-    mul-from
-    loop-holds
-    add-blocks
-    cast-blocks
-    array-write-blocks
-    add-j
-    loop-less
-    loop-again
-    returns)
+    Inv-loop μ-loop mul-from loop-holds add-blocks cast-blocks array-write-blocks add-j loop-less loop-again returns)

@@ -29,7 +29,8 @@ module _ (s : tie.Start Inv-loop μ-loop) (j : ℕ) (l : j < s .args .layout .m)
   is-block : block < s .args .layout .parts * s .args .layout .m
   is-block = block-in (s .args .layout) (s .pre .0 .finding .layout) (s .pre .0 .within j l)
 
-  head-within : blockHead (s .args .layout .n) (s .args .layout .parts) (s .args .layout .m) block + suc (s .args .layout .«index_tail») ≤ length (s .args .word .now)
+  head-within : blockHead (s .args .layout .n) (s .args .layout .parts) (s .args .layout .m) block + suc (s .args .layout .«index_tail») ≤ length
+      (s .args .word .now)
   head-within = omega (arith, head-room (s .args .layout) (s .pre .0 .finding .layout) block is-block, s .pre .0 .finding .complete)
 
   -- its first r + 1 symbols, lent as a part of the word
@@ -39,10 +40,12 @@ module _ (s : tie.Start Inv-loop μ-loop) (j : ℕ) (l : j < s .args .layout .m)
 
     part-size : length part ≡ suc (s .args .layout .«index_tail»)
     part-size =
-        length-take-le (at + s .args .layout .«index_tail» + 1 - at) (drop at (s .args .word .now)) (omega (arith, e, head-within, length-drop at (s .args .word .now)))
+        length-take-le (at + s .args .layout .«index_tail» + 1 - at) (drop at (s .args .word .now))
+        (omega (arith, e, head-within, length-drop at (s .args .word .now)))
         ∙ omega arith
 
-    part-cells : (i : ℕ) → i < suc (s .args .layout .«index_tail») → getD part i 0 ≡ getD (s .args .word .now) (headOf (figuresOf (s .args .layout)) block + i) 0
+    part-cells : (i : ℕ) → i < suc (s .args .layout .«index_tail»)
+        → getD part i 0 ≡ getD (s .args .word .now) (headOf (figuresOf (s .args .layout)) block + i) 0
     part-cells i b =
         let h = s .pre .0 .finding .layout in
         let is : at ≡ headOf (figuresOf (s .args .layout)) block = e ∙ head-is (s .args .layout) h block in
@@ -56,7 +59,8 @@ loop-holds : tie.Need-loop-holds Inv-loop μ-loop
 loop-holds c = let s = c .before in (omega arith, tested-none (s .args .layout .«index_tail») (figuresOf (s .args .layout)) (s .args .word .now) (s .args .t4))
 
 array-read-number : tie.Need-array-read-number Inv-loop μ-loop
-array-read-number c = omega (arith, bound (c .before .before .before .before .args .layout) (c .before .before .before .before .pre .0 .finding .layout) .m-most)
+array-read-number c =
+    omega (arith, bound (c .before .before .before .before .args .layout) (c .before .before .before .before .pre .0 .finding .layout) .m-most)
 
 cast-block-head : tie.Need-cast-block-head Inv-loop μ-loop
 cast-block-head c =
@@ -99,8 +103,10 @@ returns c =
     let t = c .before .before .before .before .before .before .before .loop in
     let l = c .before .before .before .before .before .if1 .taken in
     let h = c .before .before .before .before .block-head in
-    sym (tested-fails (s .args .layout .«index_tail») (figuresOf (s .args .layout)) (s .args .word .now) (s .args .t4) (t .j) (part s (t .j) l (h .result) (h .ensures)) l (enough s (t .j) l (h .result) (h .ensures))
-    (part-size s (t .j) l (h .result) (h .ensures)) (part-cells s (t .j) l (h .result) (h .ensures)) (sym (c .before .all-below .ensures) ∙ not-true _ (c .if2 .taken)) (t .inv .1))
+    sym (tested-fails (s .args .layout .«index_tail») (figuresOf (s .args .layout)) (s .args .word .now) (s .args .t4) (t .j)
+    (part s (t .j) l (h .result) (h .ensures)) l (enough s (t .j) l (h .result) (h .ensures))
+    (part-size s (t .j) l (h .result) (h .ensures)) (part-cells s (t .j) l (h .result) (h .ensures))
+    (sym (c .before .all-below .ensures) ∙ not-true _ (c .if2 .taken)) (t .inv .1))
 
 add-j : tie.Need-add-j Inv-loop μ-loop
 add-j c =
@@ -117,8 +123,10 @@ loop-again c =
     let l = c .before .before .before .before .before .if1 .taken in
     let h = c .before .before .before .before .block-head in (
       omega arith,
-      tested-on (s .args .layout .«index_tail») (figuresOf (s .args .layout)) (s .args .word .now) (s .args .t4) (t .j) (part s (t .j) l (h .result) (h .ensures)) l (enough s (t .j) l (h .result) (h .ensures))
-          (part-size s (t .j) l (h .result) (h .ensures)) (part-cells s (t .j) l (h .result) (h .ensures)) (sym (c .before .all-below .ensures) ∙ not-false _ (c .if2 .left)) (t .inv .1),
+      tested-on (s .args .layout .«index_tail») (figuresOf (s .args .layout)) (s .args .word .now) (s .args .t4) (t .j)
+          (part s (t .j) l (h .result) (h .ensures)) l (enough s (t .j) l (h .result) (h .ensures))
+          (part-size s (t .j) l (h .result) (h .ensures)) (part-cells s (t .j) l (h .result) (h .ensures))
+          (sym (c .before .all-below .ensures) ∙ not-false _ (c .if2 .left)) (t .inv .1),
     )
 
 returns-2 : tie.Need-returns-2 Inv-loop μ-loop
@@ -131,20 +139,5 @@ pub heads-below-spec : {M : Type 1} → statement M
 heads-below-spec =
     tie.close
     (tie.spec
-    Inv-loop
-    μ-loop
-    loop-holds
-    array-read-number
-    cast-block-head
-    block-head-requires
-    add-end
-    add-end-2
-    sub-all-below
-    part-all-below-start
-    part-all-below-end
-    all-below-requires
-    returns
-    add-j
-    loop-less
-    loop-again
-    returns-2)
+    Inv-loop μ-loop loop-holds array-read-number cast-block-head block-head-requires add-end add-end-2 sub-all-below part-all-below-start
+    part-all-below-end all-below-requires returns add-j loop-less loop-again returns-2)

@@ -53,7 +53,8 @@ returns c =
     let ds = take (a .tail + 1 - 1) (drop 1 w) in
     let size : length ds ≡ a .tail = length-take-le (a .tail + 1 - 1) (drop 1 w) (omega (arith, length-drop 1 w, s .pre .room)) ∙ n in
     let at : (i : ℕ) → i < a .tail → getD ds i 0 ≡ getD w (suc i) 0 =
-    λ i l. getD-take (a .tail + 1 - 1) (drop 1 w) i 0 (omega arith) ∙ getD-drop 1 w i 0 ∙ ap (λ (y : ℕ). getD w y 0) (let e : 1 + i ≡ suc i = omega arith in e) in
+    λ i l. getD-take (a .tail + 1 - 1) (drop 1 w) i 0 (omega arith) ∙ getD-drop 1 w i 0
+    ∙ ap (λ (y : ℕ). getD w y 0) (let e : 1 + i ≡ suc i = omega arith in e) in
     c .with-digits .ensures
     ∙ ap (λ (v : ℕ). min (v * span (a .q) (plainPlaces ds) + value (a .q) (plainPlaces ds) ds) (a .cap)) (c .before .before .with-digit .ensures)
     ∙ block-digits (a .q) (a .tail) (a .cap) (a .high) (s .pre .alphabet) w ds size at (s .pre .room)
@@ -62,14 +63,5 @@ pub with-block-spec : {M : Type 1} → statement M
 with-block-spec =
     tie.close
     (tie.spec
-    shared-slice-read-lead
-    cast-lead
-    sub-with-digit
-    sub-with-digit-2
-    with-digit-requires
-    add-with-digits
-    sub-with-digits
-    part-with-digits-start
-    part-with-digits-end
-    with-digits-requires
-    returns)
+    shared-slice-read-lead cast-lead sub-with-digit sub-with-digit-2 with-digit-requires add-with-digits sub-with-digits
+    part-with-digits-start part-with-digits-end with-digits-requires returns)

@@ -52,13 +52,4 @@ pub with-digits-spec : {M : Type 1} → statement M
 with-digits-spec =
     tie.close
     (tie.spec
-    Inv-loop
-    μ-loop
-    loop-holds
-    shared-slice-read-digit
-    cast-digit
-    with-digit-requires
-    add-i
-    loop-less
-    loop-again
-    returns)
+    Inv-loop μ-loop loop-holds shared-slice-read-digit cast-digit with-digit-requires add-i loop-less loop-again returns)

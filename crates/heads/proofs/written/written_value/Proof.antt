@@ -13,7 +13,8 @@ use Rattle.heads.proofs.written.written_value.Statement.{statement}
 use Rattle.heads.proofs.written.written_value.Tie as tie
 
 abbrev Inv-loop : tie.InvT-loop
-Inv-loop layout heads word blocks cap value₀ j₀ value j = (j ≤ layout .m) × (cap ≡ layout .«placement_count») × Summed (layout .«index_tail») (figuresOf layout) word blocks cap j value
+Inv-loop layout heads word blocks cap value₀ j₀ value j = (j ≤ layout .m) × (cap ≡ layout .«placement_count»)
+    × Summed (layout .«index_tail») (figuresOf layout) word blocks cap j value
 
 abbrev μ-loop : tie.MeasureT-loop
 μ-loop layout heads word blocks cap value₀ j₀ value j = layout .m - j
@@ -21,8 +22,12 @@ abbrev μ-loop : tie.MeasureT-loop
 loop-holds : tie.Need-loop-holds Inv-loop μ-loop
 loop-holds c =
     let s = c .before in
-    let l = s .args .layout in
-    (omega arith, refl, summed-none (l .«index_tail») (figuresOf l) (s .args .word .now) (s .args .t4) (l .«placement_count») (bound l (s .pre .0 .finding .layout) .q-least))
+    let l = s .args .layout in (
+      omega arith,
+      refl,
+      summed-none (l .«index_tail») (figuresOf l) (s .args .word .now) (s .args .t4) (l .«placement_count»)
+          (bound l (s .pre .0 .finding .layout) .q-least),
+    )
 
 array-read-block : tie.Need-array-read-block Inv-loop μ-loop
 array-read-block c = omega (arith, bound (c .before .before .before .before .args .layout) (c .before .before .before .before .pre .0 .finding .layout) .m-most)
@@ -47,14 +52,24 @@ sub-with-block c =
     let s = c .before .before .before .before .before in
     let l = s .args .layout in
     let h = s .pre .0 .finding .layout in
-    omega (arith, c .block-head .ensures, head-room l h (getD (s .args .t4) (c .before .before .before .loop .j) 0) (block-in l h (s .pre .0 .within (c .before .before .before .loop .j) (omega arith))))
+    omega (
+      arith,
+      c .block-head .ensures,
+      head-room l h (getD (s .args .t4) (c .before .before .before .loop .j) 0)
+          (block-in l h (s .pre .0 .within (c .before .before .before .loop .j) (omega arith))),
+    )
 
 part-with-block-start : tie.Need-part-with-block-start Inv-loop μ-loop
 part-with-block-start c =
     let s = c .before .before .before .before .before in
     let l = s .args .layout in
     let h = s .pre .0 .finding .layout in
-    omega (arith, c .block-head .ensures, head-room l h (getD (s .args .t4) (c .before .before .before .loop .j) 0) (block-in l h (s .pre .0 .within (c .before .before .before .loop .j) (omega arith))))
+    omega (
+      arith,
+      c .block-head .ensures,
+      head-room l h (getD (s .args .t4) (c .before .before .before .loop .j) 0)
+          (block-in l h (s .pre .0 .within (c .before .before .before .loop .j) (omega arith))),
+    )
 
 part-with-block-end : tie.Need-part-with-block-end Inv-loop μ-loop
 part-with-block-end c = search needs
@@ -75,7 +90,12 @@ with-block-requires c κs =
     }
 
 add-j : tie.Need-add-j Inv-loop μ-loop
-add-j c = omega (arith, bound (c .before .before .before .before .before .before .before .args .layout) (c .before .before .before .before .before .before .before .pre .0 .finding .layout) .m-most)
+add-j c =
+    omega (
+      arith,
+      bound (c .before .before .before .before .before .before .before .args .layout)
+          (c .before .before .before .before .before .before .before .pre .0 .finding .layout) .m-most,
+    )
 
 loop-less : tie.Need-loop-less Inv-loop μ-loop
 loop-less c = search needs
@@ -93,7 +113,8 @@ loop-again c =
       omega arith,
       refl,
       rw (c .with-block .ensures)
-          (summed-on (l .«index_tail») (figuresOf l) w (s .args .t4) (l .«placement_count») (bound l h .q-least) (t .j) (t .value) (take (length w - at) (drop at w))
+          (summed-on (l .«index_tail») (figuresOf l) w (s .args .t4) (l .«placement_count») (bound l h .q-least) (t .j) (t .value)
+          (take (length w - at) (drop at w))
           (omega arith) (omega (arith, bound l h .m-most)) (λ i _. part-at at w i ∙ ap (λ (y : ℕ). getD w (y + i) 0) e) (t .inv .2)),
     )
 
@@ -102,23 +123,12 @@ returns c =
     let s = c .before .before .before .before in
     let t = c .before .before .loop in
     let l = s .args .layout in
-    summed-all (l .«index_tail») (figuresOf l) (s .args .word .now) (s .args .t4) (l .«placement_count») (bound l (s .pre .0 .finding .layout) .q-least) (t .j) (t .value) (omega arith) (t .inv .2)
+    summed-all (l .«index_tail») (figuresOf l) (s .args .word .now) (s .args .t4) (l .«placement_count») (bound l (s .pre .0 .finding .layout) .q-least)
+    (t .j) (t .value) (omega arith) (t .inv .2)
 
 pub written-value-spec : {M : Type 1} → statement M
 written-value-spec =
     tie.close
     (tie.spec
-    Inv-loop
-    μ-loop
-    loop-holds
-    array-read-block
-    cast-block
-    block-head-requires
-    sub-with-block
-    part-with-block-start
-    part-with-block-end
-    with-block-requires
-    add-j
-    loop-less
-    loop-again
-    returns)
+    Inv-loop μ-loop loop-holds array-read-block cast-block block-head-requires sub-with-block part-with-block-start part-with-block-end
+    with-block-requires add-j loop-less loop-again returns)

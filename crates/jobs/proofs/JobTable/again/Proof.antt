@@ -40,10 +40,4 @@ pub again-spec : {M : Type 1} → statement M
 again-spec =
     tie.close
     (tie.spec
-    enum-told
-    enum-known-entry
-    enum-known-entry-2
-    enum-known-entry-3
-    find-requires
-    returns
-    returns-2)
+    enum-told enum-known-entry enum-known-entry-2 enum-known-entry-3 find-requires returns returns-2)

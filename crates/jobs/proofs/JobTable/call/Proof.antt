@@ -38,11 +38,4 @@ pub call-spec : {M : Type 1} → statement M
 call-spec =
     tie.close
     (tie.spec
-    open-requires
-    cancel-requires
-    finish-requires
-    refuse-requires
-    returns
-    returns-2
-    returns-3
-    returns-4)
+    open-requires cancel-requires finish-requires refuse-requires returns returns-2 returns-3 returns-4)

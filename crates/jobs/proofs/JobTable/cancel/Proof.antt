@@ -95,22 +95,5 @@ pub cancel-spec : {M : Type 1} → statement M
 cancel-spec =
     tie.close
     (tie.spec
-    twice-requires
-    refuse-requires
-    returns
-    lookup-requires
-    enum-told
-    refuse-requires-2
-    enum-told-2
-    put-requires
-    enum-told-3
-    put-requires-2
-    enum-told-4
-    is-job-requires
-    refuse-requires-3
-    returns-2
-    put-requires-3
-    returns-3
-    returns-4
-    returns-5
-    returns-6)
+    twice-requires refuse-requires returns lookup-requires enum-told refuse-requires-2 enum-told-2 put-requires enum-told-3 put-requires-2
+    enum-told-4 is-job-requires refuse-requires-3 returns-2 put-requires-3 returns-3 returns-4 returns-5 returns-6)

@@ -42,11 +42,4 @@ pub list-call-spec : {M : Type 1} → statement M
 list-call-spec =
     tie.close
     (tie.spec
-    reinstate-requires
-    hold-requires
-    release-requires
-    call-requires
-    returns
-    returns-2
-    returns-3
-    returns-4)
+    reinstate-requires hold-requires release-requires call-requires returns returns-2 returns-3 returns-4)

@@ -90,22 +90,5 @@ pub open-spec : {M : Type 1} → statement M
 open-spec =
     tie.close
     (tie.spec
-    twice-requires
-    refuse-requires
-    returns
-    is-job-requires
-    refuse-requires-2
-    returns-2
-    lookup-requires
-    enum-told
-    refuse-requires-3
-    enum-told-2
-    refuse-requires-4
-    enum-told-3
-    refuse-requires-5
-    enum-told-4
-    put-requires
-    returns-3
-    returns-4
-    returns-5
-    returns-6)
+    twice-requires refuse-requires returns is-job-requires refuse-requires-2 returns-2 lookup-requires enum-told refuse-requires-3
+    enum-told-2 refuse-requires-4 enum-told-3 refuse-requires-5 enum-told-4 put-requires returns-3 returns-4 returns-5 returns-6)

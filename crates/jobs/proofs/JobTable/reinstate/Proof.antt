@@ -73,20 +73,5 @@ pub reinstate-spec : {M : Type 1} → statement M
 reinstate-spec =
     tie.close
     (tie.spec
-    twice-requires
-    refuse-requires
-    returns
-    lookup-requires
-    enum-known-entry
-    restored-requires
-    put-requires
-    enum-told
-    refuse-requires-2
-    enum-told-2
-    refuse-requires-3
-    enum-told-3
-    refuse-requires-4
-    returns-2
-    returns-3
-    returns-4
-    returns-5)
+    twice-requires refuse-requires returns lookup-requires enum-known-entry restored-requires put-requires enum-told refuse-requires-2
+    enum-told-2 refuse-requires-3 enum-told-3 refuse-requires-4 returns-2 returns-3 returns-4 returns-5)

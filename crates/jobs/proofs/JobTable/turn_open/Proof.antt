@@ -70,19 +70,5 @@ pub turn-open-spec : {M : Type 1} → statement M
 turn-open-spec =
     tie.close
     (tie.spec
-    twice-requires
-    refuse-requires
-    returns
-    lookup-requires
-    enum-told
-    refuse-requires-2
-    enum-told-2
-    refuse-requires-3
-    enum-told-3
-    put-requires
-    enum-told-4
-    refuse-requires-4
-    returns-2
-    returns-3
-    returns-4
-    returns-5)
+    twice-requires refuse-requires returns lookup-requires enum-told refuse-requires-2 enum-told-2 refuse-requires-3 enum-told-3
+    put-requires enum-told-4 refuse-requires-4 returns-2 returns-3 returns-4 returns-5)

@@ -48,14 +48,16 @@ add-again-marked c = omega (arith, c .before .before .before .loop .inv .within)
 slice-read-again-marked : tie.Need-slice-read-again-marked Inv-loop μ-loop
 slice-read-again-marked c =
     let l = c .before .before .before .before in
-    mark-within (entries (l .before .before .args .t1)) (l .loop .marks) (l .loop .i) (l .loop .inv) (entryBefore (l .before .before .args .t1) (l .loop .i)) (c .before .mark-of .result) (c .before .mark-of .ensures)
+    mark-within (entries (l .before .before .args .t1)) (l .loop .marks) (l .loop .i) (l .loop .inv)
+    (entryBefore (l .before .before .args .t1) (l .loop .i)) (c .before .mark-of .result) (c .before .mark-of .ensures)
 
 again-marked-requires : tie.Need-again-marked-requires Inv-loop μ-loop
 again-marked-requires c κs =
     let l = c .before .before .before .before in
     let t = l .before .before .args .t1 in
     let long : length (t .slots) ≡ slotCount = search (needs, length-mapped) in
-    unmarked (entries t) (l .loop .marks) (l .loop .i - 1 + 1) (step-back t long (l .loop .marks) (l .loop .i) (omega arith) (l .loop .inv)) (entryBefore t (l .loop .i)) (c .before .mark-of .result) (c .before .mark-of .ensures)
+    unmarked (entries t) (l .loop .marks) (l .loop .i - 1 + 1) (step-back t long (l .loop .marks) (l .loop .i) (omega arith) (l .loop .inv))
+    (entryBefore t (l .loop .i)) (c .before .mark-of .result) (c .before .mark-of .ensures)
 
 same-length : tie.Need-same-length Inv-loop μ-loop
 same-length c = search needs
@@ -65,14 +67,16 @@ returns c =
     let l = c .before .before .before .before .before .before in
     let t = l .before .before .args .t1 in
     let long : length (t .slots) ≡ slotCount = search (needs, length-mapped) in
-    sym (marks-found t long (l .loop .marks) (l .loop .i - 1) _ (omega (arith, l .loop .inv .within)) (step-back t long (l .loop .marks) (l .loop .i) (omega arith) (l .loop .inv))
+    sym (marks-found t long (l .loop .marks) (l .loop .i - 1) _ (omega (arith, l .loop .inv .within))
+    (step-back t long (l .loop .marks) (l .loop .i) (omega arith) (l .loop .inv))
     (sym (c .before .again-marked .ensures) ∙ c .if1 .taken))
 
 slice-write-marks : tie.Need-slice-write-marks Inv-loop μ-loop
 slice-write-marks c =
     let l = c .before .before .before .before .before .before in
     let m = c .before .before .before .mark-of in
-    mark-within (entries (l .before .before .args .t1)) (l .loop .marks) (l .loop .i) (l .loop .inv) (entryBefore (l .before .before .args .t1) (l .loop .i)) (m .result) (m .ensures)
+    mark-within (entries (l .before .before .args .t1)) (l .loop .marks) (l .loop .i) (l .loop .inv)
+    (entryBefore (l .before .before .args .t1) (l .loop .i)) (m .result) (m .ensures)
 
 loop-less : tie.Need-loop-less Inv-loop μ-loop
 loop-less c = search needs
@@ -83,7 +87,8 @@ loop-again c =
     let t = l .before .before .args .t1 in
     let long : length (t .slots) ≡ slotCount = search (needs, length-mapped) in
     let m = c .before .before .before .mark-of in
-    marks-next t long (l .loop .marks) (l .loop .i - 1) _ (omega (arith, l .loop .inv .within)) (step-back t long (l .loop .marks) (l .loop .i) (omega arith) (l .loop .inv))
+    marks-next t long (l .loop .marks) (l .loop .i - 1) _ (omega (arith, l .loop .inv .within))
+    (step-back t long (l .loop .marks) (l .loop .i) (omega arith) (l .loop .inv))
     (m .result) (m .ensures) (sym (c .before .again-marked .ensures) ∙ c .if1 .left)
 
 same-length-2 : tie.Need-same-length-2 Inv-loop μ-loop
@@ -98,20 +103,5 @@ pub twice-by-spec : {M : Type 1} → statement M
 twice-by-spec =
     tie.close
     (tie.spec
-    Inv-loop
-    μ-loop
-    loop-holds
-    sub-i
-    mul-slot
-    element-copy-out-slot
-    mark-of-requires
-    add-again-marked
-    slice-read-again-marked
-    again-marked-requires
-    same-length
-    returns
-    slice-write-marks
-    loop-less
-    loop-again
-    same-length-2
-    returns-2)
+    Inv-loop μ-loop loop-holds sub-i mul-slot element-copy-out-slot mark-of-requires add-again-marked slice-read-again-marked
+    again-marked-requires same-length returns slice-write-marks loop-less loop-again same-length-2 returns-2)

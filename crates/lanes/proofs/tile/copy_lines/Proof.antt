@@ -143,24 +143,6 @@ pub copy-lines-spec : {M : Type 1} → statement M
 copy-lines-spec =
     tie.close
     (tie.spec
-    Inv-loop
-    μ-loop
-    loop-holds
-    mul-start
-    add-start
-    mul-source
-    add-source
-    add-copy-prefix
-    sub-copy-prefix
-    part-copy-prefix-start
-    part-copy-prefix-end
-    add-copy-prefix-2
-    sub-copy-prefix-2
-    part-copy-prefix-start-2
-    part-copy-prefix-end-2
-    copy-prefix-requires
-    add-k
-    loop-less
-    loop-again
-    same-length
-    returns)
+    Inv-loop μ-loop loop-holds mul-start add-start mul-source add-source add-copy-prefix sub-copy-prefix part-copy-prefix-start
+    part-copy-prefix-end add-copy-prefix-2 sub-copy-prefix-2 part-copy-prefix-start-2 part-copy-prefix-end-2 copy-prefix-requires add-k
+    loop-less loop-again same-length returns)

@@ -91,7 +91,8 @@ same-length-3 c = search needs
 
 returns : tie.Need-returns
 returns c =
-    let s = c .before .before .before .before .before .before .before .before .before .before .before .before .before .before .before .before .before .before .before .before in
+    let s = c .before .before .before .before .before .before .before .before .before .before .before .before .before .before .before .before .before
+    .before .before .before in
     let a = s .args in
     let taken = c .before .before .before .before .before .before .before .before .before .before .before .before .before .before .copy-lines in
     let turned = c .before .before .before .before .before .before .before .before .before .turn in
@@ -104,14 +105,5 @@ pub move-by-spec : {M : Type 1} → statement M
 move-by-spec =
     tie.close
     (tie.spec
-    mul-copy-lines
-    add-copy-lines
-    copy-lines-requires
-    turn-requires
-    mul-copy-lines-2
-    add-copy-lines-2
-    copy-lines-requires-2
-    same-length
-    same-length-2
-    same-length-3
-    returns)
+    mul-copy-lines add-copy-lines copy-lines-requires turn-requires mul-copy-lines-2 add-copy-lines-2 copy-lines-requires-2 same-length
+    same-length-2 same-length-3 returns)

@@ -65,19 +65,5 @@ pub shuffle-spec : {M : Type 1} → statement M
 shuffle-spec =
     tie.close
     (tie.spec
-    Inv-loop
-    μ-loop
-    loop-holds
-    shared-slice-read-to
-    mul-to
-    slice-write-to
-    add-to
-    shared-slice-read-to-2
-    mul-to-2
-    add-to-2
-    slice-write-to-2
-    add-i
-    loop-less
-    loop-again
-    same-length
-    returns)
+    Inv-loop μ-loop loop-holds shared-slice-read-to mul-to slice-write-to add-to shared-slice-read-to-2 mul-to-2 add-to-2 slice-write-to-2
+    add-i loop-less loop-again same-length returns)

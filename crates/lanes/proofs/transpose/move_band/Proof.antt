@@ -63,13 +63,4 @@ pub move-band-spec : {M : Type 1} → statement M
 move-band-spec =
     tie.close
     (tie.spec
-    Inv-loop
-    μ-loop
-    loop-holds
-    mul-move-tile
-    move-tile-requires
-    add-k
-    loop-less
-    loop-again
-    same-length
-    returns)
+    Inv-loop μ-loop loop-holds mul-move-tile move-tile-requires add-k loop-less loop-again same-length returns)

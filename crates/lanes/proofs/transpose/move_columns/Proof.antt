@@ -57,12 +57,4 @@ pub move-columns-spec : {M : Type 1} → statement M
 move-columns-spec =
     tie.close
     (tie.spec
-    Inv-loop
-    μ-loop
-    loop-holds
-    move-column-requires
-    add-i
-    loop-less
-    loop-again
-    same-length
-    returns)
+    Inv-loop μ-loop loop-holds move-column-requires add-i loop-less loop-again same-length returns)

@@ -88,17 +88,5 @@ pub move-row-spec : {M : Type 1} → statement M
 move-row-spec =
     tie.close
     (tie.spec
-    Inv-loop
-    μ-loop
-    loop-holds
-    mul-to
-    add-to
-    shared-slice-read-to
-    mul-to-2
-    add-to-2
-    slice-write-to
-    add-i
-    loop-less
-    loop-again
-    same-length
+    Inv-loop μ-loop loop-holds mul-to add-to shared-slice-read-to mul-to-2 add-to-2 slice-write-to add-i loop-less loop-again same-length
     returns)

@@ -57,12 +57,4 @@ pub move-rows-spec : {M : Type 1} → statement M
 move-rows-spec =
     tie.close
     (tie.spec
-    Inv-loop
-    μ-loop
-    loop-holds
-    move-row-requires
-    add-j
-    loop-less
-    loop-again
-    same-length
-    returns)
+    Inv-loop μ-loop loop-holds move-row-requires add-j loop-less loop-again same-length returns)

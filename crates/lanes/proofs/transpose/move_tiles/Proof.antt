@@ -62,13 +62,4 @@ pub move-tiles-spec : {M : Type 1} → statement M
 move-tiles-spec =
     tie.close
     (tie.spec
-    Inv-loop
-    μ-loop
-    loop-holds
-    mul-move-band
-    move-band-requires
-    add-k
-    loop-less
-    loop-again
-    same-length
-    returns)
+    Inv-loop μ-loop loop-holds mul-move-band move-band-requires add-k loop-less loop-again same-length returns)

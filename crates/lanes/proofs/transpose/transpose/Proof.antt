@@ -50,11 +50,4 @@ pub transpose-spec : {M : Type 1} → statement M
 transpose-spec =
     tie.close
     (tie.spec
-    move-tiles-requires
-    mul-move-rows
-    mul-move-rows-2
-    move-rows-requires
-    mul-move-columns
-    move-columns-requires
-    same-length
-    returns)
+    move-tiles-requires mul-move-rows mul-move-rows-2 move-rows-requires mul-move-columns move-columns-requires same-length returns)

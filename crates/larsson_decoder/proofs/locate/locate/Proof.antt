@@ -33,7 +33,8 @@ returns c =
     let s = m .before .before in
     let f = larssonFiguresOf (s .args .layout) in
     let w = s .args .word .now in
-    refused-in f w (c .nowhere .result) noMajority (c .nowhere .ensures) (no-majority f w (m .majority-block .ensures .nowhere (omega (arith, c .before .if1 .taken))))
+    refused-in f w (c .nowhere .result) noMajority (c .nowhere .ensures)
+    (no-majority f w (m .majority-block .ensures .nowhere (omega (arith, c .before .if1 .taken))))
 
 value-of-requires : tie.Need-value-of-requires
 value-of-requires c κs =
@@ -52,7 +53,8 @@ returns-2 c =
     let w = s .args .word .now in
     let i = m .majority-block .result in
     refused-in f w (c .nowhere2 .result) valueTooLarge (c .nowhere2 .ensures)
-    (too-large f w (spelledAt f w i) (m .majority-block .ensures .taken (within (v .before))) (omega (arith, v .value-of .ensures, c .before .if2 .taken, s .pre .0 .layout .laid .count-is)))
+    (too-large f w (spelledAt f w i) (m .majority-block .ensures .taken (within (v .before)))
+    (omega (arith, v .value-of .ensures, c .before .if2 .taken, s .pre .0 .layout .laid .count-is)))
 
 locate-rank-requires : tie.Need-locate-rank-requires
 locate-rank-requires c κs =
@@ -81,12 +83,4 @@ pub locate-spec : {M : Type 1} → statement M
 locate-spec =
     tie.close
     (tie.spec
-    majority-block-requires
-    mul-if1
-    nowhere-requires
-    returns
-    value-of-requires
-    nowhere-requires-2
-    returns-2
-    locate-rank-requires
-    returns-3)
+    majority-block-requires mul-if1 nowhere-requires returns value-of-requires nowhere-requires-2 returns-2 locate-rank-requires returns-3)

@@ -91,12 +91,4 @@ pub locate-rank-spec : {M : Type 1} → statement M
 locate-rank-spec =
     tie.close
     (tie.spec
-    cast-unrank
-    cast-unrank-2
-    cast-unrank-3
-    unrank-requires
-    bearers-of-requires
-    agrees-requires
-    nowhere-requires
-    returns
-    returns-2)
+    cast-unrank cast-unrank-2 cast-unrank-3 unrank-requires bearers-of-requires agrees-requires nowhere-requires returns returns-2)

@@ -86,14 +86,5 @@ pub fill-borne-spec : {M : Type 1} → statement M
 fill-borne-spec =
     tie.close
     (tie.spec
-    cast-rank
-    rank-requires
-    spelled-requires
-    add-count
-    starts-of-requires
-    bearers-of-requires
-    array-share-prefix-digits
-    slice-aggregate-fill-digits
-    fill-digits-requires
-    same-length
-    returns)
+    cast-rank rank-requires spelled-requires add-count starts-of-requires bearers-of-requires array-share-prefix-digits
+    slice-aggregate-fill-digits fill-digits-requires same-length returns)

@@ -68,10 +68,4 @@ pub fill-digits-spec : {M : Type 1} → statement M
 fill-digits-spec =
     tie.close
     (tie.spec
-    walk-of-requires
-    sub-fill
-    part-fill-start
-    part-fill-end
-    fill-requires
-    same-length
-    returns)
+    walk-of-requires sub-fill part-fill-start part-fill-end fill-requires same-length returns)

@@ -57,7 +57,13 @@ mul-start : tie.Need-mul-start Inv-loop μ-loop
 mul-start c =
     let s = c .before .before in
     let l = s .before .before .args .layout in
-    omega (arith, start-is l (s .before .before .pre) (s .loop .i), sub-room l (s .before .before .pre) (s .loop .i) (omega (arith, c .before .loop-test .taken)), limits (s .before .before))
+    omega (
+      arith,
+      start-is l (s .before .before .pre) (s .loop .i),
+      sub-room l (s .before .before .pre) (s .loop .i)
+          (omega (arith, c .before .loop-test .taken)),
+      limits (s .before .before),
+    )
 
 piece-start-requires : tie.Need-piece-start-requires Inv-loop μ-loop
 piece-start-requires c κs = (omega (arith, limits (c .before .before .before .before)), omega (arith, c .before .loop-test .taken))
@@ -118,22 +124,5 @@ pub starts-of-spec : {M : Type 1} → statement M
 starts-of-spec =
     tie.close
     (tie.spec
-    Inv-loop
-    μ-loop
-    mul-gaps
-    loop-holds
-    add-loop
-    mul-start
-    piece-start-requires
-    add-start
-    cast-starts
-    mul-starts
-    array-write-starts
-    add-i
-    loop-less
-    loop-again
-    cast-starts-2
-    add-starts
-    mul-starts-2
-    array-write-starts-2
-    returns)
+    Inv-loop μ-loop mul-gaps loop-holds add-loop mul-start piece-start-requires add-start cast-starts mul-starts array-write-starts add-i
+    loop-less loop-again cast-starts-2 add-starts mul-starts-2 array-write-starts-2 returns)

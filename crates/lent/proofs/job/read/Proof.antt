@@ -26,7 +26,8 @@ states-known-requires c κs = search needs
 returns-2 : tie.Need-returns-2
 returns-2 c =
     let a = c .before .before .before .before .before .before .args in
-    read-state (codingOf (a .figures)) (a .table .now) (a .word .now) (a .payload .now) (c .before .before .if1 .left) (sym (c .before .states-known .ensures) ∙ not-true _ (c .if2 .taken))
+    read-state (codingOf (a .figures)) (a .table .now) (a .word .now) (a .payload .now) (c .before .before .if1 .left)
+    (sym (c .before .states-known .ensures) ∙ not-true _ (c .if2 .taken))
 
 table-in-requires : tie.Need-table-in-requires
 table-in-requires c κs = search needs
@@ -41,19 +42,14 @@ returns-3 : tie.Need-returns-3
 returns-3 c =
     let a = c .before .before .before .before .before .before .before .before .before .before .before .args in
     let f = codingOf (a .figures) in
-    all-seen (jobReadUnder f (entries (c .before .before .before .before .table-in .result)) (a .word .now) (a .payload .now)) (c .before .before .job-read .ensures .1) (c .before .before .job-read .ensures .0)
+    all-seen (jobReadUnder f (entries (c .before .before .before .before .table-in .result)) (a .word .now) (a .payload .now))
+    (c .before .before .job-read .ensures .1) (c .before .before .job-read .ensures .0)
     ∙ ap (λ (es : List Entry). jobReadUnder f es (a .word .now) (a .payload .now)) (c .before .before .before .before .table-in .ensures)
-    ∙ read-whole f (a .table .now) (a .word .now) (a .payload .now) (c .before .before .before .before .before .before .before .if1 .left) (sym (c .before .before .before .before .before .before .states-known .ensures) ∙ not-false _ (c .before .before .before .before .before .if2 .left))
+    ∙ read-whole f (a .table .now) (a .word .now) (a .payload .now) (c .before .before .before .before .before .before .before .if1 .left)
+    (sym (c .before .before .before .before .before .before .states-known .ensures) ∙ not-false _ (c .before .before .before .before .before .if2 .left))
 
 pub read-spec : {M : Type 1} → statement M
 read-spec =
     tie.close
     (tie.spec
-    without-table-requires
-    returns
-    states-known-requires
-    returns-2
-    table-in-requires
-    job-read-requires
-    same-length
-    returns-3)
+    without-table-requires returns states-known-requires returns-2 table-in-requires job-read-requires same-length returns-3)

@@ -29,7 +29,8 @@ states-known-requires c κs = search needs
 returns-2 : tie.Need-returns-2
 returns-2 c =
     let a = c .before .before .before .before .before .before .before .args in
-    write-state (a .figures) (a .table .now) (a .starts .now) (a .payload .now) (a .word .now) (c .before .before .if1 .left) (sym (c .before .states-known .ensures) ∙ not-true _ (c .if2 .taken))
+    write-state (a .figures) (a .table .now) (a .starts .now) (a .payload .now) (a .word .now) (c .before .before .if1 .left)
+    (sym (c .before .states-known .ensures) ∙ not-true _ (c .if2 .taken))
 
 placement-under-requires : tie.Need-placement-under-requires
 placement-under-requires c κs = search needs
@@ -48,20 +49,18 @@ returns-3 c =
     let a = c .before .before .before .before .before .before .before .before .before .before .before .before .before .args in
     let f = codingOf (a .figures) in
     let call = c .before .before .job-write in
-    all-told (jobWriteUnder f (entries (c .before .before .before .before .table-in .result)) (heldAs (c .before .before .before .before .before .placement-under .result)) (a .payload .now) (a .word .now)) (call .ensures .1) (call .ensures .0)
-    ∙ ap₂ (λ (es : List Entry) (h : Held). jobWriteUnder f es h (a .payload .now) (a .word .now)) (c .before .before .before .before .table-in .ensures) (c .before .before .before .before .before .placement-under .ensures)
-    ∙ write-whole (a .figures) (a .table .now) (a .starts .now) (a .payload .now) (a .word .now) (c .before .before .before .before .before .before .before .before .if1 .left) (sym (c .before .before .before .before .before .before .before .states-known .ensures) ∙ not-false _ (c .before .before .before .before .before .before .if2 .left))
+    all-told (jobWriteUnder f (entries (c .before .before .before .before .table-in .result))
+    (heldAs (c .before .before .before .before .before .placement-under .result)) (a .payload .now) (a .word .now)) (call .ensures .1) (call .ensures .0)
+    ∙ ap₂ (λ (es : List Entry) (h : Held). jobWriteUnder f es h (a .payload .now) (a .word .now)) (c .before .before .before .before .table-in .ensures)
+    (c .before .before .before .before .before .placement-under .ensures)
+    ∙ write-whole (a .figures) (a .table .now) (a .starts .now) (a .payload .now) (a .word .now)
+    (c .before .before .before .before .before .before .before .before .if1 .left)
+    (sym (c .before .before .before .before .before .before .before .states-known .ensures)
+    ∙ not-false _ (c .before .before .before .before .before .before .if2 .left))
 
 pub write-spec : {M : Type 1} → statement M
 write-spec =
     tie.close
     (tie.spec
-    without-table-requires
-    returns
-    states-known-requires
-    returns-2
-    placement-under-requires
-    table-in-requires
-    job-write-requires
-    same-length
+    without-table-requires returns states-known-requires returns-2 placement-under-requires table-in-requires job-write-requires same-length
     returns-3)

@@ -25,7 +25,8 @@ mul-if1 c = let s = c .before .before .before in omega (arith, room-in (l s) (s 
 returns : tie.Need-returns
 returns c =
     let s = c .before .before .before .before in
-    sym (cover-bytes-length (codingIn (l s)) (s .args .map .now) (s .args .bytes .now) (in-order (l s) (s .pre) .0) (in-order (l s) (s .pre) .1) (λ e. c .if1 .taken (e ∙ sym (twice s))))
+    sym (cover-bytes-length (codingIn (l s)) (s .args .map .now) (s .args .bytes .now) (in-order (l s) (s .pre) .0) (in-order (l s) (s .pre) .1)
+    (λ e. c .if1 .taken (e ∙ sym (twice s))))
 
 cover-fitting-requires : tie.Need-cover-fitting-requires
 cover-fitting-requires c κs = search needs
@@ -52,9 +53,4 @@ pub cover-laid-spec : {M : Type 1} → statement M
 cover-laid-spec =
     tie.close
     (tie.spec
-    mul-if1
-    returns
-    cover-fitting-requires
-    put-covered-requires
-    same-length
-    returns-2)
+    mul-if1 returns cover-fitting-requires put-covered-requires same-length returns-2)

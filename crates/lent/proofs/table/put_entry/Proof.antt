@@ -66,20 +66,6 @@ pub put-entry-spec : {M : Type 1} → statement M
 put-entry-spec =
     tie.close
     (tie.spec
-    enum-told
-    put-slot-requires
-    enum-known-entry
-    put-slot-requires-2
-    enum-known-entry-2
-    put-slot-requires-3
-    enum-known-entry-3
-    cancelled-state-requires
-    put-slot-requires-4
-    same-length
-    returns
-    same-length-2
-    returns-2
-    same-length-3
-    returns-3
-    same-length-4
+    enum-told put-slot-requires enum-known-entry put-slot-requires-2 enum-known-entry-2 put-slot-requires-3 enum-known-entry-3
+    cancelled-state-requires put-slot-requires-4 same-length returns same-length-2 returns-2 same-length-3 returns-3 same-length-4
     returns-4)

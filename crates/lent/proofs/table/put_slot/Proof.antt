@@ -39,10 +39,4 @@ pub put-slot-spec : {M : Type 1} → statement M
 put-slot-spec =
     tie.close
     (tie.spec
-    slice-write-bytes
-    sub-spell-value
-    part-spell-value-start
-    part-spell-value-end
-    spell-value-requires
-    same-length
-    returns)
+    slice-write-bytes sub-spell-value part-spell-value-start part-spell-value-end spell-value-requires same-length returns)

@@ -66,8 +66,11 @@ loop-less c = search needs
 loop-again : tie.Need-loop-again Inv-loop μ-loop
 loop-again c =
     let s = c .before .before .before .before .before .before .before .before in
-    let l = c .before .before .before .before .before .before .loop in
-    (omega arith, put-turn (entries (s .args .t1)) (many s) (l .i) _ (l .bytes) (c .before .before .put-entry .last .1 .0) (omega arith) (l .inv .1) (c .before .before .put-entry .ensures ∙ sym (ap entryBytes (List·getD-map (λ (x : Slot). x .entry) (s .args .t1 .slots) (l .i) _))))
+    let l = c .before .before .before .before .before .before .loop in (
+      omega arith,
+      put-turn (entries (s .args .t1)) (many s) (l .i) _ (l .bytes) (c .before .before .put-entry .last .1 .0) (omega arith) (l .inv .1)
+          (c .before .before .put-entry .ensures ∙ sym (ap entryBytes (List·getD-map (λ (x : Slot). x .entry) (s .args .t1 .slots) (l .i) _))),
+    )
 
 same-length : tie.Need-same-length Inv-loop μ-loop
 same-length c = c .before .loop .inv .1 .size ∙ sym (c .before .before .before .pre)
@@ -82,19 +85,5 @@ pub put-table-spec : {M : Type 1} → statement M
 put-table-spec =
     tie.close
     (tie.spec
-    Inv-loop
-    μ-loop
-    loop-holds
-    mul-slot
-    element-copy-out-slot
-    mul-at
-    add-put-entry
-    sub-put-entry
-    part-put-entry-start
-    part-put-entry-end
-    put-entry-requires
-    add-i
-    loop-less
-    loop-again
-    same-length
-    returns)
+    Inv-loop μ-loop loop-holds mul-slot element-copy-out-slot mul-at add-put-entry sub-put-entry part-put-entry-start part-put-entry-end
+    put-entry-requires add-i loop-less loop-again same-length returns)

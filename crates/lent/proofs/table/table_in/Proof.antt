@@ -64,8 +64,11 @@ loop-less c = search needs
 loop-again : tie.Need-loop-again Inv-loop μ-loop
 loop-again c =
     let bs = c .before .before .before .before .before .before .before .before .args .bytes .now in
-    let l = c .before .before .before .before .before .loop in
-    (omega arith, read-turn bs (l .table) (l .i) (c .entry-of .result) (omega arith) (l .inv .1) (entry-is bs (l .i) (c .before .before .job-number .result) (c .entry-of .result) (c .before .before .job-number .ensures) (c .entry-of .ensures)))
+    let l = c .before .before .before .before .before .loop in (
+      omega arith,
+      read-turn bs (l .table) (l .i) (c .entry-of .result) (omega arith) (l .inv .1)
+          (entry-is bs (l .i) (c .before .before .job-number .result) (c .entry-of .result) (c .before .before .job-number .ensures) (c .entry-of .ensures)),
+    )
 
 returns : tie.Need-returns Inv-loop μ-loop
 returns c =
@@ -76,21 +79,5 @@ pub table-in-spec : {M : Type 1} → statement M
 table-in-spec =
     tie.close
     (tie.spec
-    Inv-loop
-    μ-loop
-    empty-requires
-    loop-holds
-    mul-at
-    add-job-number
-    sub-job-number
-    part-job-number-start
-    part-job-number-end
-    job-number-requires
-    shared-slice-read-entry-of
-    entry-of-requires
-    mul-t8
-    element-set-from-table
-    add-i
-    loop-less
-    loop-again
-    returns)
+    Inv-loop μ-loop empty-requires loop-holds mul-at add-job-number sub-job-number part-job-number-start part-job-number-end
+    job-number-requires shared-slice-read-entry-of entry-of-requires mul-t8 element-set-from-table add-i loop-less loop-again returns)

@@ -44,7 +44,8 @@ payload-len-requires c κs = let known = learnt c in omega (arith, known .2 .alp
 returns : tie.Need-returns
 returns c =
     let known = learnt (c .before .before) in
-    without-payload (d (c .before .before .before .before .before .before)) (known .0) (known .1) (omega (arith, same (c .before .before), c .before .payload-len .ensures))
+    without-payload (d (c .before .before .before .before .before .before)) (known .0) (known .1)
+    (omega (arith, same (c .before .before), c .before .payload-len .ensures))
 
 returns-2 : tie.Need-returns-2
 returns-2 c =
@@ -55,16 +56,11 @@ returns-2 c =
 returns-3 : tie.Need-returns-3
 returns-3 c =
     let known = learnt (c .before .before) in
-    without-length (d (c .before .before .before .before .before .before)) (known .0) (known .1) (omega (arith, same (c .before .before), c .before .payload-len .ensures))
+    without-length (d (c .before .before .before .before .before .before)) (known .0) (known .1)
+    (omega (arith, same (c .before .before), c .before .payload-len .ensures))
 
 pub without-table-spec : {M : Type 1} → statement M
 without-table-spec =
     tie.close
     (tie.spec
-    layout-requires
-    enum-known-answer
-    enum-known-answer-2
-    payload-len-requires
-    returns
-    returns-2
-    returns-3)
+    layout-requires enum-known-answer enum-known-answer-2 payload-len-requires returns returns-2 returns-3)

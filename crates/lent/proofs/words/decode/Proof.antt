@@ -16,7 +16,8 @@ abbrev f : tie.Start → Figures
 f s = s .args .figures
 
 -- the layout that was answered
-learnt : (c : tie.After-answer2) → (codingIn (c .answer2 .given .0 .0) ≡ codingOf (f (c .before .before .before .before .before .before))) × Serves (c .answer2 .given .0 .0)
+learnt : (c : tie.After-answer2) → (codingIn (c .answer2 .given .0 .0) ≡ codingOf (f (c .before .before .before .before .before .before)))
+    × Serves (c .answer2 .given .0 .0)
 learnt c =
     let r = c .before .before .layout in
     serves (f (c .before .before .before .before .before .before)) (r .result) (c .answer2 .given .0 .0) (c .answer2 .given .1) (r .ensures .0) (r .ensures .1)
@@ -38,7 +39,8 @@ returns c =
     let s = c .before .before .before .before .before .before .before in
     let told = c .before .answer .given in
     let r = c .before .before .before .layout in
-    sym (exported-unfit (codingOf (f s)) (s .args .word .now) (s .args .message .now) (s .args .starts .now) (told .0 .0) (sym (r .ensures .0) ∙ ap figuredAs (told .1)))
+    sym (exported-unfit (codingOf (f s)) (s .args .word .now) (s .args .message .now) (s .args .starts .now) (told .0 .0)
+    (sym (r .ensures .0) ∙ ap figuredAs (told .1)))
 
 same-length : tie.Need-same-length
 same-length c = search needs
@@ -49,17 +51,11 @@ same-length-2 c = search needs
 returns-2 : tie.Need-returns-2
 returns-2 c =
     let s = c .before .before .before .before .before .before .before .before .before .before .before .before .before .before in
-    c .before .before .before .before .decode-bytes .ensures ∙ ap (λ (d : Coding). exportedUnder d (s .args .word .now) (s .args .message .now) (s .args .starts .now)) (learnt (c .before .before .before .before .before .before .before .before) .0)
+    c .before .before .before .before .decode-bytes .ensures ∙ ap (λ (d : Coding). exportedUnder d (s .args .word .now) (s .args .message .now)
+    (s .args .starts .now)) (learnt (c .before .before .before .before .before .before .before .before) .0)
 
 pub decode-spec : {M : Type 1} → statement M
 decode-spec =
     tie.close
     (tie.spec
-    layout-requires
-    enum-known-answer
-    enum-known-answer-2
-    decode-bytes-requires
-    returns
-    same-length
-    same-length-2
-    returns-2)
+    layout-requires enum-known-answer enum-known-answer-2 decode-bytes-requires returns same-length same-length-2 returns-2)

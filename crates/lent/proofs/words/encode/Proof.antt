@@ -24,7 +24,8 @@ returns c =
     let a = c .before .before .before .before .before .before .before .before .args in
     let f = codingOf (a .figures) in
     let call = c .before .before .encode in
-    all-told (encodeUnder f (heldAs (c .before .before .before .before .placement-under .result)) (a .message .now) (a .word .now)) (call .ensures .1) (call .ensures .0)
+    all-told (encodeUnder f (heldAs (c .before .before .before .before .placement-under .result)) (a .message .now) (a .word .now)) (call .ensures .1)
+    (call .ensures .0)
     ∙ ap (λ (h : Held). encodeUnder f h (a .message .now) (a .word .now)) (c .before .before .before .before .placement-under .ensures)
     ∙ encode-bytes f (some-bursts (a .figures)) (a .starts .now) (a .message .now) (a .word .now)
 

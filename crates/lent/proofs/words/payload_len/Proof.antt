@@ -56,16 +56,11 @@ returns-2 c =
     let d = codingOf (f (c .before .before .before .before .before)) in
     let l = c .before .before .answer .given .0 .0 in
     c .payload-len .ensures ∙ ap (λ (q : ℕ). payloadLen q (l .«message_len»)) (learnt (c .before) .2 .alphabet-is)
-    ∙ sym (ap (payloadLenIn (d .codec .alphabet)) (sym (c .before .before .before .before .layout .ensures .0) ∙ ap figuredAs (c .before .before .answer .given .1)))
+    ∙ sym (ap (payloadLenIn (d .codec .alphabet)) (sym (c .before .before .before .before .layout .ensures .0)
+    ∙ ap figuredAs (c .before .before .answer .given .1)))
 
 pub payload-len-spec : {M : Type 1} → statement M
 payload-len-spec =
     tie.close
     (tie.spec
-    layout-requires
-    enum-told
-    enum-known-answer
-    payload-len-requires
-    cast-result
-    returns
-    returns-2)
+    layout-requires enum-told enum-known-answer payload-len-requires cast-result returns returns-2)

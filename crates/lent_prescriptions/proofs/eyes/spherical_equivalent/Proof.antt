@@ -37,17 +37,11 @@ returns-3 c =
     let a = c .before .before .before .before .before .before .args in
     let told = c .before .answer2 .given in
     power-put (a .eye) (a .power .now) (c .before .before .before .before .if1 .left) (told .0 .0)
-    ∙ equivalent-lent (a .eye) (a .power .now) (c .before .before .before .before .if1 .left) (sym (ap powerAnswered (told .1)) ∙ c .before .before .before .spherical-equivalent .ensures)
+    ∙ equivalent-lent (a .eye) (a .power .now) (c .before .before .before .before .if1 .left)
+    (sym (ap powerAnswered (told .1)) ∙ c .before .before .before .spherical-equivalent .ensures)
 
 pub spherical-equivalent-spec : {M : Type 1} → statement M
 spherical-equivalent-spec =
     tie.close
     (tie.spec
-    returns
-    spherical-equivalent-requires
-    enum-known-answer
-    enum-known-answer-2
-    slice-write-power
-    returns-2
-    same-length
-    returns-3)
+    returns spherical-equivalent-requires enum-known-answer enum-known-answer-2 slice-write-power returns-2 same-length returns-3)

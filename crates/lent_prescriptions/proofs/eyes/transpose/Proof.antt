@@ -54,7 +54,8 @@ slice-write-powers-2 c = simp length-set (omega arith)
 returns-3 : tie.Need-returns-3
 returns-3 c =
     let a = c .before .before .before .before .before .before .before .before .args in
-    transpose-lent (a .eye) (a .marks .now) (a .powers .now) (c .before .before .before .before .before .if1 .left) (c .before .before .before .before .if2 .left)
+    transpose-lent (a .eye) (a .marks .now) (a .powers .now) (c .before .before .before .before .before .if1 .left)
+    (c .before .before .before .before .if2 .left)
     (sym (ap eyeAnswered (c .before .answer .given .1)) ∙ c .before .before .before .transpose .ensures .0)
 
 same-length : tie.Need-same-length
@@ -69,28 +70,16 @@ returns-4 c =
     let marks = c .before .before .before .before .before .before .before .before .before .if1 .left in
     let powers = c .before .before .before .before .before .before .before .before .if2 .left in
     let told = c .before .before .before .before .before .answer2 .given in
-    eye-put (a .eye) (a .marks .now) (a .powers .now) marks powers (told .0 .0) (c .before .before .before .kind-of .ensures) (c .before .before .axis-of .ensures)
+    eye-put (a .eye) (a .marks .now) (a .powers .now) marks powers (told .0 .0) (c .before .before .before .kind-of .ensures)
+    (c .before .before .axis-of .ensures)
     (c .before .sphere-of .ensures) (c .cylinder-of .ensures)
-    ∙ transpose-lent (a .eye) (a .marks .now) (a .powers .now) marks powers (sym (ap eyeAnswered (told .1)) ∙ c .before .before .before .before .before .before .before .transpose .ensures .0)
+    ∙ transpose-lent (a .eye) (a .marks .now) (a .powers .now) marks powers
+    (sym (ap eyeAnswered (told .1)) ∙ c .before .before .before .before .before .before .before .transpose .ensures .0)
 
 pub transpose-spec : {M : Type 1} → statement M
 transpose-spec =
     tie.close
     (tie.spec
-    returns
-    returns-2
-    transpose-requires
-    enum-known-answer
-    enum-known-answer-2
-    kind-of-requires
-    slice-write-marks
-    axis-of-requires
-    slice-write-marks-2
-    sphere-of-requires
-    slice-write-powers
-    cylinder-of-requires
-    slice-write-powers-2
-    returns-3
-    same-length
-    same-length-2
+    returns returns-2 transpose-requires enum-known-answer enum-known-answer-2 kind-of-requires slice-write-marks axis-of-requires
+    slice-write-marks-2 sphere-of-requires slice-write-powers cylinder-of-requires slice-write-powers-2 returns-3 same-length same-length-2
     returns-4)

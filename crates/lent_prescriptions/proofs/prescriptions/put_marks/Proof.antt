@@ -27,7 +27,11 @@ axis-of-requires c κs = search needs
 slice-write-marks-2 : tie.Need-slice-write-marks-2
 slice-write-marks-2 c =
     let s = c .before .before .before .before .before .before .before in
-    simp (length-set, all-long (s .args .marks .now) (s .pre) (s .args .number) (c .before .before .before .before .spell-value .last .1 .1 .0) (c .before .before .before .before .spell-value .ensures)) (omega arith)
+    simp (
+      length-set,
+      all-long (s .args .marks .now) (s .pre) (s .args .number) (c .before .before .before .before .spell-value .last .1 .1 .0)
+          (c .before .before .before .before .spell-value .ensures),
+    ) (omega arith)
 
 kind-of-requires-2 : tie.Need-kind-of-requires-2
 kind-of-requires-2 c κs = search needs
@@ -35,7 +39,11 @@ kind-of-requires-2 c κs = search needs
 slice-write-marks-3 : tie.Need-slice-write-marks-3
 slice-write-marks-3 c =
     let s = c .before .before .before .before .before .before .before .before in
-    simp (length-set, all-long (s .args .marks .now) (s .pre) (s .args .number) (c .before .before .before .before .before .spell-value .last .1 .1 .0) (c .before .before .before .before .before .spell-value .ensures)) (omega arith)
+    simp (
+      length-set,
+      all-long (s .args .marks .now) (s .pre) (s .args .number) (c .before .before .before .before .before .spell-value .last .1 .1 .0)
+          (c .before .before .before .before .before .spell-value .ensures),
+    ) (omega arith)
 
 axis-of-requires-2 : tie.Need-axis-of-requires-2
 axis-of-requires-2 c κs = search needs
@@ -43,7 +51,12 @@ axis-of-requires-2 c κs = search needs
 slice-write-marks-4 : tie.Need-slice-write-marks-4
 slice-write-marks-4 c =
     let s = c .before .before .before .before .before .before .before .before .before in
-    simp (length-set, all-long (s .args .marks .now) (s .pre) (s .args .number) (c .before .before .before .before .before .before .spell-value .last .1 .1 .0) (c .before .before .before .before .before .before .spell-value .ensures)) (omega arith)
+    simp (
+      length-set,
+      all-long (s .args .marks .now) (s .pre) (s .args .number)
+          (c .before .before .before .before .before .before .spell-value .last .1 .1 .0)
+          (c .before .before .before .before .before .before .spell-value .ensures),
+    ) (omega arith)
 
 same-length : tie.Need-same-length
 same-length c = search needs
@@ -59,16 +72,5 @@ pub put-marks-spec : {M : Type 1} → statement M
 put-marks-spec =
     tie.close
     (tie.spec
-    slice-relend-prefix-spell-value
-    slice-aggregate-spell-value
-    spell-value-requires
-    kind-of-requires
-    slice-write-marks
-    axis-of-requires
-    slice-write-marks-2
-    kind-of-requires-2
-    slice-write-marks-3
-    axis-of-requires-2
-    slice-write-marks-4
-    same-length
-    returns)
+    slice-relend-prefix-spell-value slice-aggregate-spell-value spell-value-requires kind-of-requires slice-write-marks axis-of-requires
+    slice-write-marks-2 kind-of-requires-2 slice-write-marks-3 axis-of-requires-2 slice-write-marks-4 same-length returns)

@@ -46,14 +46,5 @@ pub put-powers-spec : {M : Type 1} → statement M
 put-powers-spec =
     tie.close
     (tie.spec
-    sphere-of-requires
-    slice-write-powers
-    cylinder-of-requires
-    slice-write-powers-2
-    sphere-of-requires-2
-    slice-write-powers-3
-    cylinder-of-requires-2
-    slice-write-powers-4
-    slice-write-powers-5
-    same-length
-    returns)
+    sphere-of-requires slice-write-powers cylinder-of-requires slice-write-powers-2 sphere-of-requires-2 slice-write-powers-3
+    cylinder-of-requires-2 slice-write-powers-4 slice-write-powers-5 same-length returns)

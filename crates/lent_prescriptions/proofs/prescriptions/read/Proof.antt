@@ -45,20 +45,15 @@ returns-3 : tie.Need-returns-3
 returns-3 c =
     let a = c .before .before .before .before .before .before .before .before .before .before .before .before .before .before .before .args in
     c .before .before .before .before .read-held .ensures
-    ∙ ap (λ (es : List Entry). prescriptionReadLent (codingOf (a .figures)) es (a .word .now) (a .marks .now) (a .powers .now)) (c .before .before .before .before .before .before .before .table-in .ensures)
-    ∙ read-whole (codingOf (a .figures)) (a .table .now) (a .word .now) (a .marks .now) (a .powers .now) (c .before .before .before .before .before .before .before .before .before .before .if1 .left)
-    (sym (c .before .before .before .before .before .before .before .before .before .states-known .ensures) ∙ not-false _ (c .before .before .before .before .before .before .before .before .if2 .left))
+    ∙ ap (λ (es : List Entry). prescriptionReadLent (codingOf (a .figures)) es (a .word .now) (a .marks .now) (a .powers .now))
+    (c .before .before .before .before .before .before .before .table-in .ensures)
+    ∙ read-whole (codingOf (a .figures)) (a .table .now) (a .word .now) (a .marks .now) (a .powers .now)
+    (c .before .before .before .before .before .before .before .before .before .before .if1 .left)
+    (sym (c .before .before .before .before .before .before .before .before .before .states-known .ensures)
+    ∙ not-false _ (c .before .before .before .before .before .before .before .before .if2 .left))
 
 pub read-spec : {M : Type 1} → statement M
 read-spec =
     tie.close
     (tie.spec
-    without-table-requires
-    returns
-    states-known-requires
-    returns-2
-    table-in-requires
-    read-held-requires
-    same-length
-    same-length-2
-    returns-3)
+    without-table-requires returns states-known-requires returns-2 table-in-requires read-held-requires same-length same-length-2 returns-3)

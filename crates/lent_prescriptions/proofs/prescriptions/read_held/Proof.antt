@@ -20,7 +20,8 @@ returns : tie.Need-returns
 returns c =
     let a = c .before .before .before .before .before .args in
     ap (powersLent (a .marks .now) (a .powers .now)) (c .without-room .ensures)
-    ∙ read-without-room (a .marks .now) (a .powers .now) (codingOf (a .figures)) (entries (a .table)) (a .word .now) (no-marks (a .marks .now) (a .powers .now) (c .before .if1 .taken))
+    ∙ read-without-room (a .marks .now) (a .powers .now) (codingOf (a .figures)) (entries (a .table)) (a .word .now)
+    (no-marks (a .marks .now) (a .powers .now) (c .before .if1 .taken))
 
 without-room-requires-2 : tie.Need-without-room-requires-2
 without-room-requires-2 c κs = search needs
@@ -29,7 +30,8 @@ returns-2 : tie.Need-returns-2
 returns-2 c =
     let a = c .before .before .before .before .before .before .args in
     ap (powersLent (a .marks .now) (a .powers .now)) (c .without-room2 .ensures)
-    ∙ read-without-room (a .marks .now) (a .powers .now) (codingOf (a .figures)) (entries (a .table)) (a .word .now) (no-powers (a .marks .now) (a .powers .now) (c .before .if2 .taken))
+    ∙ read-without-room (a .marks .now) (a .powers .now) (codingOf (a .figures)) (entries (a .table)) (a .word .now)
+    (no-powers (a .marks .now) (a .powers .now) (c .before .if2 .taken))
 
 prescription-read-requires : tie.Need-prescription-read-requires
 prescription-read-requires c κs = search needs
@@ -62,25 +64,18 @@ same-length-2 c = search needs
 returns-4 : tie.Need-returns-4
 returns-4 c =
     let a = c .before .before .before .before .before .before .before .before .before .before .before .before .before .before .before .before .before .args in
-    ap₂ (λ (ms : List ℕ) (ps : List Float). powersLent ms ps served) (c .before .before .before .before .before .before .put-marks .ensures) (c .before .before .put-powers .ensures)
+    ap₂ (λ (ms : List ℕ) (ps : List Float). powersLent ms ps served) (c .before .before .before .before .before .before .put-marks .ensures)
+    (c .before .before .put-powers .ensures)
     ∙ read-with-room (a .marks .now) (a .powers .now) (codingOf (a .figures)) (entries (a .table)) (a .word .now)
-    (have-room (a .marks .now) (a .powers .now) (c .before .before .before .before .before .before .before .before .before .before .before .before .before .if1 .left) (c .before .before .before .before .before .before .before .before .before .before .before .before .if2 .left))
-    (sym (ap readAnswered (c .before .before .before .before .before .before .before .before .before .answer2 .given .1)) ∙ c .before .before .before .before .before .before .before .before .before .before .before .prescription-read .ensures)
+    (have-room (a .marks .now) (a .powers .now)
+    (c .before .before .before .before .before .before .before .before .before .before .before .before .before .if1 .left)
+    (c .before .before .before .before .before .before .before .before .before .before .before .before .if2 .left))
+    (sym (ap readAnswered (c .before .before .before .before .before .before .before .before .before .answer2 .given .1))
+    ∙ c .before .before .before .before .before .before .before .before .before .before .before .prescription-read .ensures)
 
 pub read-held-spec : {M : Type 1} → statement M
 read-held-spec =
     tie.close
     (tie.spec
-    without-room-requires
-    returns
-    without-room-requires-2
-    returns-2
-    prescription-read-requires
-    enum-known-answer
-    enum-known-answer-2
-    put-marks-requires
-    put-powers-requires
-    returns-3
-    same-length
-    same-length-2
-    returns-4)
+    without-room-requires returns without-room-requires-2 returns-2 prescription-read-requires enum-known-answer enum-known-answer-2
+    put-marks-requires put-powers-requires returns-3 same-length same-length-2 returns-4)

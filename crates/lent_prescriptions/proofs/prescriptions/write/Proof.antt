@@ -48,22 +48,19 @@ returns-3 : tie.Need-returns-3
 returns-3 c =
     let a = c .before .before .before .before .before .before .before .before .before .before .before .before .args in
     let call = c .before .before .prescription-write in
-    all-told (prescriptionWriteUnder (codingOf (a .figures)) (entries (c .before .before .before .before .table-in .result)) (heldAs (c .before .before .before .before .before .placement-under .result)) (a .number) (a .prescription) (a .word .now)) (call .ensures .1) (call .ensures .0)
+    all-told (prescriptionWriteUnder (codingOf (a .figures)) (entries (c .before .before .before .before .table-in .result))
+    (heldAs (c .before .before .before .before .before .placement-under .result)) (a .number) (a .prescription) (a .word .now)) (call .ensures .1)
+    (call .ensures .0)
     ∙ ap₂ (λ (es : List Entry) (h : Held). prescriptionWriteUnder (codingOf (a .figures)) es h (a .number) (a .prescription) (a .word .now))
     (c .before .before .before .before .table-in .ensures) (c .before .before .before .before .before .placement-under .ensures)
-    ∙ write-whole (a .figures) (a .table .now) (a .starts .now) (a .number) (a .prescription) (a .word .now) (c .before .before .before .before .before .before .before .before .if1 .left)
-    (sym (c .before .before .before .before .before .before .before .states-known .ensures) ∙ not-false _ (c .before .before .before .before .before .before .if2 .left))
+    ∙ write-whole (a .figures) (a .table .now) (a .starts .now) (a .number) (a .prescription) (a .word .now)
+    (c .before .before .before .before .before .before .before .before .if1 .left)
+    (sym (c .before .before .before .before .before .before .before .states-known .ensures)
+    ∙ not-false _ (c .before .before .before .before .before .before .if2 .left))
 
 pub write-spec : {M : Type 1} → statement M
 write-spec =
     tie.close
     (tie.spec
-    without-table-requires
-    returns
-    states-known-requires
-    returns-2
-    placement-under-requires
-    table-in-requires
-    prescription-write-requires
-    same-length
-    returns-3)
+    without-table-requires returns states-known-requires returns-2 placement-under-requires table-in-requires prescription-write-requires
+    same-length returns-3)

@@ -65,10 +65,4 @@ pub both-carry-spec : {M : Type 1} → statement M
 both-carry-spec =
     tie.close
     (tie.spec
-    payload-len-requires
-    returns
-    payload-len-requires-2
-    returns-2
-    returns-3
-    returns-4
-    returns-5)
+    payload-len-requires returns payload-len-requires-2 returns-2 returns-3 returns-4 returns-5)

@@ -43,9 +43,4 @@ pub both-fit-spec : {M : Type 1} → statement M
 both-fit-spec =
     tie.close
     (tie.spec
-    figures-requires
-    enum-known-answer
-    enum-known-answer-2
-    older-fits-requires
-    returns
-    returns-2)
+    figures-requires enum-known-answer enum-known-answer-2 older-fits-requires returns returns-2)

@@ -15,7 +15,8 @@ use Rattle.moving.proofs.both.older_fits.Statement.{statement}
 use Rattle.moving.proofs.both.older_fits.Tie as tie
 
 -- the layout that was answered
-learnt : (c : tie.After-answer2) → (let l = c .answer2 .given .0 .0 in (larssonFiguresOf l ≡ given (c .before .before .before .args .figures)) × LarssonLayoutFits l)
+learnt : (c : tie.After-answer2) → (let l = c .answer2 .given .0 .0 in
+    (larssonFiguresOf l ≡ given (c .before .before .before .args .figures)) × LarssonLayoutFits l)
 learnt c =
     let r = c .before .before .figures in
     fit-learnt (given (c .before .before .before .args .figures)) (r .result) (c .answer2 .given .0 .0) (c .answer2 .given .1) (r .ensures .0) (r .ensures .1)
@@ -52,9 +53,4 @@ pub older-fits-spec : {M : Type 1} → statement M
 older-fits-spec =
     tie.close
     (tie.spec
-    figures-requires
-    enum-known-answer
-    enum-known-answer-2
-    both-carry-requires
-    returns
-    returns-2)
+    figures-requires enum-known-answer enum-known-answer-2 both-carry-requires returns returns-2)

@@ -60,11 +60,4 @@ pub move-there-and-back-spec : {M : Type 1} → statement M
 move-there-and-back-spec =
     tie.close
     (tie.spec
-    move-to-a-requires
-    same-length
-    returns
-    spoil-requires
-    move-to-larsson-requires
-    same-length-2
-    same-length-3
-    returns-2)
+    move-to-a-requires same-length returns spoil-requires move-to-larsson-requires same-length-2 same-length-3 returns-2)

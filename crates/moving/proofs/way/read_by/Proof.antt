@@ -45,11 +45,4 @@ pub read-by-spec : {M : Type 1} → statement M
 read-by-spec =
     tie.close
     (tie.spec
-    enum-told
-    decode-fitting-requires
-    enum-told-2
-    decode-fitting-requires-2
-    same-length
-    returns
-    same-length-2
-    returns-2)
+    enum-told decode-fitting-requires enum-told-2 decode-fitting-requires-2 same-length returns same-length-2 returns-2)

@@ -50,11 +50,4 @@ pub write-by-spec : {M : Type 1} → statement M
 write-by-spec =
     tie.close
     (tie.spec
-    enum-told
-    encode-fitting-requires
-    enum-told-2
-    encode-fitting-requires-2
-    same-length
-    returns
-    same-length-2
-    returns-2)
+    enum-told encode-fitting-requires enum-told-2 encode-fitting-requires-2 same-length returns same-length-2 returns-2)

@@ -38,7 +38,15 @@ piece-of-requires-2 c κs =
     le-div-iff-mul-le {x = l .m} {y = l .n} (s .before .pre .some-parts) .1 (omega (arith, mul-comm (l .m) (l .parts), s .before .pre .wide)) in (
       s .before .pre .some-blocks,
       omega (arith, c .before .piece-len .ensures, len-least (l .n) (l .parts) i),
-      omega (arith, c .before .piece-len .ensures, c .before .before .piece-start .ensures, s .piece-of .ensures .1, s .piece-of .ensures .2, piece-next (l .n) (l .parts) i),
+      omega (
+        arith,
+        c .before .piece-len .ensures,
+        c .before .before .piece-start .ensures,
+        s .piece-of .ensures .1,
+        s .piece-of .ensures .2,
+        piece-next
+            (l .n) (l .parts) i,
+      ),
     )
 
 add-result : tie.Need-add-result
@@ -62,11 +70,4 @@ pub block-of-spec : {M : Type 1} → statement M
 block-of-spec =
     tie.close
     (tie.spec
-    piece-of-requires
-    piece-start-requires
-    piece-len-requires
-    mul-result
-    sub-piece-of
-    piece-of-requires-2
-    add-result
-    returns)
+    piece-of-requires piece-start-requires piece-len-requires mul-result sub-piece-of piece-of-requires-2 add-result returns)

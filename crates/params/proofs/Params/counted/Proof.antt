@@ -6,7 +6,8 @@ use borrow.Author.Needs.{needs}
 use Rattle.construction_a.specs.Figures.{leastTail, Params}
 use Rattle.construction_a.specs.Outcomes.{figured}
 use Rattle.params.specs.Bridge.{given}
-use Rattle.params.proofs.Laying.{Parted, in-range, blocks-some, blocks-few, min-is, Searched, tail-is, tail-unfit, burst-unfit, Fitted, taken-fits, sum-fits, len-is, figured-as}
+use Rattle.params.proofs.Laying.{Parted, in-range, blocks-some, blocks-few, min-is, Searched, tail-is, tail-unfit, burst-unfit, Fitted, taken-fits}
+use Rattle.params.proofs.Laying.{sum-fits, len-is, figured-as}
 use Rattle.params.proofs.Params.counted.Statement.{statement}
 use Rattle.params.proofs.Params.counted.Tie as tie
 
@@ -104,20 +105,5 @@ pub counted-spec : {M : Type 1} → statement M
 counted-spec =
     tie.close
     (tie.spec
-    cast-n
-    cast-q
-    cast-m
-    cast-b
-    parts-requires
-    mul-block-min
-    div-block-min
-    least-tail-requires
-    returns
-    sub-if2
-    returns-2
-    add-message-len
-    add-message-len-2
-    sub-message-len
-    mul-message-len
-    sub-message-len-2
-    returns-3)
+    cast-n cast-q cast-m cast-b parts-requires mul-block-min div-block-min least-tail-requires returns sub-if2 returns-2 add-message-len
+    add-message-len-2 sub-message-len mul-message-len sub-message-len-2 returns-3)

@@ -65,14 +65,4 @@ pub laid-out-spec : {M : Type 1} → statement M
 laid-out-spec =
     tie.close
     (tie.spec
-    mul-things
-    sub-things
-    add-things
-    cast-things
-    cast-count
-    count-requires
-    enum-known-count
-    counted-requires
-    enum-told
-    returns
-    returns-2)
+    mul-things sub-things add-things cast-things cast-count count-requires enum-known-count counted-requires enum-told returns returns-2)

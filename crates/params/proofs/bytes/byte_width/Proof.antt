@@ -33,7 +33,12 @@ returns c =
     sym (first-is maxByteWidth 0 (s .width) (spellsByte q) (omega arith) (omega arith) (λ x _ l. s .inv .2 x l) (leb-holds byteValues (q ^ s .width) h))
 
 mul-values : tie.Need-mul-values Inv-loop μ-loop
-mul-values c = omega (arith, mul-le-mul {n₁ = c .before .before .loop .values} {m₁ = c .before .before .before .args .q} {n₂ = byteValues} {m₂ = maxAlphabet} (omega arith) (omega arith))
+mul-values c =
+    omega (
+      arith,
+      mul-le-mul {n₁ = c .before .before .loop .values} {m₁ = c .before .before .before .args .q} {n₂ = byteValues} {m₂ = maxAlphabet}
+          (omega arith) (omega arith),
+    )
 
 add-width : tie.Need-add-width Inv-loop μ-loop
 add-width c = search needs

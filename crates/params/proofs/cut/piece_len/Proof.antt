@@ -29,7 +29,13 @@ returns c =
 add-result : tie.Need-add-result
 add-result c =
     let a = c .before .args in
-    omega (arith, mod-lt (a .total) (some-pieces (c .before)), mod-add-div' (a .total) (a .pieces), le-mul-of-pos-right (a .total / a .pieces) (some-pieces (c .before)))
+    omega (
+      arith,
+      mod-lt (a .total) (some-pieces (c .before)),
+      mod-add-div' (a .total) (a .pieces),
+      le-mul-of-pos-right (a .total / a .pieces)
+          (some-pieces (c .before)),
+    )
 
 returns-2 : tie.Need-returns-2
 unfolding pieceLen

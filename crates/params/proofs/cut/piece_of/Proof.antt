@@ -65,13 +65,4 @@ pub piece-of-spec : {M : Type 1} → statement M
 piece-of-spec =
     tie.close
     (tie.spec
-    div-each
-    rem-short
-    sub-short
-    mul-edge
-    div-result
-    returns
-    add-result
-    div-result-2
-    add-result-2
-    returns-2)
+    div-each rem-short sub-short mul-edge div-result returns add-result div-result-2 add-result-2 returns-2)

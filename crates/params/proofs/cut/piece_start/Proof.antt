@@ -17,7 +17,8 @@ sub-short : tie.Need-sub-short
 sub-short c = omega (arith, mod-lt (c .args .total) (c .pre .0))
 
 -- the closed form is at most the total
-within : (s : tie.Start) → s .args .i * (s .args .total / s .args .pieces) + (s .args .i - (s .args .pieces - s .args .total % s .args .pieces)) ≤ s .args .total
+within : (s : tie.Start) → s .args .i * (s .args .total / s .args .pieces) +
+    (s .args .i - (s .args .pieces - s .args .total % s .args .pieces)) ≤ s .args .total
 within s =
     let a = s .args in
     omega (arith, piece-is (a .total) (a .pieces) (a .i), piece-most (a .total) (a .pieces) (a .i) (s .pre .0) (s .pre .1))

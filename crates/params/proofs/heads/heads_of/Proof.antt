@@ -54,8 +54,20 @@ put-part-requires : tie.Need-put-part-requires Inv-loop μ-loop
 put-part-requires c κs =
     let s = c .before .before .before .before in
     let l = s .before .args .layout in
-    let b = limits (s .before) in
-    (omega (arith, b), omega (arith, below (c .before)), omega (arith, b, c .before .before .piece-start .ensures, c .before .piece-len .ensures, piece-next (l .n) (l .parts) (s .loop .i), piece-most (l .n) (l .parts) (suc (s .loop .i)) (omega (arith, b)) (omega arith)), s .loop .inv .1)
+    let b = limits (s .before) in (
+      omega (arith, b),
+      omega (arith, below (c .before)),
+      omega (
+        arith,
+        b,
+        c .before .before .piece-start .ensures,
+        c .before .piece-len .ensures,
+        piece-next (l .n) (l .parts) (s .loop .i),
+        piece-most (l .n)
+            (l .parts) (suc (s .loop .i)) (omega (arith, b)) (omega arith),
+      ),
+      s .loop .inv .1,
+    )
 
 add-i : tie.Need-add-i Inv-loop μ-loop
 add-i c = omega arith
@@ -72,7 +84,8 @@ loop-again c =
       omega arith,
       e .0,
       part-more (l .n) (l .parts) (l .m) (s .loop .i) (omega (arith, b)) (s .loop .heads) (c .put-part .last .0) (s .loop .inv .2) (e .1 .0)
-          (λ j h. e .1 .1 j h ∙ ap₂ (λ (x y : ℕ). x + pieceStart y (l .m) j) (c .before .before .before .piece-start .ensures) (c .before .before .piece-len .ensures)),
+          (λ j h. e .1 .1 j h ∙ ap₂ (λ (x y : ℕ). x + pieceStart y (l .m) j) (c .before .before .before .piece-start .ensures)
+          (c .before .before .piece-len .ensures)),
     )
 
 cast-heads : tie.Need-cast-heads Inv-loop μ-loop
@@ -95,25 +108,13 @@ returns c =
     let all : s .loop .i ≡ l .parts = omega arith in
     let so-far : (k : ℕ) → k < l .parts * l .m → getD (s .loop .heads) k 0 ≡ blockHead (l .n) (l .parts) (l .m) k = rw all at (s .loop .inv .2) in
     let is = s .before .pre .parts-is in
-    λ k h. end-more (l .n) (l .parts) (l .m) (s .loop .heads) (omega (arith, b)) (omega (arith, b)) (omega (arith, b, s .loop .inv .1)) so-far k (rw (← is) at h)
+    λ k h. end-more (l .n) (l .parts) (l .m) (s .loop .heads) (omega (arith, b)) (omega (arith, b)) (omega (arith, b, s .loop .inv .1)) so-far k
+    (rw (← is) at h)
     ∙ ap (λ (p : ℕ). blockHead (l .n) p (l .m) k) is
 
 pub heads-of-spec : {M : Type 1} → statement M
 heads-of-spec =
     tie.close
     (tie.spec
-    Inv-loop
-    μ-loop
-    loop-holds
-    piece-start-requires
-    piece-len-requires
-    mul-put-part
-    put-part-requires
-    add-i
-    loop-less
-    loop-again
-    cast-heads
-    mul-heads
-    mul-heads-2
-    array-write-heads
-    returns)
+    Inv-loop μ-loop loop-holds piece-start-requires piece-len-requires mul-put-part put-part-requires add-i loop-less loop-again cast-heads
+    mul-heads mul-heads-2 array-write-heads returns)

@@ -76,16 +76,5 @@ pub put-part-spec : {M : Type 1} → statement M
 put-part-spec =
     tie.close
     (tie.spec
-    Inv-loop
-    μ-loop
-    loop-holds
-    piece-start-requires
-    add-head
-    cast-heads
-    add-heads
-    mul-heads
-    element-write-heads
-    add-j
-    loop-less
-    loop-again
+    Inv-loop μ-loop loop-holds piece-start-requires add-head cast-heads add-heads mul-heads element-write-heads add-j loop-less loop-again
     returns)

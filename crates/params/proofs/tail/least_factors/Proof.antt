@@ -57,7 +57,8 @@ loop-again c =
     let v = a .start * a .step ^ s .r in
     let h : v < a .count = cap-missed v (a .count) (rw (s .inv .1) at (c .before .if1 .left)) in (
       search needs,
-      c .capped-product2 .ensures ∙ (rw (s .inv .1, add-one (s .r), pow-suc (a .step) (s .r), ← mul-assoc (a .start) (a .step ^ s .r) (a .step)) (cap-left v (a .step) (a .count))),
+      c .capped-product2 .ensures ∙ (rw (s .inv .1, add-one (s .r), pow-suc (a .step) (s .r), ← mul-assoc (a .start) (a .step ^ s .r) (a .step))
+          (cap-left v (a .step) (a .count))),
       below-more _ _ (s .inv .2) (leb-fails (a .count) v h),
     )
 
@@ -71,13 +72,4 @@ pub least-factors-spec : {M : Type 1} → statement M
 least-factors-spec =
     tie.close
     (tie.spec
-    Inv-loop
-    μ-loop
-    capped-product-requires
-    loop-holds
-    returns
-    capped-product-requires-2
-    add-r
-    loop-less
-    loop-again
-    returns-2)
+    Inv-loop μ-loop capped-product-requires loop-holds returns capped-product-requires-2 add-r loop-less loop-again returns-2)

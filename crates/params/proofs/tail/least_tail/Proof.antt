@@ -26,7 +26,8 @@ least-capped : (q blocks count limit : ℕ)
 unfolding leastTail
 least-capped q blocks count limit =
     ap (first limit 0)
-    (fun-ext (λ r. reached-alike (min ((q - 1) ^ blocks) count * min (q ^ blocks) count ^ r) ((q - 1) ^ blocks * (q ^ blocks) ^ r) count (factors-capped ((q - 1) ^ blocks) (q ^ blocks) count r)
+    (fun-ext (λ r. reached-alike (min ((q - 1) ^ blocks) count * min (q ^ blocks) count ^ r) ((q - 1) ^ blocks * (q ^ blocks) ^ r) count
+    (factors-capped ((q - 1) ^ blocks) (q ^ blocks) count r)
     ∙ ap (leb count) (sym (span-factors q blocks r) ∙ span-places q blocks r)))
 
 capped-power-requires : tie.Need-capped-power-requires
@@ -44,7 +45,8 @@ least-factors-requires c κs = search needs
 returns : tie.Need-returns
 returns c =
     let a = c .before .before .before .args in
-    c .least-factors .ensures ∙ (rw (c .before .capped-power2 .ensures, c .before .before .capped-power .ensures) (least-capped (a .q) (a .blocks) (a .count) (a .limit)))
+    c .least-factors .ensures ∙ (rw (c .before .capped-power2 .ensures, c .before .before .capped-power .ensures)
+    (least-capped (a .q) (a .blocks) (a .count) (a .limit)))
 
 pub least-tail-spec : {M : Type 1} → statement M
 least-tail-spec = tie.close (tie.spec capped-power-requires sub-capped-power capped-power-requires-2 least-factors-requires returns)

@@ -91,16 +91,4 @@ pub apart-spec : {M : Type 1} → statement M
 apart-spec =
     tie.close
     (tie.spec
-    Inv-loop
-    μ-loop
-    cast-count
-    loop-holds
-    mul-s
-    element-copy-out-s
-    cast-start
-    returns
-    add-free
-    add-j
-    loop-less
-    loop-again
-    returns-2)
+    Inv-loop μ-loop cast-count loop-holds mul-s element-copy-out-s cast-start returns add-free add-j loop-less loop-again returns-2)

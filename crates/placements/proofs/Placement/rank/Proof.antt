@@ -79,7 +79,8 @@ share c =
     let j = c .before .loop .j in
     let d = a .b - 1 in
     let l : length (a .t1 .starts) ≡ maxBursts = search needs in
-    ap (rankLeft d j) (left-next (a .t1 .count) j (a .t1 .starts) (omega arith) (omega arith)) ∙ rank-next d j (getD (a .t1 .starts) j 0) (drop (j + 1) (startsIn (a .t1)))
+    ap (rankLeft d j) (left-next (a .t1 .count) j (a .t1 .starts) (omega arith) (omega arith))
+    ∙ rank-next d j (getD (a .t1 .starts) j 0) (drop (j + 1) (startsIn (a .t1)))
 
 choose-requires : tie.Need-choose-requires Inv-loop μ-loop
 choose-requires c κs =
@@ -114,21 +115,5 @@ pub rank-spec : {M : Type 1} → statement M
 rank-spec =
     tie.close
     (tie.spec
-    Inv-loop
-    μ-loop
-    cast-count
-    sub-gap
-    cast-gap
-    loop-holds
-    mul-s
-    element-copy-out-s
-    cast-reduced
-    mul-reduced
-    sub-reduced
-    add-choose
-    choose-requires
-    add-rank
-    add-j
-    loop-less
-    loop-again
-    returns)
+    Inv-loop μ-loop cast-count sub-gap cast-gap loop-holds mul-s element-copy-out-s cast-reduced mul-reduced sub-reduced add-choose
+    choose-requires add-rank add-j loop-less loop-again returns)

@@ -16,7 +16,8 @@ use Rattle.placements.proofs.Placement.unrank.Tie as tie
 
 abbrev Inv-loop : tie.InvT-loop
 Inv-loop n m b rank gap found₀ below₀ left₀ i₀ found below left i =
-    (i ≤ m) × (below ≤ maxWord) × (choose below i ≤ maxCount) × (left < choose below i) × Filling (startsOf n m b rank) (startsDown (b - 1) below i left) m i found
+    (i ≤ m) × (below ≤ maxWord) × (choose below i ≤ maxCount) × (left < choose below i)
+    × Filling (startsOf n m b rank) (startsDown (b - 1) below i left) m i found
 
 abbrev μ-loop : tie.MeasureT-loop
 μ-loop n m b rank gap found₀ below₀ left₀ i₀ found below left i = i
@@ -111,7 +112,8 @@ loop-again c =
       omega (arith, t .below),
       omega (arith, l .inv .2, choose-before r (l .below) (l .i) (t .below) (d .before .loop-test .taken)),
       rw e (t .rest),
-      rw e (fill-turn (r + (l .i - 1) * (a .b - 1)) (startsDown (a .b - 1) r (l .i - 1) (l .left - choose r (l .i))) (l .inv .4) (t .starts) (omega arith) (omega arith)),
+      rw e (fill-turn (r + (l .i - 1) * (a .b - 1)) (startsDown (a .b - 1) r (l .i - 1) (l .left - choose r (l .i))) (l .inv .4) (t .starts) (omega arith)
+          (omega arith)),
     )
 
 returns : tie.Need-returns Inv-loop μ-loop
@@ -126,24 +128,5 @@ pub unrank-spec : {M : Type 1} → statement M
 unrank-spec =
     tie.close
     (tie.spec
-    Inv-loop
-    μ-loop
-    sub-gap
-    cast-gap
-    mul-below
-    sub-below
-    add-below
-    cast-below
-    loop-holds
-    last-burst-requires
-    sub-left
-    sub-i
-    sub-start
-    mul-start
-    add-start
-    cast-found
-    mul-found
-    element-write-found
-    loop-less
-    loop-again
-    returns)
+    Inv-loop μ-loop sub-gap cast-gap mul-below sub-below add-below cast-below loop-holds last-burst-requires sub-left sub-i sub-start
+    mul-start add-start cast-found mul-found element-write-found loop-less loop-again returns)

@@ -36,8 +36,10 @@ returns : tie.Need-returns Inv-loop μ-loop
 returns c =
     let a = c .before .before .before .before .before .before .before .before .before .args in
     let x = c .before .before .before .before .before .before .loop .x in
-    sym (uncovered (differAt (a .word .now) (a .other .now)) (a .b) x (startsIn (a .at)) (length (a .word .now)) (c .before .before .before .before .before .loop-test .taken)
-    (ap not (eqb-other (getD (a .word .now) x 0) (getD (a .other .now) x 0) (c .before .before .if1 .taken))) (sym (c .before .in-burst .ensures) ∙ not-true _ (c .if2 .taken)))
+    sym (uncovered (differAt (a .word .now) (a .other .now)) (a .b) x (startsIn (a .at)) (length (a .word .now))
+    (c .before .before .before .before .before .loop-test .taken)
+    (ap not (eqb-other (getD (a .word .now) x 0) (getD (a .other .now) x 0) (c .before .before .if1 .taken)))
+    (sym (c .before .in-burst .ensures) ∙ not-true _ (c .if2 .taken)))
 
 add-x : tie.Need-add-x Inv-loop μ-loop
 add-x c = search needs
@@ -66,14 +68,4 @@ pub cover-differences-spec : {M : Type 1} → statement M
 cover-differences-spec =
     tie.close
     (tie.spec
-    Inv-loop
-    μ-loop
-    loop-holds
-    shared-slice-read-if1
-    shared-slice-read-if1-2
-    in-burst-requires
-    returns
-    add-x
-    loop-less
-    loop-again
-    returns-2)
+    Inv-loop μ-loop loop-holds shared-slice-read-if1 shared-slice-read-if1-2 in-burst-requires returns add-x loop-less loop-again returns-2)

@@ -22,7 +22,8 @@ abbrev μ-loop : tie.MeasureT-loop
 
 -- the bursts from j on begin with burst j + 1
 left : (c : tie.In-loop Inv-loop μ-loop) → (let a = c .before .before .before .args in
-    Tested (a .b) (a .q) (a .word .now) (startsIn (a .t1)) (c .before .loop .from) (getD (a .t1 .starts) (c .before .loop .j) 0 ∷ drop (c .before .loop .j + 1) (startsIn (a .t1))))
+    Tested (a .b) (a .q) (a .word .now) (startsIn (a .t1)) (c .before .loop .from)
+    (getD (a .t1 .starts) (c .before .loop .j) 0 ∷ drop (c .before .loop .j + 1) (startsIn (a .t1))))
 left c =
     let a = c .before .before .before .args in
     let l : length (a .t1 .starts) ≡ maxBursts = search needs in
@@ -30,10 +31,12 @@ left c =
     (left-next (a .t1 .count) (c .before .loop .j) (a .t1 .starts) (omega arith) (omega (arith, c .before .before .before .pre .few))) (c .before .loop .inv .1)
 
 -- and burst j + 1 ends within the word
-ends : (c : tie.In-loop Inv-loop μ-loop) → (let a = c .before .before .before .args in getD (a .t1 .starts) (c .before .loop .j) 0 + a .b ≤ length (a .word .now))
+ends : (c : tie.In-loop Inv-loop μ-loop) → (let a = c .before .before .before .args in
+    getD (a .t1 .starts) (c .before .loop .j) 0 + a .b ≤ length (a .word .now))
 ends c =
     let a = c .before .before .before .args in
-    placed-end (a .b) (length (a .word .now)) (getD (a .t1 .starts) (c .before .loop .j) 0 + a .b) (drop (c .before .loop .j + 1) (startsIn (a .t1))) (left c .placed .1)
+    placed-end (a .b) (length (a .word .now)) (getD (a .t1 .starts) (c .before .loop .j) 0 + a .b) (drop (c .before .loop .j + 1) (startsIn (a .t1)))
+    (left c .placed .1)
 
 -- what is tested lies within the word
 past : (c : tie.At-loop Inv-loop μ-loop) → c .loop .from ≤ length (c .before .before .args .word .now)
@@ -74,7 +77,8 @@ returns : tie.Need-returns Inv-loop μ-loop
 returns c =
     let a = c .before .before .before .before .before .before .before .args in
     let t = c .before .before .before .before .before .loop in
-    sym (tested-not (a .b) (a .q) (a .word .now) (startsIn (a .t1)) (t .from) (getD (a .t1 .starts) (t .j) 0) (drop (t .j + 1) (startsIn (a .t1))) (left (c .before .before .before .before))
+    sym (tested-not (a .b) (a .q) (a .word .now) (startsIn (a .t1)) (t .from) (getD (a .t1 .starts) (t .j) 0) (drop (t .j + 1) (startsIn (a .t1)))
+    (left (c .before .before .before .before))
     (sym (c .before .all-below .ensures) ∙ not-true _ (c .if1 .taken)))
 
 add-from : tie.Need-add-from Inv-loop μ-loop
@@ -91,7 +95,8 @@ loop-again c =
     let a = c .before .before .before .before .before .before .before .args in
     let t = c .before .before .before .before .before .loop in (
       omega arith,
-      tested-on (a .b) (a .q) (a .word .now) (startsIn (a .t1)) (t .from) (getD (a .t1 .starts) (t .j) 0) (drop (t .j + 1) (startsIn (a .t1))) (left (c .before .before .before .before))
+      tested-on (a .b) (a .q) (a .word .now) (startsIn (a .t1)) (t .from) (getD (a .t1 .starts) (t .j) 0) (drop (t .j + 1) (startsIn (a .t1)))
+          (left (c .before .before .before .before))
           (sym (c .before .all-below .ensures) ∙ not-false _ (c .if1 .left)),
     )
 
@@ -113,30 +118,13 @@ returns-2 c =
     let t = c .before .before .before .loop in
     c .all-below2 .ensures
     ∙ tested-end (a .b) (a .q) (a .word .now) (startsIn (a .t1)) (t .from)
-    (subst (λ (r : List ℕ). Tested (a .b) (a .q) (a .word .now) (startsIn (a .t1)) (t .from) r) (left-none (a .t1 .count) (t .j) (a .t1 .starts) (omega arith)) (t .inv .1))
+    (subst (λ (r : List ℕ). Tested (a .b) (a .q) (a .word .now) (startsIn (a .t1)) (t .from) r)
+    (left-none (a .t1 .count) (t .j) (a .t1 .starts) (omega arith)) (t .inv .1))
 
 pub cover-erasures-spec : {M : Type 1} → statement M
 cover-erasures-spec =
     tie.close
     (tie.spec
-    Inv-loop
-    μ-loop
-    cast-count
-    loop-holds
-    mul-s
-    element-copy-out-s
-    cast-start
-    sub-all-below
-    part-all-below-start
-    part-all-below-end
-    all-below-requires
-    returns
-    add-from
-    add-j
-    loop-less
-    loop-again
-    sub-all-below-2
-    part-all-below-start-2
-    part-all-below-end-2
-    all-below-requires-2
-    returns-2)
+    Inv-loop μ-loop cast-count loop-holds mul-s element-copy-out-s cast-start sub-all-below part-all-below-start part-all-below-end
+    all-below-requires returns add-from add-j loop-less loop-again sub-all-below-2 part-all-below-start-2 part-all-below-end-2
+    all-below-requires-2 returns-2)

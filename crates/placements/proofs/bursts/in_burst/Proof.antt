@@ -43,19 +43,22 @@ has-requires c κs =
 
 -- the bursts from j on begin with burst j + 1
 next : (c : tie.In-loop Inv-loop μ-loop) → inBurst (c .before .before .args .b)
-    (getD (c .before .before .args .t1 .starts) (c .before .loop .j) 0 ∷ drop (c .before .loop .j + 1) (startsIn (c .before .before .args .t1))) (c .before .before .args .x)
+    (getD (c .before .before .args .t1 .starts) (c .before .loop .j) 0 ∷ drop (c .before .loop .j + 1) (startsIn (c .before .before .args .t1)))
+    (c .before .before .args .x)
     ≡ inBurst (c .before .before .args .b) (startsIn (c .before .before .args .t1)) (c .before .before .args .x)
 next c =
     let a = c .before .before .args in
     let l : length (a .t1 .starts) ≡ maxBursts = search needs in
-    ap (λ ss. inBurst (a .b) ss (a .x)) (sym (left-next (a .t1 .count) (c .before .loop .j) (a .t1 .starts) (omega arith) (omega (arith, c .before .before .pre))))
+    ap (λ ss. inBurst (a .b) ss (a .x))
+    (sym (left-next (a .t1 .count) (c .before .loop .j) (a .t1 .starts) (omega arith) (omega (arith, c .before .before .pre))))
     ∙ c .before .loop .inv .1
 
 returns : tie.Need-returns Inv-loop μ-loop
 returns c =
     let s = c .before .before .before in
     let a = s .before .before .args in
-    sym (burst-found (a .b) (getD (a .t1 .starts) (s .before .loop .j) 0) (a .x) (drop (s .before .loop .j + 1) (startsIn (a .t1))) (sym (c .before .has .ensures) ∙ c .if1 .taken))
+    sym (burst-found (a .b) (getD (a .t1 .starts) (s .before .loop .j) 0) (a .x) (drop (s .before .loop .j + 1) (startsIn (a .t1)))
+    (sym (c .before .has .ensures) ∙ c .if1 .taken))
     ∙ next s
 
 add-j : tie.Need-add-j Inv-loop μ-loop
@@ -69,7 +72,8 @@ loop-again c =
     let s = c .before .before .before in
     let a = s .before .before .args in (
       omega arith,
-      sym (burst-next (a .b) (getD (a .t1 .starts) (s .before .loop .j) 0) (a .x) (drop (s .before .loop .j + 1) (startsIn (a .t1))) (sym (c .before .has .ensures) ∙ c .if1 .left))
+      sym (burst-next (a .b) (getD (a .t1 .starts) (s .before .loop .j) 0) (a .x) (drop (s .before .loop .j + 1) (startsIn (a .t1)))
+          (sym (c .before .has .ensures) ∙ c .if1 .left))
           ∙ next s,
     )
 
@@ -83,16 +87,4 @@ pub in-burst-spec : {M : Type 1} → statement M
 in-burst-spec =
     tie.close
     (tie.spec
-    Inv-loop
-    μ-loop
-    cast-count
-    loop-holds
-    mul-s
-    element-copy-out-s
-    cast-start
-    has-requires
-    returns
-    add-j
-    loop-less
-    loop-again
-    returns-2)
+    Inv-loop μ-loop cast-count loop-holds mul-s element-copy-out-s cast-start has-requires returns add-j loop-less loop-again returns-2)

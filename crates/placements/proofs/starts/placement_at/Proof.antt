@@ -69,16 +69,5 @@ pub placement-at-spec : {M : Type 1} → statement M
 placement-at-spec =
     tie.close
     (tie.spec
-    Inv-loop
-    μ-loop
-    cast-t7
-    loop-holds
-    mul-two-bytes
-    add-two-bytes
-    two-bytes-requires
-    mul-found
-    element-write-found
-    add-j
-    loop-less
-    loop-again
-    returns)
+    Inv-loop μ-loop cast-t7 loop-holds mul-two-bytes add-two-bytes two-bytes-requires mul-found element-write-found add-j loop-less
+    loop-again returns)

@@ -34,8 +34,4 @@ pub count-of-spec : {M : Type 1} → statement M
 count-of-spec =
     tie.close
     (tie.spec
-    size-of-requires
-    negated-requires
-    returns
-    size-of-requires-2
-    returns-2)
+    size-of-requires negated-requires returns size-of-requires-2 returns-2)

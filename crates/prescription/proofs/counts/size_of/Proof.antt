@@ -70,13 +70,5 @@ pub size-of-spec : {M : Type 1} → statement M
 size-of-spec =
     tie.close
     (tie.spec
-    int-to-float-parts
-    truncating-f64-to-u64-requires
-    cast-size
-    int-to-float-exact
-    float-to-bits-if3
-    float-to-bits-if3-2
-    returns
-    returns-2
-    returns-3
-    returns-4)
+    int-to-float-parts truncating-f64-to-u64-requires cast-size int-to-float-exact float-to-bits-if3 float-to-bits-if3-2 returns returns-2
+    returns-3 returns-4)

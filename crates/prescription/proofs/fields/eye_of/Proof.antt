@@ -97,17 +97,5 @@ pub eye-of-spec : {M : Type 1} → statement M
 eye-of-spec =
     tie.close
     (tie.spec
-    returns
-    returns-2
-    returns-3
-    returns-4
-    returns-5
-    returns-6
-    power-of-requires
-    kept-requires
-    returns-7
-    power-of-requires-2
-    power-of-requires-3
-    kept-requires-2
-    returns-8
-    returns-9)
+    returns returns-2 returns-3 returns-4 returns-5 returns-6 power-of-requires kept-requires returns-7 power-of-requires-2
+    power-of-requires-3 kept-requires-2 returns-8 returns-9)

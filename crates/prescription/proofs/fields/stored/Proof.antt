@@ -37,11 +37,4 @@ pub stored-spec : {M : Type 1} → statement M
 stored-spec =
     tie.close
     (tie.spec
-    enum-told
-    enum-known-eye
-    stored-sphere-requires
-    enum-known-eye-2
-    stored-toric-requires
-    returns
-    returns-2
-    returns-3)
+    enum-told enum-known-eye stored-sphere-requires enum-known-eye-2 stored-toric-requires returns returns-2 returns-3)

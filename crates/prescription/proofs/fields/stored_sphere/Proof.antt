@@ -70,11 +70,4 @@ pub stored-sphere-spec : {M : Type 1} → statement M
 stored-sphere-spec =
     tie.close
     (tie.spec
-    count-of-requires
-    enum-known-count
-    enum-told
-    returns
-    returns-2
-    in-range-requires
-    returns-3
-    returns-4)
+    count-of-requires enum-known-count enum-told returns returns-2 in-range-requires returns-3 returns-4)

@@ -103,18 +103,5 @@ pub stored-toric-spec : {M : Type 1} → statement M
 stored-toric-spec =
     tie.close
     (tie.spec
-    count-of-requires
-    enum-known-sphere-count
-    enum-told
-    returns
-    count-of-requires-2
-    enum-known-cylinder-count
-    enum-told-2
-    returns-2
-    count-of-requires-3
-    enum-known-sum-count
-    enum-told-3
-    returns-3
-    toric-keeps-requires
-    returns-4
-    returns-5)
+    count-of-requires enum-known-sphere-count enum-told returns count-of-requires-2 enum-known-cylinder-count enum-told-2 returns-2
+    count-of-requires-3 enum-known-sum-count enum-told-3 returns-3 toric-keeps-requires returns-4 returns-5)

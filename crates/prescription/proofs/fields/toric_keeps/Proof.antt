@@ -46,10 +46,4 @@ pub toric-keeps-spec : {M : Type 1} → statement M
 toric-keeps-spec =
     tie.close
     (tie.spec
-    in-range-requires
-    returns
-    in-range-requires-2
-    returns-2
-    returns-3
-    returns-4
-    returns-5)
+    in-range-requires returns in-range-requires-2 returns-2 returns-3 returns-4 returns-5)

@@ -50,12 +50,5 @@ pub eye-at-spec : {M : Type 1} → statement M
 eye-at-spec =
     tie.close
     (tie.spec
-    shared-slice-read-kind
-    add-two-bytes
-    two-bytes-requires
-    add-two-bytes-2
-    two-bytes-requires-2
-    add-axis
-    shared-slice-read-axis
-    eye-of-requires
-    returns)
+    shared-slice-read-kind add-two-bytes two-bytes-requires add-two-bytes-2 two-bytes-requires-2 add-axis shared-slice-read-axis
+    eye-of-requires returns)

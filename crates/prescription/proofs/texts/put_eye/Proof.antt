@@ -60,20 +60,5 @@ pub put-eye-spec : {M : Type 1} → statement M
 put-eye-spec =
     tie.close
     (tie.spec
-    slice-write-text
-    cast-text
-    add-text
-    slice-write-text-2
-    cast-text-2
-    add-text-2
-    slice-write-text-3
-    cast-text-3
-    add-text-3
-    slice-write-text-4
-    cast-text-4
-    add-text-4
-    slice-write-text-5
-    add-text-5
-    slice-write-text-6
-    same-length
-    returns)
+    slice-write-text cast-text add-text slice-write-text-2 cast-text-2 add-text-2 slice-write-text-3 cast-text-3 add-text-3
+    slice-write-text-4 cast-text-4 add-text-4 slice-write-text-5 add-text-5 slice-write-text-6 same-length returns)

@@ -49,9 +49,4 @@ pub put-stored-spec : {M : Type 1} → statement M
 put-stored-spec =
     tie.close
     (tie.spec
-    clear-requires
-    put-eye-requires
-    put-eye-requires-2
-    slice-write-text
-    same-length
-    returns)
+    clear-requires put-eye-requires put-eye-requires-2 slice-write-text same-length returns)

@@ -65,14 +65,5 @@ pub read-stored-spec : {M : Type 1} → statement M
 read-stored-spec =
     tie.close
     (tie.spec
-    eye-at-requires
-    enum-known-right-answer
-    enum-told
-    returns
-    eye-at-requires-2
-    enum-known-left-answer
-    enum-told-2
-    returns-2
-    shared-slice-read-with-distance
-    with-distance-requires
-    returns-3)
+    eye-at-requires enum-known-right-answer enum-told returns eye-at-requires-2 enum-known-left-answer enum-told-2 returns-2
+    shared-slice-read-with-distance with-distance-requires returns-3)

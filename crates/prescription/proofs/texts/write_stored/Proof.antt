@@ -39,11 +39,4 @@ pub write-stored-spec : {M : Type 1} → statement M
 write-stored-spec =
     tie.close
     (tie.spec
-    cast-if1
-    returns
-    cast-if2
-    returns-2
-    cast-put-stored
-    put-stored-requires
-    same-length
-    returns-3)
+    cast-if1 returns cast-if2 returns-2 cast-put-stored put-stored-requires same-length returns-3)

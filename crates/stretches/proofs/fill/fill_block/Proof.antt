@@ -106,22 +106,35 @@ fill-burst-requires c κs =
     (omega (arith, m .at-is, t .inv .1, h .ends, m .size, t .inv .3 .filled .size), omega (arith, m .passed-is, h .number, s .pre .0 .walks .bursts .count))
 
 next-start-requires-2 : tie.Need-next-start-requires-2 Inv-loop μ-loop
-next-start-requires-2 c κs = c .before .before .before .before .before .before .before .before .before .before .before .before .before .before .before .before .before .before .before .pre .0 .walks .bursts
+next-start-requires-2 c κs =
+    c .before .before .before .before .before .before .before .before .before .before .before .before .before .before .before .before .before .before
+    .before .pre .0 .walks .bursts
 
 loop-less : tie.Need-loop-less Inv-loop μ-loop
 loop-less c =
-    let s = c .before .before .before .before .before .before .before .before .before .before .before .before .before .before .before .before .before .before .before .before in
+    let s = c .before .before .before .before .before .before .before .before .before .before .before .before .before .before .before .before .before
+    .before .before .before in
     let t = c .before .before .before .before .before .before .before .before .before .before .loop in
-    let h = hop s (t .here) (t .inv .2 .0) (omega (arith, t .inv .0, t .inv .1, c .before .before .before .before .before .before .before .before .before .loop-test .taken)) in
-    omega (arith, c .before .before .before .before .before .before .before .fill-message .ensures .passed-is, c .before .before .before .fill-burst .ensures .passed-is, h .number, s .pre .0 .walks .bursts .count)
+    let h = hop s (t .here) (t .inv .2 .0)
+    (omega (arith, t .inv .0, t .inv .1, c .before .before .before .before .before .before .before .before .before .loop-test .taken)) in
+    omega (
+      arith,
+      c .before .before .before .before .before .before .before .fill-message .ensures .passed-is,
+      c .before .before .before .fill-burst .ensures .passed-is,
+      h .number,
+      s .pre .0 .walks .bursts .count,
+    )
 
 loop-again : tie.Need-loop-again Inv-loop μ-loop
 loop-again c =
-    let s = c .before .before .before .before .before .before .before .before .before .before .before .before .before .before .before .before .before .before .before .before in
+    let s = c .before .before .before .before .before .before .before .before .before .before .before .before .before .before .before .before .before
+    .before .before .before in
     let t = c .before .before .before .before .before .before .before .before .before .before .loop in
     let p = t .inv .2 .0 in
-    let h = hop s (t .here) p (omega (arith, t .inv .0, t .inv .1, c .before .before .before .before .before .before .before .before .before .loop-test .taken)) in
-    let cells = message-to s (t .here) p (t .stop) (omega (arith, t .inv .1)) (omega (arith, t .inv .0, c .before .before .before .before .before .before .before .before .before .loop-test .taken)) in
+    let h = hop s (t .here) p
+    (omega (arith, t .inv .0, t .inv .1, c .before .before .before .before .before .before .before .before .before .loop-test .taken)) in
+    let cells = message-to s (t .here) p (t .stop) (omega (arith, t .inv .1))
+    (omega (arith, t .inv .0, c .before .before .before .before .before .before .before .before .before .loop-test .taken)) in
     let m = c .before .before .before .before .before .before .before .fill-message .ensures in
     let u = c .before .before .before .fill-burst .ensures in
     let before = message-filled (t .inv .3) (t .stop) (omega (arith, t .inv .1, h .onward)) (omega (arith, t .inv .1, h .ends)) cells m in
@@ -135,20 +148,28 @@ loop-again c =
     )
 
 same-length : tie.Need-same-length Inv-loop μ-loop
-same-length c = c .before .before .before .loop .inv .3 .filled .size ∙ sym (c .before .before .before .before .before .before .before .before .before .before .before .before .before .pre .0 .filled .size)
+same-length c = c .before .before .before .loop .inv .3 .filled .size
+    ∙ sym (c .before .before .before .before .before .before .before .before .before .before .before .before .before .pre .0 .filled .size)
 
 returns : tie.Need-returns Inv-loop μ-loop
 returns c =
     let s = c .before .before .before .before .before .before .before .before .before .before .before .before .before in
-    let t = c .before .before .before .loop in
-    (t .inv .3, (rest-none (w s) (s .args .block) (t .here .at) (t .here .passed) (s .pre .1 .0) (t .inv .2 .0) (omega (arith, t .inv .0, c .if1 .taken)), t .inv .2 .1))
+    let t = c .before .before .before .loop in (
+      t .inv .3,
+      (
+        rest-none (w s) (s .args .block) (t .here .at) (t .here .passed) (s .pre .1 .0) (t .inv .2 .0)
+            (omega (arith, t .inv .0, c .if1 .taken)),
+        t .inv .2 .1,
+      ),
+    )
 
 fill-message-requires-2 : tie.Need-fill-message-requires-2 Inv-loop μ-loop
 fill-message-requires-2 c κs =
     let s = c .before .before .before .before .before .before .before .before .before .before .before .before .before .before in
     let t = c .before .before .before .before .loop in
     let within = edge-in (w s) (s .args .block) (s .pre .1 .0) in
-    let cells = message-to s (t .here) (t .inv .2 .0) (edge s) (omega (arith, t .inv .0, t .inv .1, c .before .before .before .loop-test .left)) (omega arith) in
+    let cells = message-to s (t .here) (t .inv .2 .0) (edge s) (omega (arith, t .inv .0, t .inv .1, c .before .before .before .loop-test .left))
+    (omega arith) in
     let up : t .here .at ≤ edge s = omega (arith, t .inv .0, c .before .if1 .left) in (
       omega (arith, t .inv .0, up),
       omega (arith, t .inv .0, within, t .inv .3 .filled .size),
@@ -156,7 +177,9 @@ fill-message-requires-2 c κs =
     )
 
 same-length-2 : tie.Need-same-length-2 Inv-loop μ-loop
-same-length-2 c = c .before .before .fill-message2 .ensures .size ∙ c .before .before .before .before .before .before .before .loop .inv .3 .filled .size ∙ sym (c .before .before .before .before .before .before .before .before .before .before .before .before .before .before .before .before .before .pre .0 .filled .size)
+same-length-2 c = c .before .before .fill-message2 .ensures .size ∙ c .before .before .before .before .before .before .before .loop .inv .3 .filled .size
+    ∙ sym (c .before .before .before .before .before .before .before .before .before .before .before .before .before .before .before .before .before .pre .0
+    .filled .size)
 
 returns-2 : tie.Need-returns-2 Inv-loop μ-loop
 returns-2 c =
@@ -168,29 +191,17 @@ returns-2 c =
     let m = rw (t .inv .0) at (c .before .before .fill-message2 .ensures) in
     let cells = message-to s (t .here) p (edge s) before (omega arith) in (
       message-filled (t .inv .3) (edge s) (omega arith) (edge-in (w s) (s .args .block) (s .pre .1 .0)) cells m,
-      (rw (m .at-is, m .passed-is) (rest-hop (w s) (s .args .block) (t .here .at) (t .here .passed) (s .pre .1 .0) p inside before), m .indexed-is ∙ t .inv .2 .1),
+      (
+        rw (m .at-is, m .passed-is) (rest-hop (w s) (s .args .block) (t .here .at) (t .here .passed) (s .pre .1 .0) p inside before),
+        m .indexed-is
+            ∙ t .inv .2 .1,
+      ),
     )
 
 pub fill-block-spec : {M : Type 1} → statement M
 fill-block-spec =
     tie.close
     (tie.spec
-    Inv-loop
-    μ-loop
-    add-edge
-    mul-edge
-    element-copy-out-edge
-    cast-edge
-    fill-head-requires
-    next-start-requires
-    loop-holds
-    fill-message-requires
-    fill-burst-requires
-    next-start-requires-2
-    loop-less
-    loop-again
-    same-length
-    returns
-    fill-message-requires-2
-    same-length-2
-    returns-2)
+    Inv-loop μ-loop add-edge mul-edge element-copy-out-edge cast-edge fill-head-requires next-start-requires loop-holds
+    fill-message-requires fill-burst-requires next-start-requires-2 loop-less loop-again same-length returns fill-message-requires-2
+    same-length-2 returns-2)

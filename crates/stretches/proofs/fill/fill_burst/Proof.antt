@@ -35,18 +35,12 @@ returns c =
     let to = a .from .at + a .walk .b in
     let len : to - a .from .at ≡ a .walk .b = omega arith in
     let part = c .before .before .before .before .clear-over in
-    let put = part-put (a .from .at) to (a .word .now) (part .last .0) (replicate (a .walk .b) 0) (omega arith) (omega arith) (search needs) (rw len (part .ensures)) in
+    let put = part-put (a .from .at) to (a .word .now) (part .last .0) (replicate (a .walk .b) 0) (omega arith) (omega arith) (search needs)
+    (rw len (part .ensures)) in
     record { at-is = refl; indexed-is = refl; sent-is = refl; passed-is = refl; made = put .0; size = put .1 }
 
 pub fill-burst-spec : {M : Type 1} → statement M
 fill-burst-spec =
     tie.close
     (tie.spec
-    sub-clear-over
-    part-clear-over-start
-    part-clear-over-end
-    clear-over-requires
-    add-t7
-    add-t10
-    same-length
-    returns)
+    sub-clear-over part-clear-over-start part-clear-over-end clear-over-requires add-t7 add-t10 same-length returns)

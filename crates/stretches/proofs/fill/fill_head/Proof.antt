@@ -65,7 +65,8 @@ index-past s e =
     subst (PastTo s) (to-is s) (head-index (w s) (s .args .block) (x s) (s .args .from .passed) (s .pre .1 .0) (s .pre .1 .1 .0) (is-index s e) .past)
 
 digit-cells : (s : Start) → kind s ≡ indexKind → Cells (g s) digit (x s) (to s)
-digit-cells s e y u v = index-cells (w s) (s .args .block) (x s) (s .args .from .passed) (s .pre .1 .0) (s .pre .1 .1 .0) (is-index s e) y u (omega (arith, to-is s))
+digit-cells s e y u v = index-cells (w s) (s .args .block) (x s) (s .args .from .passed) (s .pre .1 .0) (s .pre .1 .1 .0) (is-index s e) y u
+    (omega (arith, to-is s))
 
 room : (s : Start) → kind s ≡ indexKind → to s ≤ length (s .args .word .now)
 room s e = omega (arith, index-past s e .between .within, s .pre .0 .filled .size)
@@ -108,7 +109,13 @@ returns c =
     )
 
 mul-spelled : tie.Need-mul-spelled
-mul-spelled c = omega (arith, lent (c .before .before .before .before .before .before .before .before) (c .before .before .if2 .taken), c .before .before .before .before .before .before .before .shared-slice-known .given 0)
+mul-spelled c =
+    omega (
+      arith,
+      lent (c .before .before .before .before .before .before .before .before)
+          (c .before .before .if2 .taken),
+      c .before .before .before .before .before .before .before .shared-slice-known .given 0,
+    )
 
 sub-copy-over : tie.Need-sub-copy-over
 sub-copy-over c = search needs
@@ -123,7 +130,8 @@ sub-copy-over-2 : tie.Need-sub-copy-over-2
 sub-copy-over-2 c = omega (arith, lent (c .before .before .before .before .before .before .before .before .before) (c .before .before .before .if2 .taken))
 
 part-copy-over-start-2 : tie.Need-part-copy-over-start-2
-part-copy-over-start-2 c = omega (arith, lent (c .before .before .before .before .before .before .before .before .before) (c .before .before .before .if2 .taken))
+part-copy-over-start-2 c =
+    omega (arith, lent (c .before .before .before .before .before .before .before .before .before) (c .before .before .before .if2 .taken))
 
 part-copy-over-end-2 : tie.Need-part-copy-over-end-2
 part-copy-over-end-2 c = search needs
@@ -140,10 +148,16 @@ copy-over-requires c κs =
     )
 
 add-t22 : tie.Need-add-t22
-add-t22 c = let s = c .before .before .before .before .before .before .before .before .before .before .before .before .before in omega (arith, index-past s (c .before .before .before .before .before .before .before .if2 .taken) .between .within, s .pre .0 .walks .n-most)
+add-t22 c = let s = c .before .before .before .before .before .before .before .before .before .before .before .before .before in
+    omega (arith, index-past s (c .before .before .before .before .before .before .before .if2 .taken) .between .within, s .pre .0 .walks .n-most)
 
 add-t26 : tie.Need-add-t26
-add-t26 c = omega (arith, few (c .before .before .before .before .before .before .before .before .before .before .before .before .before .before) (c .before .before .before .before .before .before .before .before .if2 .taken))
+add-t26 c =
+    omega (
+      arith,
+      few (c .before .before .before .before .before .before .before .before .before .before .before .before .before .before)
+          (c .before .before .before .before .before .before .before .before .if2 .taken),
+    )
 
 same-length-2 : tie.Need-same-length-2
 same-length-2 c = search needs
@@ -179,21 +193,5 @@ pub fill-head-spec : {M : Type 1} → statement M
 fill-head-spec =
     tie.close
     (tie.spec
-    element-copy-out-kind
-    slice-write-word
-    add-t19
-    same-length
-    returns
-    mul-spelled
-    sub-copy-over
-    part-copy-over-start
-    part-copy-over-end
-    sub-copy-over-2
-    part-copy-over-start-2
-    part-copy-over-end-2
-    copy-over-requires
-    add-t22
-    add-t26
-    same-length-2
-    returns-2
-    returns-3)
+    element-copy-out-kind slice-write-word add-t19 same-length returns mul-spelled sub-copy-over part-copy-over-start part-copy-over-end
+    sub-copy-over-2 part-copy-over-start-2 part-copy-over-end-2 copy-over-requires add-t22 add-t26 same-length-2 returns-2 returns-3)

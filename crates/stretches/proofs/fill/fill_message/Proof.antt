@@ -44,7 +44,8 @@ returns c =
     let a = c .before .before .before .before .before .before .before .args in
     let len = a .to - a .from .at in
     let part = c .before .before .copy-over in
-    let put = part-put (a .from .at) (a .to) (a .word .now) (part .last .0) (take len (drop (a .from .sent) (a .message .now))) (omega arith) (omega arith) (search needs)
+    let put = part-put (a .from .at) (a .to) (a .word .now) (part .last .0) (take len (drop (a .from .sent) (a .message .now))) (omega arith) (omega arith)
+    (search needs)
     (part .ensures ∙ ap (take len) (rest-is (a .from .sent) (a .message .now))) in
     record { at-is = refl; indexed-is = refl; sent-is = refl; passed-is = refl; made = put .0; size = put .1 }
 
@@ -52,14 +53,5 @@ pub fill-message-spec : {M : Type 1} → statement M
 fill-message-spec =
     tie.close
     (tie.spec
-    sub-len
-    sub-copy-over
-    part-copy-over-start
-    part-copy-over-end
-    sub-copy-over-2
-    part-copy-over-start-2
-    part-copy-over-end-2
-    copy-over-requires
-    add-t10
-    same-length
-    returns)
+    sub-len sub-copy-over part-copy-over-start part-copy-over-end sub-copy-over-2 part-copy-over-start-2 part-copy-over-end-2
+    copy-over-requires add-t10 same-length returns)

@@ -16,7 +16,8 @@ returns-2 c = rw (eqb-same (c .before .before .args .kind) indexKind (c .if2 .ta
 
 returns-3 : tie.Need-returns-3
 unfolding headLen
-returns-3 c = rw (eqb-other (c .before .before .args .kind) indexKind (c .if2 .left), eqb-other (c .before .before .args .kind) fixedKind (c .before .if1 .left))
+returns-3 c =
+    rw (eqb-other (c .before .before .args .kind) indexKind (c .if2 .left), eqb-other (c .before .before .args .kind) fixedKind (c .before .if1 .left))
 
 pub head-cells-spec : {M : Type 1} → statement M
 head-cells-spec = tie.close (tie.spec returns returns-2 returns-3)

@@ -37,7 +37,8 @@ cover-erasures-requires c κs =
 returns-2 : tie.Need-returns-2
 returns-2 c =
     let s = c .before .before .before .before in
-    c .cover-erasures .ensures ∙ ap (λ (n : ℕ). covers n (s .args .walk .b) (erasedAt (s .args .q) (s .args .word .now)) (startsIn (s .args .at))) (s .pre .1 .whole)
+    c .cover-erasures .ensures ∙ ap (λ (n : ℕ). covers n (s .args .walk .b) (erasedAt (s .args .q) (s .args .word .now)) (startsIn (s .args .at)))
+    (s .pre .1 .whole)
 
 pub message-whole-spec : {M : Type 1} → statement M
 message-whole-spec = tie.close (tie.spec returns cast-cover-erasures cover-erasures-requires returns-2)

@@ -92,7 +92,8 @@ head-cells-requires : tie.Need-head-cells-requires Inv-loop μ-loop
 head-cells-requires c κs = search needs
 
 add-t13 : tie.Need-add-t13 Inv-loop μ-loop
-add-t13 c = let s = c .before .before .before .before .before .before in omega (arith, c .before .head-cells .ensures, past s .between .within, s .pre .0 .walks .n-most)
+add-t13 c = let s = c .before .before .before .before .before .before in
+    omega (arith, c .before .head-cells .ensures, past s .between .within, s .pre .0 .walks .n-most)
 
 next-start-requires : tie.Need-next-start-requires Inv-loop μ-loop
 next-start-requires c κs = c .before .before .before .before .before .before .pre .0 .walks .bursts
@@ -124,14 +125,21 @@ pass-burst-requires c κs =
     (omega (arith, m .at-is, t .inv .1, h .ends), omega (arith, m .passed-is, h .number, s .pre .0 .walks .bursts .count))
 
 next-start-requires-2 : tie.Need-next-start-requires-2 Inv-loop μ-loop
-next-start-requires-2 c κs = c .before .before .before .before .before .before .before .before .before .before .before .before .before .before .pre .0 .walks .bursts
+next-start-requires-2 c κs =
+    c .before .before .before .before .before .before .before .before .before .before .before .before .before .before .pre .0 .walks .bursts
 
 loop-less : tie.Need-loop-less Inv-loop μ-loop
 loop-less c =
     let s = c .before .before .before .before .before .before .before .before .before .before .before .before .before .before .before in
     let t = c .before .before .before .before .before .before .before .loop in
     let h = hop s (t .here) (t .inv .2) (omega (arith, t .inv .0, t .inv .1, c .before .before .before .before .before .before .loop-test .taken)) in
-    omega (arith, c .before .before .before .before .take-cells .ensures .passed-is, c .before .pass-burst .ensures .2, h .number, s .pre .0 .walks .bursts .count)
+    omega (
+      arith,
+      c .before .before .before .before .take-cells .ensures .passed-is,
+      c .before .pass-burst .ensures .2,
+      h .number,
+      s .pre .0 .walks .bursts .count,
+    )
 
 loop-again : tie.Need-loop-again Inv-loop μ-loop
 loop-again c =
@@ -139,7 +147,8 @@ loop-again c =
     let t = c .before .before .before .before .before .before .before .loop in
     let p = t .inv .2 in
     let h = hop s (t .here) p (omega (arith, t .inv .0, t .inv .1, c .before .before .before .before .before .before .loop-test .taken)) in
-    let cells = message-to s (t .here) p (t .stop) (omega (arith, t .inv .1)) (omega (arith, t .inv .0, c .before .before .before .before .before .before .loop-test .taken)) in
+    let cells = message-to s (t .here) p (t .stop) (omega (arith, t .inv .1))
+    (omega (arith, t .inv .0, c .before .before .before .before .before .before .loop-test .taken)) in
     let m = c .before .before .before .before .take-cells .ensures in
     let u = c .before .pass-burst .ensures in
     let stop = next s (t .here .passed) in
@@ -154,7 +163,8 @@ loop-again c =
     )
 
 same-length : tie.Need-same-length Inv-loop μ-loop
-same-length c = sym (c .before .before .before .loop .inv .3 .so-far .size) ∙ c .before .before .before .before .before .before .before .before .before .before .before .pre .0 .so-far .size
+same-length c = sym (c .before .before .before .loop .inv .3 .so-far .size)
+    ∙ c .before .before .before .before .before .before .before .before .before .before .before .pre .0 .so-far .size
 
 returns : tie.Need-returns Inv-loop μ-loop
 returns c =
@@ -172,7 +182,9 @@ take-cells-requires-2 c κs =
     (omega (arith, t .inv .0, up), omega (arith, t .inv .0, within, t .inv .3 .whole), omega (arith, t .inv .0, room (t .inv .3) (edge s) up within cells))
 
 same-length-2 : tie.Need-same-length-2 Inv-loop μ-loop
-same-length-2 c = c .before .before .take-cells2 .ensures .size ∙ sym (c .before .before .before .before .before .before .before .loop .inv .3 .so-far .size) ∙ c .before .before .before .before .before .before .before .before .before .before .before .before .before .before .before .pre .0 .so-far .size
+same-length-2 c = c .before .before .take-cells2 .ensures .size
+    ∙ sym (c .before .before .before .before .before .before .before .loop .inv .3 .so-far .size)
+    ∙ c .before .before .before .before .before .before .before .before .before .before .before .before .before .before .before .pre .0 .so-far .size
 
 returns-2 : tie.Need-returns-2 Inv-loop μ-loop
 returns-2 c =
@@ -191,24 +203,6 @@ pub take-block-spec : {M : Type 1} → statement M
 take-block-spec =
     tie.close
     (tie.spec
-    Inv-loop
-    μ-loop
-    add-edge
-    mul-edge
-    element-copy-out-edge
-    cast-edge
-    element-copy-out-head-cells
-    head-cells-requires
-    add-t13
-    next-start-requires
-    loop-holds
-    take-cells-requires
-    pass-burst-requires
-    next-start-requires-2
-    loop-less
-    loop-again
-    same-length
-    returns
-    take-cells-requires-2
-    same-length-2
-    returns-2)
+    Inv-loop μ-loop add-edge mul-edge element-copy-out-edge cast-edge element-copy-out-head-cells head-cells-requires add-t13
+    next-start-requires loop-holds take-cells-requires pass-burst-requires next-start-requires-2 loop-less loop-again same-length returns
+    take-cells-requires-2 same-length-2 returns-2)

@@ -55,14 +55,5 @@ pub take-cells-spec : {M : Type 1} → statement M
 take-cells-spec =
     tie.close
     (tie.spec
-    sub-len
-    sub-copy-over
-    part-copy-over-start
-    part-copy-over-end
-    sub-copy-over-2
-    part-copy-over-start-2
-    part-copy-over-end-2
-    copy-over-requires
-    add-t10
-    same-length
-    returns)
+    sub-len sub-copy-over part-copy-over-start part-copy-over-end sub-copy-over-2 part-copy-over-start-2 part-copy-over-end-2
+    copy-over-requires add-t10 same-length returns)

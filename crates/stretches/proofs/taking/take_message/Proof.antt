@@ -46,7 +46,12 @@ take-block-requires c κs =
     (t .inv .2, (omega (arith, c .before .if1 .taken), t .inv .1))
 
 add-block : tie.Need-add-block Inv-loop μ-loop
-add-block c = omega (arith, c .before .before .before .before .before .before .before .before .before .pre .walks .blocks-most, c .before .before .before .before .if1 .taken)
+add-block c =
+    omega (
+      arith,
+      c .before .before .before .before .before .before .before .before .before .pre .walks .blocks-most,
+      c .before .before .before .before .if1 .taken,
+    )
 
 loop-less : tie.Need-loop-less Inv-loop μ-loop
 loop-less c = omega arith
@@ -75,12 +80,4 @@ pub take-message-spec : {M : Type 1} → statement M
 take-message-spec =
     tie.close
     (tie.spec
-    Inv-loop
-    μ-loop
-    loop-holds
-    take-block-requires
-    add-block
-    loop-less
-    loop-again
-    same-length
-    returns)
+    Inv-loop μ-loop loop-holds take-block-requires add-block loop-less loop-again same-length returns)

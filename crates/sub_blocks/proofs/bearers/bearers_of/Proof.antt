@@ -92,8 +92,20 @@ loop-again c =
     let n = t .loop .inv .1 in
     let on = count-on (t .loop .i) (Free s) in
     ⊎-elim
-    (λ u. (omega (arith, k .before .before .loop-test .taken), simp length-set n, rw (u .1) (omega (arith, t .loop .inv .2, on, ap bit (sym e ∙ u .0 .taken))), kinds-on k))
-    (λ u. (omega (arith, k .before .before .loop-test .taken), simp length-set n, rw (u .1) (omega (arith, t .loop .inv .2, on, ap bit (sym e ∙ u .0 .left))), kinds-on k))
+    (λ u. (
+      omega (arith, k .before .before .loop-test .taken),
+      simp length-set n,
+      rw (u .1)
+          (omega (arith, t .loop .inv .2, on, ap bit (sym e ∙ u .0 .taken))),
+      kinds-on k,
+    ))
+    (λ u. (
+      omega (arith, k .before .before .loop-test .taken),
+      simp length-set n,
+      rw (u .1)
+          (omega (arith, t .loop .inv .2, on, ap bit (sym e ∙ u .0 .left))),
+      kinds-on k,
+    ))
     (c .if1 .came)
 
 returns : tie.Need-returns Inv-loop μ-loop
@@ -103,16 +115,5 @@ pub bearers-of-spec : {M : Type 1} → statement M
 bearers-of-spec =
     tie.close
     (tie.spec
-    Inv-loop
-    μ-loop
-    mul-blocks
-    add-blocks
-    loop-holds
-    is-untouched-requires
-    kind-of-requires
-    array-write-kinds
-    add-met
-    add-i
-    loop-less
-    loop-again
-    returns)
+    Inv-loop μ-loop mul-blocks add-blocks loop-holds is-untouched-requires kind-of-requires array-write-kinds add-met add-i loop-less
+    loop-again returns)

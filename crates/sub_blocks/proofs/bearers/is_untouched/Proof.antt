@@ -67,12 +67,15 @@ met s = let a = s .args in touched (a .layout .b) (getD (a .starts .now) (a .i) 
 
 -- the bursts from j on begin with burst j + 1
 next : (c : tie.In-loop Inv-loop μ-loop) → (let s = c .before .before .before .before in
-    any (met s) (getD (s .args .t3 .starts) (c .before .loop .j) 0 ∷ drop (c .before .loop .j + 1) (startsIn (s .args .t3))) ≡ any (met s) (startsIn (s .args .t3)))
+    any (met s) (getD (s .args .t3 .starts) (c .before .loop .j) 0 ∷ drop (c .before .loop .j + 1) (startsIn (s .args .t3))) ≡ any (met s)
+    (startsIn (s .args .t3)))
 next c =
     let s = c .before .before .before .before in
     let p = s .args .t3 in
     let l : length (p .starts) ≡ maxBursts = search needs in
-    ap (any (met s)) (sym (left-next (p .count) (c .before .loop .j) (p .starts) (omega arith) (omega (arith, s .pre .0 .count, bound (s .args .layout) (s .pre .0 .layout)))))
+    ap (any (met s))
+    (sym (left-next (p .count) (c .before .loop .j) (p .starts) (omega arith)
+    (omega (arith, s .pre .0 .count, bound (s .args .layout) (s .pre .0 .layout)))))
     ∙ c .before .loop .inv .1
 
 -- what the bursts say of the sub-block
@@ -90,7 +93,8 @@ returns c =
     let t = c .before .before .before in
     let s = t .before .before .before .before in
     let b = getD (s .args .t3 .starts) (t .before .loop .j) 0 in
-    sym (ap not (any-here (met s) b (drop (t .before .loop .j + 1) (startsIn (s .args .t3))) (sym (c .before .touches .ensures) ∙ c .if1 .taken))) ∙ ap not (next t) ∙ says s
+    sym (ap not (any-here (met s) b (drop (t .before .loop .j + 1) (startsIn (s .args .t3))) (sym (c .before .touches .ensures) ∙ c .if1 .taken)))
+    ∙ ap not (next t) ∙ says s
 
 add-j : tie.Need-add-j Inv-loop μ-loop
 add-j c = search needs
@@ -117,20 +121,5 @@ pub is-untouched-spec : {M : Type 1} → statement M
 is-untouched-spec =
     tie.close
     (tie.spec
-    Inv-loop
-    μ-loop
-    mul-from
-    element-copy-out-from
-    cast-from
-    add-end
-    cast-count
-    loop-holds
-    mul-s
-    element-copy-out-s
-    cast-touches
-    touches-requires
-    returns
-    add-j
-    loop-less
-    loop-again
-    returns-2)
+    Inv-loop μ-loop mul-from element-copy-out-from cast-from add-end cast-count loop-holds mul-s element-copy-out-s cast-touches
+    touches-requires returns add-j loop-less loop-again returns-2)

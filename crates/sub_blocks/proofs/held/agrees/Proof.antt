@@ -66,7 +66,8 @@ returns c =
     let j = t .loop .j in
     let off : Off s j ≡ true =
     rw (eqb-same (getD (a .kinds .now) j 0) indexKind (c .before .before .if1 .taken), sym (c .before .same-symbols .ensures) ∙ not-true _ (c .if2 .taken)) in
-    let told = ap not (sym (has-here (2 * a .layout .m + 1) j (Off s) (omega (arith, c .before .before .before .before .loop-test .taken)) off) ∙ t .loop .inv .1 ∙ by-blocks s) in
+    let told = ap not (sym (has-here (2 * a .layout .m + 1) j (Off s) (omega (arith, c .before .before .before .before .loop-test .taken)) off)
+    ∙ t .loop .inv .1 ∙ by-blocks s) in
     λ ss is. told ∙ agrees-by (a .layout) (a .word .now) (a .i) (s .pre .0) (s .pre .2) ss (a .kinds .now) is
 
 add-j : tie.Need-add-j Inv-loop μ-loop
@@ -85,7 +86,11 @@ loop-again c =
     let on : Off s j ≡ false → has (n - (j + 1)) (j + 1) (Off s) ≡ has n 0 (Off s) =
     λ e. sym (has-on n j (Off s) (omega (arith, c .before .before .loop-test .taken)) e) ∙ t .loop .inv .1 in
     ⊎-elim
-    (λ u. (omega (arith, c .before .before .loop-test .taken), on (rw (eqb-same (getD (a .kinds .now) j 0) indexKind (u .0 .taken), sym (u .1 .ensures) ∙ not-false _ (u .2 .left)))))
+    (λ u. (
+      omega (arith, c .before .before .loop-test .taken),
+      on
+          (rw (eqb-same (getD (a .kinds .now) j 0) indexKind (u .0 .taken), sym (u .1 .ensures) ∙ not-false _ (u .2 .left))),
+    ))
     (λ u. (omega (arith, c .before .before .loop-test .taken), on (rw (eqb-other (getD (a .kinds .now) j 0) indexKind (u .left)))))
     (c .if1 .came)
 
@@ -101,15 +106,5 @@ pub agrees-spec : {M : Type 1} → statement M
 agrees-spec =
     tie.close
     (tie.spec
-    Inv-loop
-    μ-loop
-    mul-blocks
-    add-blocks
-    loop-holds
-    element-copy-out-if1
-    same-symbols-requires
-    returns
-    add-j
-    loop-less
-    loop-again
+    Inv-loop μ-loop mul-blocks add-blocks loop-holds element-copy-out-if1 same-symbols-requires returns add-j loop-less loop-again
     returns-2)

@@ -53,18 +53,12 @@ returns c =
     let w = a .word .now in
     let from = getD (a .starts .now) (a .i) 0 in
     let is = part-is (a .layout) w (s .pre .0) (a .i) from (s .pre .2) (s .pre .1 .0 (a .i) (s .pre .2)) in
-    c .with-digits .ensures ∙ ap (λ (v : ℕ). min v (a .layout .«placement_count»)) (spelled-is (a .layout) w (a .i) (take (from + a .layout .«sub_len» - from) (drop from w)) is)
+    c .with-digits .ensures ∙ ap (λ (v : ℕ). min v (a .layout .«placement_count»))
+    (spelled-is (a .layout) w (a .i) (take (from + a .layout .«sub_len» - from) (drop from w)) is)
 
 pub value-of-spec : {M : Type 1} → statement M
 value-of-spec =
     tie.close
     (tie.spec
-    mul-from
-    element-copy-out-from
-    cast-from
-    add-end
-    sub-with-digits
-    part-with-digits-start
-    part-with-digits-end
-    with-digits-requires
+    mul-from element-copy-out-from cast-from add-end sub-with-digits part-with-digits-start part-with-digits-end with-digits-requires
     returns)

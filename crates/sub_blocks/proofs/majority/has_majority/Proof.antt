@@ -21,12 +21,14 @@ room s = starts-room (s .args .layout) (s .pre .0 .layout) (s .args .starts .now
 
 -- what the test of the part says
 tested : (c : tie.After-all-below)
-    → (let a = c .before .before .before .before .before .args in c .all-below .result ≡ allBelow (a .layout .q) (subSymbols (larssonFiguresOf (a .layout)) (a .word .now) (a .i)))
+    → (let a = c .before .before .before .before .before .args in
+    c .all-below .result ≡ allBelow (a .layout .q) (subSymbols (larssonFiguresOf (a .layout)) (a .word .now) (a .i)))
 tested c =
     let s = c .before .before .before .before .before in
     let a = s .args in
     c .all-below .ensures
-    ∙ ap (allBelow (a .layout .q)) (part-is (a .layout) (a .word .now) (s .pre .0) (a .i) (getD (a .starts .now) (a .i) 0) (s .pre .2) (s .pre .1 .0 (a .i) (s .pre .2)))
+    ∙ ap (allBelow (a .layout .q)) (part-is (a .layout) (a .word .now) (s .pre .0) (a .i) (getD (a .starts .now) (a .i) 0) (s .pre .2)
+    (s .pre .1 .0 (a .i) (s .pre .2)))
 
 mul-from : tie.Need-mul-from
 mul-from c = omega (arith, c .before .pre .2, bound (c .before .args .layout) (c .before .pre .0 .layout))
@@ -76,20 +78,12 @@ returns-2 c =
     let e = c .before .before in
     let s = e .before .before .before .before .before .before in
     let a = s .args in
-    voted (a .layout) (a .word .now) (s .pre .0) (a .i) (c .before .votes .result) (sym (tested (e .before)) ∙ not-false _ (e .if1 .left)) (c .before .votes .ensures)
+    voted (a .layout) (a .word .now) (s .pre .0) (a .i) (c .before .votes .result) (sym (tested (e .before)) ∙ not-false _ (e .if1 .left))
+    (c .before .votes .ensures)
 
 pub has-majority-spec : {M : Type 1} → statement M
 has-majority-spec =
     tie.close
     (tie.spec
-    mul-from
-    element-copy-out-from
-    cast-from
-    add-end
-    sub-all-below
-    part-all-below-start
-    part-all-below-end
-    all-below-requires
-    returns
-    votes-requires
-    returns-2)
+    mul-from element-copy-out-from cast-from add-end sub-all-below part-all-below-start part-all-below-end all-below-requires returns
+    votes-requires returns-2)

@@ -16,7 +16,8 @@ use Rattle.sub_blocks.proofs.majority.majority_block.Tie as tie
 
 abbrev Inv-loop : tie.InvT-loop
 Inv-loop layout starts word m i₀ i =
-    (i ≤ suc m) × ((x : ℕ) → x < i → hasCommon (subBlocks (larssonFiguresOf layout)) (suc (layout .m)) (subValue (larssonFiguresOf layout) word) (subValue (larssonFiguresOf layout) word x) ≡ false)
+    (i ≤ suc m) × ((x : ℕ) → x < i → hasCommon (subBlocks (larssonFiguresOf layout)) (suc (layout .m)) (subValue (larssonFiguresOf layout) word)
+    (subValue (larssonFiguresOf layout) word x) ≡ false)
 
 abbrev μ-loop : tie.MeasureT-loop
 μ-loop layout starts word m i₀ i = suc m - i
@@ -34,7 +35,8 @@ returns c =
     let t = c .before .before .before in
     let s = t .before .before in
     let a = s .args in
-    majority-here (a .layout) (a .word .now) (s .pre .0) (t .loop .i) (omega (arith, c .before .before .loop-test .taken)) (sym (c .before .has-majority .ensures) ∙ c .if1 .taken)
+    majority-here (a .layout) (a .word .now) (s .pre .0) (t .loop .i) (omega (arith, c .before .before .loop-test .taken))
+    (sym (c .before .has-majority .ensures) ∙ c .if1 .taken)
 
 add-i : tie.Need-add-i Inv-loop μ-loop
 add-i c =
@@ -45,8 +47,11 @@ loop-less : tie.Need-loop-less Inv-loop μ-loop
 loop-less c = omega (arith, c .before .before .loop-test .taken)
 
 loop-again : tie.Need-loop-again Inv-loop μ-loop
-loop-again c =
-    (omega (arith, c .before .before .loop-test .taken), below-more _ _ (c .before .before .before .loop .inv .1) (sym (c .before .has-majority .ensures) ∙ c .if1 .left))
+loop-again c = (
+  omega (arith, c .before .before .loop-test .taken),
+  below-more _ _ (c .before .before .before .loop .inv .1)
+      (sym (c .before .has-majority .ensures) ∙ c .if1 .left),
+)
 
 mul-result : tie.Need-mul-result Inv-loop μ-loop
 mul-result c =
@@ -68,14 +73,4 @@ pub majority-block-spec : {M : Type 1} → statement M
 majority-block-spec =
     tie.close
     (tie.spec
-    Inv-loop
-    μ-loop
-    loop-holds
-    has-majority-requires
-    returns
-    add-i
-    loop-less
-    loop-again
-    mul-result
-    add-result
-    returns-2)
+    Inv-loop μ-loop loop-holds has-majority-requires returns add-i loop-less loop-again mul-result add-result returns-2)

@@ -54,15 +54,4 @@ pub same-stretches-spec : {M : Type 1} → statement M
 same-stretches-spec =
     tie.close
     (tie.spec
-    Inv-loop
-    μ-loop
-    loop-holds
-    add-if1
-    shared-slice-read-if1
-    add-if1-2
-    shared-slice-read-if1-2
-    returns
-    add-k
-    loop-less
-    loop-again
-    returns-2)
+    Inv-loop μ-loop loop-holds add-if1 shared-slice-read-if1 add-if1-2 shared-slice-read-if1-2 returns add-k loop-less loop-again returns-2)

@@ -11,7 +11,8 @@ use Rattle.sub_blocks.proofs.Voting.{symbols-from}
 use Rattle.sub_blocks.proofs.majority.same_symbols.Statement.{statement}
 use Rattle.sub_blocks.proofs.majority.same_symbols.Tie as tie
 
-room : (s : tie.Start) (k : ℕ) → k < subBlocks (larssonFiguresOf (s .args .layout)) → getD (s .args .starts .now) k 0 + s .args .layout .«sub_len» ≤ s .args .layout .n
+room : (s : tie.Start) (k : ℕ) → k < subBlocks (larssonFiguresOf (s .args .layout))
+    → getD (s .args .starts .now) k 0 + s .args .layout .«sub_len» ≤ s .args .layout .n
 room s = starts-room (s .args .layout) (s .pre .0 .layout) (s .args .starts .now) (s .pre .1)
 
 mul-same-stretches : tie.Need-mul-same-stretches
@@ -47,17 +48,12 @@ returns c =
     let a = s .args in
     let one = symbols-from (a .layout) (a .word .now) (s .pre .0) in
     c .same-stretches .ensures
-    ∙ ap₂ sameList (one (a .i) (getD (a .starts .now) (a .i) 0) (s .pre .1 .0 (a .i) (s .pre .2))) (one (a .j) (getD (a .starts .now) (a .j) 0) (s .pre .1 .0 (a .j) (s .pre .3)))
+    ∙ ap₂ sameList (one (a .i) (getD (a .starts .now) (a .i) 0) (s .pre .1 .0 (a .i) (s .pre .2)))
+    (one (a .j) (getD (a .starts .now) (a .j) 0) (s .pre .1 .0 (a .j) (s .pre .3)))
 
 pub same-symbols-spec : {M : Type 1} → statement M
 same-symbols-spec =
     tie.close
     (tie.spec
-    mul-same-stretches
-    element-copy-out-same-stretches
-    cast-same-stretches
-    mul-same-stretches-2
-    element-copy-out-same-stretches-2
-    cast-same-stretches-2
-    same-stretches-requires
-    returns)
+    mul-same-stretches element-copy-out-same-stretches cast-same-stretches mul-same-stretches-2 element-copy-out-same-stretches-2
+    cast-same-stretches-2 same-stretches-requires returns)

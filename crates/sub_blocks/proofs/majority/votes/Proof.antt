@@ -30,7 +30,8 @@ limits s = bound (s .args .layout) (s .pre .0 .layout)
 
 -- the sub-blocks with the symbols
 abbrev Alike : Start → ℕ → Bool
-Alike s = λ x. sameList (subSymbols (larssonFiguresOf (s .args .layout)) (s .args .word .now) x) (subSymbols (larssonFiguresOf (s .args .layout)) (s .args .word .now) (s .args .i))
+Alike s = λ x. sameList (subSymbols (larssonFiguresOf (s .args .layout)) (s .args .word .now) x)
+    (subSymbols (larssonFiguresOf (s .args .layout)) (s .args .word .now) (s .args .i))
 
 mul-blocks : tie.Need-mul-blocks Inv-loop μ-loop
 mul-blocks c = omega (arith, limits (c .before .before))
@@ -83,14 +84,4 @@ pub votes-spec : {M : Type 1} → statement M
 votes-spec =
     tie.close
     (tie.spec
-    Inv-loop
-    μ-loop
-    mul-blocks
-    add-blocks
-    loop-holds
-    same-symbols-requires
-    add-met
-    add-j
-    loop-less
-    loop-again
-    returns)
+    Inv-loop μ-loop mul-blocks add-blocks loop-holds same-symbols-requires add-met add-j loop-less loop-again returns)

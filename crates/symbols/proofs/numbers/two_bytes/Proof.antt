@@ -36,12 +36,4 @@ pub two-bytes-spec : {M : Type 1} → statement M
 two-bytes-spec =
     tie.close
     (tie.spec
-    shared-slice-read-high
-    cast-high
-    add-low
-    shared-slice-read-low
-    cast-low
-    mul-result
-    add-result
-    cast-result
-    returns)
+    shared-slice-read-high cast-high add-low shared-slice-read-low cast-low mul-result add-result cast-result returns)

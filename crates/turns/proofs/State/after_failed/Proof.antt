@@ -22,7 +22,8 @@ returns c =
     let s = c .before .before .before in
     let i = c .before .before .is-repeated in
     let told = ap (isRepeated (s .args .self)) (toZ-ofZ w32 (s .args .error) (s .fits .error)) in
-    c .in-phase .ensures ∙ failed-last (s .args .self) (isRepeated (s .args .self) (s .args .error)) (sym (i .ensures ∙ told) ∙ not-true (i .result) (c .before .if1 .taken))
+    c .in-phase .ensures ∙ failed-last (s .args .self) (isRepeated (s .args .self) (s .args .error))
+    (sym (i .ensures ∙ told) ∙ not-true (i .result) (c .before .if1 .taken))
 
 sub-t8 : tie.Need-sub-t8
 sub-t8 c =

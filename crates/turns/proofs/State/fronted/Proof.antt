@@ -58,12 +58,4 @@ pub fronted-spec : {M : Type 1} → statement M
 fronted-spec =
     tie.close
     (tie.spec
-    wants-requires
-    enum-told
-    to-front-requires
-    enum-told-2
-    enum-told-3
-    same-length
-    returns
-    returns-2
-    returns-3)
+    wants-requires enum-told to-front-requires enum-told-2 enum-told-3 same-length returns returns-2 returns-3)

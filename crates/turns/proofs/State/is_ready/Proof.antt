@@ -34,12 +34,4 @@ pub is-ready-spec : {M : Type 1} → statement M
 is-ready-spec =
     tie.close
     (tie.spec
-    enum-told
-    sub-result
-    enum-told-2
-    enum-told-3
-    enum-told-4
-    returns
-    returns-2
-    returns-3
-    returns-4)
+    enum-told sub-result enum-told-2 enum-told-3 enum-told-4 returns returns-2 returns-3 returns-4)

@@ -44,12 +44,4 @@ pub wants-spec : {M : Type 1} → statement M
 wants-spec =
     tie.close
     (tie.spec
-    returns
-    enum-told
-    enum-told-2
-    enum-told-3
-    enum-told-4
-    returns-2
-    returns-3
-    returns-4
-    returns-5)
+    returns enum-told enum-told-2 enum-told-3 enum-told-4 returns-2 returns-3 returns-4 returns-5)

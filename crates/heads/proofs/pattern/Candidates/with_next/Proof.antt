@@ -14,7 +14,8 @@ add-t4 : tie.Need-add-t4
 add-t4 c = search needs
 
 returns-3 : tie.Need-returns-3
-returns-3 c = λ xs e. candidates-more (c .before .before .before .before .before .args .self) xs e (c .before .before .before .before .before .args .x) (c .before .before .before .if1 .left) (c .before .if2 .left)
+returns-3 c = λ xs e. candidates-more (c .before .before .before .before .before .args .self) xs e (c .before .before .before .before .before .args .x)
+    (c .before .before .before .if1 .left) (c .before .if2 .left)
 
 pub with-next-spec : {M : Type 1} → statement M
 with-next-spec = tie.close (tie.spec returns returns-2 add-t4 returns-3)

@@ -84,16 +84,4 @@ pub laid-out-spec : {M : Type 1} → statement M
 laid-out-spec =
     tie.close
     (tie.spec
-    cast-n
-    cast-b
-    returns
-    cast-q
-    add-offsets
-    least-tail-requires
-    returns-2
-    sub-placements
-    add-placements
-    sub-t10
-    sub-t12
-    sub-t13
-    returns-3)
+    cast-n cast-b returns cast-q add-offsets least-tail-requires returns-2 sub-placements add-placements sub-t10 sub-t12 sub-t13 returns-3)

@@ -39,11 +39,4 @@ pub read-text-spec : {M : Type 1} → statement M
 read-text-spec =
     tie.close
     (tie.spec
-    returns
-    sub-all-below
-    part-all-below-start
-    part-all-below-end
-    all-below-requires
-    returns-2
-    read-stored-requires
-    returns-3)
+    returns sub-all-below part-all-below-start part-all-below-end all-below-requires returns-2 read-stored-requires returns-3)

@@ -79,19 +79,5 @@ pub write-text-spec : {M : Type 1} → statement M
 write-text-spec =
     tie.close
     (tie.spec
-    returns
-    stored-requires
-    enum-known-right-answer
-    enum-told
-    returns-2
-    stored-requires-2
-    enum-known-left-answer
-    enum-told-2
-    returns-3
-    count-of-requires
-    enum-known-count
-    enum-told-3
-    returns-4
-    write-stored-requires
-    same-length
-    returns-5)
+    returns stored-requires enum-known-right-answer enum-told returns-2 stored-requires-2 enum-known-left-answer enum-told-2 returns-3
+    count-of-requires enum-known-count enum-told-3 returns-4 write-stored-requires same-length returns-5)
