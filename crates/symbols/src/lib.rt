@@ -1,6 +1,6 @@
 // Lent symbols: tested, cleared and copied. Assumes nothing.
 ghost use mathlib.Core.Path.{_≡_};
-ghost use mathlib.Core.Bool.{_&&_};
+ghost use mathlib.Core.Bool.{true, _&&_};
 ghost use Prim.Native.Nat.{ℕ, _-_, _*_, _≤_, _<_};
 ghost use lib.Dec.{ltb};
 ghost use lib.ListN.{length, take, replicate};
@@ -61,20 +61,56 @@ pub fn copy_prefix(to: &mut [u8], from: &[u8])
     ensures { λ _. ⌜ now (to .exit) ≡ take (length (now (to .entry))) (now (from .entry)) ⌝ }
 {
     let len = to.len();
-    copy_first(to, from, len);
+    copy_long(to, from, len);
 }
 
-// The first `len` symbols, in moves of sizes that the compiler knows. Of what lies behind them nothing is said.
-fn copy_first(to: &mut [u8], from: &[u8], len: usize)
+// The first `len` symbols. What lies behind them may change: short copies are one move of a size that the compiler knows, where both have so many.
+pub fn copy_over(to: &mut [u8], from: &[u8], len: usize)
     requires { ⌜ (len ≤ length (now to)) × (len ≤ length (now from)) ⌝ }
     ensures { λ _. ⌜ take len (now (to .exit)) ≡ take len (now (from .entry)) ⌝ }
 {
-    let done = copy_most(to, from, len);
-    copy_rest(&mut to[done..], &from[done..], len - done);
+    if CHUNK < len {
+        if copy_fitting(to, from, len, MOST) {
+            return;
+        }
+        copy_long(to, from, len);
+        return;
+    }
+    if copy_fitting(to, from, len, CHUNK) {
+        return;
+    }
+    if copy_fitting(to, from, len, FEW) {
+        return;
+    }
+    copy_long(to, from, len);
 }
 
-// The first `len` symbols, the last of them in chunks as long as both have a chunk left, so that what lies behind them may change too.
-pub fn copy_over(to: &mut [u8], from: &[u8], len: usize)
+// How many symbols go at a time where what lies behind them may change.
+const CHUNK: usize = 32;
+
+// And where fewer than CHUNK are left.
+const FEW: usize = 8;
+
+// `size` symbols where these are enough and both have them; whether it is so.
+fn copy_fitting(to: &mut [u8], from: &[u8], len: usize, size: usize) -> bool
+    requires { ⌜ size ≤ 128 ⌝ }
+    ensures { λ r. ⌜ (r ≡ true → take len (now (to .exit)) ≡ take len (now (from .entry))) ⌝ }
+{
+    if size < len {
+        return false;
+    }
+    if from.len() < size {
+        return false;
+    }
+    if to.len() < size {
+        return false;
+    }
+    copy_by(to, from, size);
+    true
+}
+
+// The first `len` symbols, however many: MOST at a time, then in chunks as long as both have a chunk left.
+fn copy_long(to: &mut [u8], from: &[u8], len: usize)
     requires { ⌜ (len ≤ length (now to)) × (len ≤ length (now from)) ⌝ }
     ensures { λ _. ⌜ take len (now (to .exit)) ≡ take len (now (from .entry)) ⌝ }
 {
@@ -85,7 +121,7 @@ pub fn copy_over(to: &mut [u8], from: &[u8], len: usize)
 // MOST at a time, until fewer are left; the number of symbols copied.
 fn copy_most(to: &mut [u8], from: &[u8], len: usize) -> usize
     requires { ⌜ (len ≤ length (now to)) × (len ≤ length (now from)) ⌝ }
-    ensures { λ r. ⌜ (r ≤ len) × (take r (now (to .exit)) ≡ take r (now (from .entry))) × (len - r < 64) ⌝ }
+    ensures { λ r. ⌜ (r ≤ len) × (take r (now (to .exit)) ≡ take r (now (from .entry))) × (len - r < 128) ⌝ }
 {
     let mut done: usize = 0;
     while MOST <= len - done {
@@ -97,7 +133,7 @@ fn copy_most(to: &mut [u8], from: &[u8], len: usize) -> usize
 
 // Fewer than MOST, a chunk at a time.
 fn copy_chunks(to: &mut [u8], from: &[u8], len: usize)
-    requires { ⌜ (len ≤ length (now to)) × (len ≤ length (now from)) × (len < 64) ⌝ }
+    requires { ⌜ (len ≤ length (now to)) × (len ≤ length (now from)) × (len < 128) ⌝ }
     ensures { λ _. ⌜ take len (now (to .exit)) ≡ take len (now (from .entry)) ⌝ }
 {
     let mut done: usize = 0;
@@ -115,9 +151,6 @@ fn copy_chunks(to: &mut [u8], from: &[u8], len: usize)
     }
 }
 
-// How many symbols go at a time where what lies behind them may change.
-const CHUNK: usize = 32;
-
 // The first `len` symbols 0. What lies behind them may change.
 pub fn clear_over(to: &mut [u8], len: usize)
     requires { ⌜ len ≤ length (now to) ⌝ }
@@ -131,27 +164,36 @@ pub fn clear_over(to: &mut [u8], len: usize)
     copy_over(to, &zeros, len);
 }
 
-// Fewer than MOST.
+// Fewer than MOST, each once.
 fn copy_rest(to: &mut [u8], from: &[u8], len: usize)
-    requires { ⌜ (len ≤ length (now to)) × (len ≤ length (now from)) × (len < 64) ⌝ }
+    requires { ⌜ (len ≤ length (now to)) × (len ≤ length (now from)) × (len < 128) ⌝ }
     ensures { λ _. ⌜ take len (now (to .exit)) ≡ take len (now (from .entry)) ⌝ }
 {
-    let done = copy_two(to, from, len, 16);
+    let done = copy_two(to, from, len, 32);
     copy_few(&mut to[done..], &from[done..], len - done);
 }
 
-// Fewer than 16.
+// Fewer than 32.
 fn copy_few(to: &mut [u8], from: &[u8], len: usize)
-    requires { ⌜ (len ≤ length (now to)) × (len ≤ length (now from)) × (len < 16) ⌝ }
+    requires { ⌜ (len ≤ length (now to)) × (len ≤ length (now from)) × (len < 32) ⌝ }
     ensures { λ _. ⌜ take len (now (to .exit)) ≡ take len (now (from .entry)) ⌝ }
 {
-    let done = copy_two(to, from, len, 4);
-    copy_two(&mut to[done..], &from[done..], len - done, 1);
+    let done = copy_two(to, from, len, 8);
+    copy_last(&mut to[done..], &from[done..], len - done);
+}
+
+// Fewer than 8.
+fn copy_last(to: &mut [u8], from: &[u8], len: usize)
+    requires { ⌜ (len ≤ length (now to)) × (len ≤ length (now from)) × (len < 8) ⌝ }
+    ensures { λ _. ⌜ take len (now (to .exit)) ≡ take len (now (from .entry)) ⌝ }
+{
+    let done = copy_two(to, from, len, 2);
+    copy_step(&mut to[done..], &from[done..], len - done, 1);
 }
 
 // Twice so many where that many are left, then so many; the number of symbols copied.
 fn copy_two(to: &mut [u8], from: &[u8], len: usize, size: usize) -> usize
-    requires { ⌜ (len ≤ length (now to)) × (len ≤ length (now from)) × (size ≤ 32) ⌝ }
+    requires { ⌜ (len ≤ length (now to)) × (len ≤ length (now from)) × (size ≤ 64) ⌝ }
     ensures { λ r. ⌜ (r ≤ len) × (take r (now (to .exit)) ≡ take r (now (from .entry))) × (len < 4 * size → len - r < size) ⌝ }
 {
     let done = copy_step(to, from, len, 2 * size);
@@ -160,7 +202,7 @@ fn copy_two(to: &mut [u8], from: &[u8], len: usize, size: usize) -> usize
 
 // So many symbols where that many are left, or none; the number of symbols copied.
 fn copy_step(to: &mut [u8], from: &[u8], len: usize, size: usize) -> usize
-    requires { ⌜ (len ≤ length (now to)) × (len ≤ length (now from)) × (size ≤ 64) ⌝ }
+    requires { ⌜ (len ≤ length (now to)) × (len ≤ length (now from)) × (size ≤ 128) ⌝ }
     ensures { λ r. ⌜ (r ≤ len) × (take r (now (to .exit)) ≡ take r (now (from .entry))) × (len < 2 * size → len - r < size) ⌝ }
 {
     if len < size {
@@ -171,12 +213,12 @@ fn copy_step(to: &mut [u8], from: &[u8], len: usize, size: usize) -> usize
 }
 
 // The most symbols that go at a time.
-const MOST: usize = 64;
+const MOST: usize = 128;
 
 // The first `size` symbols, at most MOST. They go by way of a local array, so that the compiler need not fear that the two overlap: where it
 // knows the size it makes one move of this.
 fn copy_by(to: &mut [u8], from: &[u8], size: usize)
-    requires { ⌜ (size ≤ length (now to)) × (size ≤ length (now from)) × (size ≤ 64) ⌝ }
+    requires { ⌜ (size ≤ length (now to)) × (size ≤ length (now from)) × (size ≤ 128) ⌝ }
     ensures { λ _. ⌜ take size (now (to .exit)) ≡ take size (now (from .entry)) ⌝ }
 {
     let mut room = [0u8; MOST];

@@ -54,7 +54,7 @@ loop-again c =
     let part = c .before .before .copy-by in (
       omega arith,
       same-len-mid (s .loop .done) (length (s .loop .to) - s .loop .done) (s .loop .to) (part .last .0) (search needs) ∙ s .loop .inv .1,
-      copied-turn (s .loop .done) 64 (s .loop .to) (s .before .before .before .args .from .now) (part .last .0) (search needs) (search needs)
+      copied-turn (s .loop .done) 128 (s .loop .to) (s .before .before .before .args .from .now) (part .last .0) (search needs) (search needs)
           (s .loop .inv .2) (part .ensures),
     )
 

@@ -1,51 +1,69 @@
--- `copy_over` meets its contract: two parts, one behind the other. Assumes nothing.
-use native.Mathlib.Omega.{arith}
-use Rattle.symbols.proofs.Copied.{copied-rest}
+-- `copy_over` meets its contract: one move, or the long way. Assumes nothing.
 use borrow.Author.Needs.{needs}
 use Rattle.symbols.proofs.copy_over.Statement.{statement}
 use Rattle.symbols.proofs.copy_over.Tie as tie
 
-copy-most-requires : tie.Need-copy-most-requires
-copy-most-requires c κs = search needs
-
-sub-copy-chunks : tie.Need-sub-copy-chunks
-sub-copy-chunks c = search needs
-
-part-copy-chunks-start : tie.Need-part-copy-chunks-start
-part-copy-chunks-start c = search needs
-
-part-copy-chunks-end : tie.Need-part-copy-chunks-end
-part-copy-chunks-end c = search needs
-
-sub-copy-chunks-2 : tie.Need-sub-copy-chunks-2
-sub-copy-chunks-2 c = search needs
-
-part-copy-chunks-start-2 : tie.Need-part-copy-chunks-start-2
-part-copy-chunks-start-2 c = search needs
-
-part-copy-chunks-end-2 : tie.Need-part-copy-chunks-end-2
-part-copy-chunks-end-2 c = search needs
-
-sub-copy-chunks-3 : tie.Need-sub-copy-chunks-3
-sub-copy-chunks-3 c = search needs
-
-copy-chunks-requires : tie.Need-copy-chunks-requires
-copy-chunks-requires c κs = (search needs, search needs, c .before .before .before .before .copy-most .ensures .2)
+copy-fitting-requires : tie.Need-copy-fitting-requires
+copy-fitting-requires c κs = search needs
 
 same-length : tie.Need-same-length
 same-length c = search needs
 
 returns : tie.Need-returns
-returns c =
-    let s = c .before .before .before .before .before .before .before .before .before .before .before in
-    let first = c .before .before .before .before .before .before .before .copy-most in
-    let second = c .before .before .copy-chunks in
-    copied-rest (first .result) (s .args .len) (first .last .0) (s .args .from .now) (second .last .0) (first .ensures .0) (search needs) (search needs)
-    (first .ensures .1) (second .ensures)
+returns c = c .before .before .before .copy-fitting .ensures (c .if2 .taken)
+
+copy-long-requires : tie.Need-copy-long-requires
+copy-long-requires c κs = search needs
+
+same-length-2 : tie.Need-same-length-2
+same-length-2 c = search needs
+
+returns-2 : tie.Need-returns-2
+returns-2 c = search needs
+
+copy-fitting-requires-2 : tie.Need-copy-fitting-requires-2
+copy-fitting-requires-2 c κs = search needs
+
+same-length-3 : tie.Need-same-length-3
+same-length-3 c = search needs
+
+returns-3 : tie.Need-returns-3
+returns-3 c = c .before .before .before .copy-fitting2 .ensures (c .if3 .taken)
+
+copy-fitting-requires-3 : tie.Need-copy-fitting-requires-3
+copy-fitting-requires-3 c κs = search needs
+
+same-length-4 : tie.Need-same-length-4
+same-length-4 c = search needs
+
+returns-4 : tie.Need-returns-4
+returns-4 c = c .before .before .before .copy-fitting3 .ensures (c .if4 .taken)
+
+copy-long-requires-2 : tie.Need-copy-long-requires-2
+copy-long-requires-2 c κs = search needs
+
+same-length-5 : tie.Need-same-length-5
+same-length-5 c = search needs
+
+returns-5 : tie.Need-returns-5
+returns-5 c = search needs
 
 pub copy-over-spec : {M : Type 1} → statement M
 copy-over-spec =
     tie.close
     (tie.spec
-    copy-most-requires sub-copy-chunks part-copy-chunks-start part-copy-chunks-end sub-copy-chunks-2 part-copy-chunks-start-2
-    part-copy-chunks-end-2 sub-copy-chunks-3 copy-chunks-requires same-length returns)
+    copy-fitting-requires
+    same-length
+    returns
+    copy-long-requires
+    same-length-2
+    returns-2
+    copy-fitting-requires-2
+    same-length-3
+    returns-3
+    copy-fitting-requires-3
+    same-length-4
+    returns-4
+    copy-long-requires-2
+    same-length-5
+    returns-5)
