@@ -11,7 +11,7 @@ use Rattle.placements.specs.declared.Placement.{Placement}
 use Rattle.placements.specs.Bridge.{startsIn}
 use Rattle.stretches.specs.declared.Walk.{Walk}
 use Rattle.stretches.specs.declared.fill.Filling.{Filling}
-use Rattle.stretches.specs.Walk.{frameBy, indexBefore, digitsBy}
+use Rattle.stretches.specs.Walk.{frameBy, indexBefore, digitsBy, nextStart}
 use Rattle.stretches.specs.ByBlock.{EntersBlock, Past, Walks}
 
 -- digits for the head of each index block
@@ -53,6 +53,7 @@ FilledTo w at heads kinds ds ms out here = Resumes w at heads kinds ds ms out (h
 abbrev pub ComesTo : Walk → Placement → List ℕ → List ℕ → ℕ → Filling → Type 0
 ComesTo w at heads kinds block here =
     EntersBlock (frameBy w heads kinds (startsIn at)) (w .b) (startsIn at) block (here .at) (here .passed) × (here .indexed ≡ indexBefore kinds block)
+    × (here .stop ≡ nextStart (w .n) (startsIn at) (here .passed))
 
 abbrev pub Enters : Walk → Placement → List ℕ → List ℕ → ℕ → Filling → Type 0
 Enters w at heads kinds block here = (block < w .blocks) × ComesTo w at heads kinds block here
@@ -61,6 +62,7 @@ Enters w at heads kinds block here = (block < w .blocks) × ComesTo w at heads k
 abbrev pub HeadPassed : Walk → Placement → List ℕ → List ℕ → ℕ → Filling → Type 0
 HeadPassed w at heads kinds block here =
     Past (frameBy w heads kinds (startsIn at)) (w .b) (startsIn at) block (here .at) (here .passed) × (here .indexed ≡ indexBefore kinds (suc block))
+    × (here .stop ≡ nextStart (w .n) (startsIn at) (here .passed))
 
 -- the next symbols of the message stand in the cells up to a position
 pub record MessageFilled (ms before after : List ℕ) (to : ℕ) (from here : Filling) : Type 0 where
@@ -68,6 +70,7 @@ pub record MessageFilled (ms before after : List ℕ) (to : ℕ) (from here : Fi
   pub indexed-is : here .indexed ≡ from .indexed
   pub sent-is : here .sent ≡ from .sent + (to - from .at)
   pub passed-is : here .passed ≡ from .passed
+  pub stop-is : here .stop ≡ from .stop
   pub made : take to after ≡ take (from .at) before ++ take (to - from .at) (drop (from .sent) ms)
   pub size : length after ≡ length before
 

@@ -12,7 +12,7 @@ use Rattle.placements.specs.declared.Placement.{Placement}
 use Rattle.placements.specs.Bridge.{startsIn}
 use Rattle.stretches.specs.declared.Walk.{Walk}
 use Rattle.stretches.specs.declared.taking.Taking.{Taking}
-use Rattle.stretches.specs.Walk.{frameBy}
+use Rattle.stretches.specs.Walk.{frameBy, nextStart}
 use Rattle.stretches.specs.ByBlock.{EntersBlock, PlacedIn, Walks}
 use Rattle.stretches.specs.Fill.{MessageFor}
 
@@ -48,6 +48,7 @@ TakenTo w at heads kinds ws out here = Takes w at heads kinds ws out (here .at) 
 -- the walk comes to a block, or to the word's end
 abbrev pub ComesTo : Walk → Placement → List ℕ → List ℕ → ℕ → Taking → Type 0
 ComesTo w at heads kinds block here = EntersBlock (frameBy w heads kinds (startsIn at)) (w .b) (startsIn at) block (here .at) (here .passed)
+    × (here .stop ≡ nextStart (w .n) (startsIn at) (here .passed))
 
 abbrev pub Enters : Walk → Placement → List ℕ → List ℕ → ℕ → Taking → Type 0
 Enters w at heads kinds block here = (block < w .blocks) × ComesTo w at heads kinds block here
@@ -57,5 +58,6 @@ pub record CellsTaken (ws before after : List ℕ) (to : ℕ) (from here : Takin
   pub at-is : here .at ≡ to
   pub taken-is : here .taken ≡ from .taken + (to - from .at)
   pub passed-is : here .passed ≡ from .passed
+  pub stop-is : here .stop ≡ from .stop
   pub made : take (from .taken + (to - from .at)) after ≡ take (from .taken) before ++ take (to - from .at) (drop (from .at) ws)
   pub size : length after ≡ length before

@@ -6,7 +6,8 @@ ghost use lib.ListN.{length};
 ghost use Rattle.cells.specs.Cells.{weave};
 ghost use Rattle.cells.specs.Plan.{planIn};
 ghost use Rattle.placements.specs.Bridge.{startsIn};
-ghost use Rattle.stretches.specs.Walk.{frameBy, digitsBy};
+ghost use Rattle.stretches.specs.Walk.{frameBy, digitsBy, nextStart};
+ghost use Rattle.stretches.specs.ByBlock.{PlacedIn};
 ghost use Rattle.stretches.specs.Fill.{Fillable, FilledTo, ComesTo, Enters, HeadPassed, MessageFilled, BurstFilled};
 use crate::Walk;
 use params::Layout;
@@ -31,6 +32,7 @@ pub fn fill_cells(
         indexed: 0,
         sent: 0,
         passed: 0,
+        stop: crate::next_start(walk, at, 0),
     };
     let mut block: usize = 0;
     while block < walk.blocks {
@@ -39,12 +41,14 @@ pub fn fill_cells(
     }
 }
 
-// How far a word is filled: up to a position, with so many index blocks and so much of the message, past so many bursts.
+// How far a word is filled: up to a position, with so many index blocks and so much of the message, past so many bursts. The next one starts at
+// `stop`, which is carried along, as most blocks have none.
 struct Filling {
     at: usize,
     indexed: usize,
     sent: usize,
     passed: usize,
+    stop: usize,
 }
 
 // The cells of a block that are left, and those of the bursts that start in it.
@@ -65,11 +69,9 @@ fn fill_block(
 {
     let edge = heads[block + 1] as usize;
     let mut here = fill_head(walk, at, heads, kinds, digits, message, word, block, from);
-    let mut stop = crate::next_start(walk, at, here.passed);
-    while stop < edge {
-        here = fill_message(message, word, stop, here);
-        here = fill_burst(walk, word, here);
-        stop = crate::next_start(walk, at, here.passed);
+    while here.stop < edge {
+        here = fill_message(message, word, here.stop, here);
+        here = fill_burst(walk, at, word, here);
     }
     if edge <= here.at {
         return here;
@@ -102,6 +104,7 @@ fn fill_head(
             indexed: from.indexed,
             sent: from.sent,
             passed: from.passed,
+            stop: from.stop,
         };
     }
     if kind == blocks::INDEX {
@@ -113,6 +116,7 @@ fn fill_head(
             indexed: from.indexed + 1,
             sent: from.sent,
             passed: from.passed,
+            stop: from.stop,
         };
     }
     from
@@ -132,20 +136,25 @@ fn fill_message(message: &[u8], word: &mut [u8], to: usize, from: Filling) -> Fi
         indexed: from.indexed,
         sent: sent + len,
         passed: from.passed,
+        stop: from.stop,
     }
 }
 
 // A burst's cells.
-fn fill_burst(walk: Walk, word: &mut [u8], from: Filling) -> Filling
-    requires { ⌜ (from .at + walk .b ≤ length (now word)) × (from .passed < walk .m) ⌝ }
-    ensures { λ r. ⌜ BurstFilled (walk .b) (now (word .entry)) (now (word .exit)) from r ⌝ }
+fn fill_burst(walk: Walk, at: Placement, word: &mut [u8], from: Filling) -> Filling
+    requires { ⌜ PlacedIn walk at × (from .at + walk .b ≤ length (now word)) × (from .passed < walk .m) ⌝ }
+    ensures filled { λ r. ⌜ BurstFilled (walk .b) (now (word .entry)) (now (word .exit)) from r ⌝ }
+    ensures stop { λ r. ⌜ r .stop ≡ nextStart (walk .n) (startsIn at) (r .passed) ⌝ }
 {
     let start = from.at;
     symbols::clear_over(&mut word[start..], walk.b);
+    let passed = from.passed + 1;
+    let stop = crate::next_start(walk, at, passed);
     Filling {
         at: start + walk.b,
         indexed: from.indexed,
         sent: from.sent,
-        passed: from.passed + 1,
+        passed,
+        stop,
     }
 }

@@ -10,7 +10,8 @@ ghost use Rattle.cells.specs.Cells.{pick};
 ghost use Rattle.cells.specs.Erasures.{erasedAt};
 ghost use Rattle.cells.specs.Plan.{planIn};
 ghost use Rattle.placements.specs.Bridge.{startsIn};
-ghost use Rattle.stretches.specs.Walk.{frameBy, headLen};
+ghost use Rattle.stretches.specs.Walk.{frameBy, headLen, nextStart};
+ghost use Rattle.stretches.specs.ByBlock.{PlacedIn};
 ghost use Rattle.stretches.specs.Take.{Takeable, Scannable, TakenTo, ComesTo, Enters, CellsTaken};
 use crate::Walk;
 use params::Layout;
@@ -33,6 +34,7 @@ pub fn take_message(
         at: 0,
         taken: 0,
         passed: 0,
+        stop: crate::next_start(walk, at, 0),
     };
     let mut block: usize = 0;
     while block < walk.blocks {
@@ -52,11 +54,12 @@ pub fn message_whole(walk: Walk, q: u64, at: Placement, whole: bool, word: &[u8]
     placements::bursts::cover_erasures(at, walk.b as u32, q, word)
 }
 
-// How far a word is taken apart: up to a position, so much of the message, past so many bursts.
+// How far a word is taken apart: up to a position, so much of the message, past so many bursts. The next one starts at `stop`.
 struct Taking {
     at: usize,
     taken: usize,
     passed: usize,
+    stop: usize,
 }
 
 // The message's cells of a block that are left, past the bursts that start in it.
@@ -79,12 +82,11 @@ fn take_block(
         at: from.at + head_cells(walk, kinds[block]),
         taken: from.taken,
         passed: from.passed,
+        stop: from.stop,
     };
-    let mut stop = crate::next_start(walk, at, here.passed);
-    while stop < edge {
-        here = take_cells(word, message, stop, here);
-        here = pass_burst(walk, here);
-        stop = crate::next_start(walk, at, here.passed);
+    while here.stop < edge {
+        here = take_cells(word, message, here.stop, here);
+        here = pass_burst(walk, at, here);
     }
     if edge <= here.at {
         return here;
@@ -118,17 +120,22 @@ fn take_cells(word: &[u8], message: &mut [u8], to: usize, from: Taking) -> Takin
         at: to,
         taken: taken + len,
         passed: from.passed,
+        stop: from.stop,
     }
 }
 
 // A burst's cells hold nothing of the message.
-fn pass_burst(walk: Walk, from: Taking) -> Taking
-    requires { ⌜ (from .at + walk .b ≤ walk .n) × (from .passed < walk .m) ⌝ }
-    ensures { λ r. ⌜ (r .at ≡ from .at + walk .b) × (r .taken ≡ from .taken) × (r .passed ≡ from .passed + 1) ⌝ }
+fn pass_burst(walk: Walk, at: Placement, from: Taking) -> Taking
+    requires { ⌜ PlacedIn walk at × (from .at + walk .b ≤ walk .n) × (from .passed < walk .m) ⌝ }
+    ensures passed { λ r. ⌜ (r .at ≡ from .at + walk .b) × (r .taken ≡ from .taken) × (r .passed ≡ from .passed + 1) ⌝ }
+    ensures stop { λ r. ⌜ r .stop ≡ nextStart (walk .n) (startsIn at) (r .passed) ⌝ }
 {
+    let passed = from.passed + 1;
+    let stop = crate::next_start(walk, at, passed);
     Taking {
         at: from.at + walk.b,
         taken: from.taken,
-        passed: from.passed + 1,
+        passed,
+        stop,
     }
 }

@@ -18,12 +18,11 @@ use Rattle.stretches.proofs.fill.fill_block.Statement.{statement}
 use Rattle.stretches.proofs.fill.fill_block.Tie as tie
 
 abbrev Inv-loop : tie.InvT-loop
-Inv-loop walk at heads kinds digits ms word₀ block edge here₀ stop₀ word here stop =
-    (edge ≡ getD heads (suc block) 0) × (stop ≡ nextStart (walk .n) (startsIn at) (here .passed)) × HeadPassed walk at heads kinds block here
-    × FilledTo walk at heads kinds digits ms word here
+Inv-loop walk at heads kinds digits ms word₀ block edge here₀ word here =
+    (edge ≡ getD heads (suc block) 0) × HeadPassed walk at heads kinds block here × FilledTo walk at heads kinds digits ms word here
 
 abbrev μ-loop : tie.MeasureT-loop
-μ-loop walk at heads kinds digits ms word₀ block edge here₀ stop₀ word here stop = walk .m - here .passed
+μ-loop walk at heads kinds digits ms word₀ block edge here₀ word here = walk .m - here .passed
 
 -- ---- What the contract lends
 
@@ -77,124 +76,113 @@ cast-edge c = let s = c .before .before .before .before in omega (arith, edge-is
 fill-head-requires : tie.Need-fill-head-requires Inv-loop μ-loop
 fill-head-requires c κs = c .before .before .before .before .before .pre
 
-next-start-requires : tie.Need-next-start-requires Inv-loop μ-loop
-next-start-requires c κs = c .before .before .before .before .before .before .before .before .pre .0 .walks .bursts
-
 loop-holds : tie.Need-loop-holds Inv-loop μ-loop
-loop-holds c =
-    let head = c .before .before .before .fill-head .ensures in
-    (edge-is (c .before .before .before .before .before .before .before .before .before), c .next-start .ensures, head .1, head .0)
+loop-holds c = let head = c .before .before .fill-head .ensures in (edge-is (c .before .before .before .before .before .before .before .before), head .1, head .0)
 
 fill-message-requires : tie.Need-fill-message-requires Inv-loop μ-loop
 fill-message-requires c κs =
     let s = c .before .before .before .before .before .before .before .before .before .before .before .before in
-    let t = c .before .before .loop in
-    let p = t .inv .2 .0 in
-    let h = hop s (t .here) p (omega (arith, t .inv .0, t .inv .1, c .before .loop-test .taken)) in
-    let cells = message-to s (t .here) p (t .stop) (omega (arith, t .inv .1)) (omega (arith, t .inv .0, c .before .loop-test .taken)) in (
-      omega (arith, t .inv .1, h .onward),
-      omega (arith, t .inv .1, h .ends, t .inv .3 .filled .size),
-      message-left (t .inv .3) (t .stop) (omega (arith, t .inv .1, h .onward)) (omega (arith, t .inv .1, h .ends)) cells,
+    let t = c .before .before .before .loop in
+    let p = t .inv .1 .0 in
+    let stop = t .inv .1 .2 in
+    let h = hop s (t .here) p (omega (arith, t .inv .0, stop, c .before .if1 .taken)) in
+    let cells = message-to s (t .here) p (t .here .stop) (omega (arith, stop)) (omega (arith, t .inv .0, c .before .if1 .taken)) in (
+      omega (arith, stop, h .onward),
+      omega (arith, stop, h .ends, t .inv .2 .filled .size),
+      message-left (t .inv .2) (t .here .stop) (omega (arith, stop, h .onward)) (omega (arith, stop, h .ends)) cells,
     )
 
 fill-burst-requires : tie.Need-fill-burst-requires Inv-loop μ-loop
 fill-burst-requires c κs =
     let s = c .before .before .before .before .before .before .before .before .before .before .before .before .before .before .before .before in
-    let t = c .before .before .before .before .before .before .loop in
-    let h = hop s (t .here) (t .inv .2 .0) (omega (arith, t .inv .0, t .inv .1, c .before .before .before .before .before .loop-test .taken)) in
-    let m = c .before .before .before .fill-message .ensures in
-    (omega (arith, m .at-is, t .inv .1, h .ends, m .size, t .inv .3 .filled .size), omega (arith, m .passed-is, h .number, s .pre .0 .walks .bursts .count))
-
-next-start-requires-2 : tie.Need-next-start-requires-2 Inv-loop μ-loop
-next-start-requires-2 c κs =
-    c .before .before .before .before .before .before .before .before .before .before .before .before .before .before .before .before .before .before
-    .before .pre .0 .walks .bursts
+    let t = c .before .before .before .before .before .before .before .loop in
+    let stop = t .inv .1 .2 in
+    let h = hop s (t .here) (t .inv .1 .0) (omega (arith, t .inv .0, stop, c .before .before .before .before .before .if1 .taken)) in
+    let m = c .before .before .before .fill-message .ensures in (
+      s .pre .0 .walks .bursts,
+      omega (arith, m .at-is, stop, h .ends, m .size, t .inv .2 .filled .size),
+      omega (arith, m .passed-is, h .number, s .pre .0 .walks .bursts .count),
+    )
 
 loop-less : tie.Need-loop-less Inv-loop μ-loop
 loop-less c =
-    let s = c .before .before .before .before .before .before .before .before .before .before .before .before .before .before .before .before .before
-    .before .before .before in
+    let s = c .before .before .before .before .before .before .before .before .before .before .before .before .before .before .before .before .before .before .before in
     let t = c .before .before .before .before .before .before .before .before .before .before .loop in
-    let h = hop s (t .here) (t .inv .2 .0)
-    (omega (arith, t .inv .0, t .inv .1, c .before .before .before .before .before .before .before .before .before .loop-test .taken)) in
+    let h = hop s (t .here) (t .inv .1 .0) (omega (arith, t .inv .0, t .inv .1 .2, c .before .before .before .before .before .before .before .before .if1 .taken)) in
     omega (
       arith,
-      c .before .before .before .before .before .before .before .fill-message .ensures .passed-is,
-      c .before .before .before .fill-burst .ensures .passed-is,
+      c .before .before .before .before .before .before .fill-message .ensures .passed-is,
+      c .before .before .fill-burst .ensures .0 .passed-is,
       h .number,
       s .pre .0 .walks .bursts .count,
     )
 
 loop-again : tie.Need-loop-again Inv-loop μ-loop
 loop-again c =
-    let s = c .before .before .before .before .before .before .before .before .before .before .before .before .before .before .before .before .before
-    .before .before .before in
+    let s = c .before .before .before .before .before .before .before .before .before .before .before .before .before .before .before .before .before .before .before in
     let t = c .before .before .before .before .before .before .before .before .before .before .loop in
-    let p = t .inv .2 .0 in
-    let h = hop s (t .here) p
-    (omega (arith, t .inv .0, t .inv .1, c .before .before .before .before .before .before .before .before .before .loop-test .taken)) in
-    let cells = message-to s (t .here) p (t .stop) (omega (arith, t .inv .1))
-    (omega (arith, t .inv .0, c .before .before .before .before .before .before .before .before .before .loop-test .taken)) in
-    let m = c .before .before .before .before .before .before .before .fill-message .ensures in
-    let u = c .before .before .before .fill-burst .ensures in
-    let before = message-filled (t .inv .3) (t .stop) (omega (arith, t .inv .1, h .onward)) (omega (arith, t .inv .1, h .ends)) cells m in
-    let stop : c .before .before .before .before .before .before .before .fill-message .result .at ≡ next s (t .here .passed) = m .at-is ∙ t .inv .1 in
-    let here : c .before .before .before .fill-burst .result .at ≡ next s (t .here .passed) + s .args .walk .b = omega (arith, u .at-is, stop) in
-    let count : c .before .before .before .fill-burst .result .passed ≡ t .here .passed + 1 = omega (arith, u .passed-is, m .passed-is) in (
+    let p = t .inv .1 .0 in
+    let start = t .inv .1 .2 in
+    let h = hop s (t .here) p (omega (arith, t .inv .0, start, c .before .before .before .before .before .before .before .before .if1 .taken)) in
+    let cells = message-to s (t .here) p (t .here .stop) (omega (arith, start)) (omega (arith, t .inv .0, c .before .before .before .before .before .before .before .before .if1 .taken)) in
+    let m = c .before .before .before .before .before .before .fill-message .ensures in
+    let u = c .before .before .fill-burst .ensures .0 in
+    let before = message-filled (t .inv .2) (t .here .stop) (omega (arith, start, h .onward)) (omega (arith, start, h .ends)) cells m in
+    let stop : c .before .before .before .before .before .before .fill-message .result .at ≡ next s (t .here .passed) = m .at-is ∙ start in
+    let here : c .before .before .fill-burst .result .at ≡ next s (t .here .passed) + s .args .walk .b = omega (arith, u .at-is, stop) in
+    let count : c .before .before .fill-burst .result .passed ≡ t .here .passed + 1 = omega (arith, u .passed-is, m .passed-is) in (
       t .inv .0,
-      c .next-start2 .ensures,
-      (rw (here, count) (h .past), omega (arith, u .indexed-is, m .indexed-is, t .inv .2 .1)),
+      (rw (here, count) (h .past), omega (arith, u .indexed-is, m .indexed-is, t .inv .1 .1), c .before .before .fill-burst .ensures .1),
       burst-filled before (rw stop (h .ends)) (rw stop (h .cells)) u,
     )
 
 same-length : tie.Need-same-length Inv-loop μ-loop
-same-length c = c .before .before .before .loop .inv .3 .filled .size
-    ∙ sym (c .before .before .before .before .before .before .before .before .before .before .before .before .before .pre .0 .filled .size)
+same-length c = c .before .before .before .before .loop .inv .2 .filled .size ∙ sym (c .before .before .before .before .before .before .before .before .before .before .before .before .before .pre .0 .filled .size)
 
 returns : tie.Need-returns Inv-loop μ-loop
 returns c =
     let s = c .before .before .before .before .before .before .before .before .before .before .before .before .before in
-    let t = c .before .before .before .loop in (
-      t .inv .3,
+    let t = c .before .before .before .before .loop in (
+      t .inv .2,
       (
-        rest-none (w s) (s .args .block) (t .here .at) (t .here .passed) (s .pre .1 .0) (t .inv .2 .0)
-            (omega (arith, t .inv .0, c .if1 .taken)),
-        t .inv .2 .1,
+        rest-none (w s) (s .args .block) (t .here .at) (t .here .passed) (s .pre .1 .0) (t .inv .1 .0)
+            (omega (arith, t .inv .0, c .if2 .taken)),
+        t .inv .1 .1,
+        t .inv .1 .2,
       ),
     )
 
 fill-message-requires-2 : tie.Need-fill-message-requires-2 Inv-loop μ-loop
 fill-message-requires-2 c κs =
     let s = c .before .before .before .before .before .before .before .before .before .before .before .before .before .before in
-    let t = c .before .before .before .before .loop in
+    let t = c .before .before .before .before .before .loop in
     let within = edge-in (w s) (s .args .block) (s .pre .1 .0) in
-    let cells = message-to s (t .here) (t .inv .2 .0) (edge s) (omega (arith, t .inv .0, t .inv .1, c .before .before .before .loop-test .left))
+    let cells = message-to s (t .here) (t .inv .1 .0) (edge s) (omega (arith, t .inv .0, t .inv .1 .2, c .before .before .before .if1 .left))
     (omega arith) in
-    let up : t .here .at ≤ edge s = omega (arith, t .inv .0, c .before .if1 .left) in (
+    let up : t .here .at ≤ edge s = omega (arith, t .inv .0, c .before .if2 .left) in (
       omega (arith, t .inv .0, up),
-      omega (arith, t .inv .0, within, t .inv .3 .filled .size),
-      omega (arith, t .inv .0, message-left (t .inv .3) (edge s) up within cells),
+      omega (arith, t .inv .0, within, t .inv .2 .filled .size),
+      omega (arith, t .inv .0, message-left (t .inv .2) (edge s) up within cells),
     )
 
 same-length-2 : tie.Need-same-length-2 Inv-loop μ-loop
-same-length-2 c = c .before .before .fill-message2 .ensures .size ∙ c .before .before .before .before .before .before .before .loop .inv .3 .filled .size
-    ∙ sym (c .before .before .before .before .before .before .before .before .before .before .before .before .before .before .before .before .before .pre .0
-    .filled .size)
+same-length-2 c = c .before .before .fill-message2 .ensures .size ∙ c .before .before .before .before .before .before .before .before .loop .inv .2 .filled .size ∙ sym (c .before .before .before .before .before .before .before .before .before .before .before .before .before .before .before .before .before .pre .0 .filled .size)
 
 returns-2 : tie.Need-returns-2 Inv-loop μ-loop
 returns-2 c =
     let s = c .before .before .before .before .before .before .before .before .before .before .before .before .before .before .before .before .before in
-    let t = c .before .before .before .before .before .before .before .loop in
-    let p = t .inv .2 .0 in
-    let before : edge s ≤ next s (t .here .passed) = omega (arith, t .inv .0, t .inv .1, c .before .before .before .before .before .before .loop-test .left) in
-    let inside : t .here .at < edge s = omega (arith, t .inv .0, c .before .before .before .before .if1 .left) in
+    let t = c .before .before .before .before .before .before .before .before .loop in
+    let p = t .inv .1 .0 in
+    let before : edge s ≤ next s (t .here .passed) = omega (arith, t .inv .0, t .inv .1 .2, c .before .before .before .before .before .before .if1 .left) in
+    let inside : t .here .at < edge s = omega (arith, t .inv .0, c .before .before .before .before .if2 .left) in
     let m = rw (t .inv .0) at (c .before .before .fill-message2 .ensures) in
     let cells = message-to s (t .here) p (edge s) before (omega arith) in (
-      message-filled (t .inv .3) (edge s) (omega arith) (edge-in (w s) (s .args .block) (s .pre .1 .0)) cells m,
+      message-filled (t .inv .2) (edge s) (omega arith) (edge-in (w s) (s .args .block) (s .pre .1 .0)) cells m,
       (
         rw (m .at-is, m .passed-is) (rest-hop (w s) (s .args .block) (t .here .at) (t .here .passed) (s .pre .1 .0) p inside before),
         m .indexed-is
-            ∙ t .inv .2 .1,
+            ∙ t .inv .1 .1,
+        m .stop-is ∙ t .inv .1 .2 ∙ ap (next s) (sym (m .passed-is)),
       ),
     )
 
@@ -202,6 +190,6 @@ pub fill-block-spec : {M : Type 1} → statement M
 fill-block-spec =
     tie.close
     (tie.spec
-    Inv-loop μ-loop add-edge mul-edge element-copy-out-edge cast-edge fill-head-requires next-start-requires loop-holds
-    fill-message-requires fill-burst-requires next-start-requires-2 loop-less loop-again same-length returns fill-message-requires-2
+    Inv-loop μ-loop add-edge mul-edge element-copy-out-edge cast-edge fill-head-requires loop-holds
+    fill-message-requires fill-burst-requires loop-less loop-again same-length returns fill-message-requires-2
     same-length-2 returns-2)

@@ -20,8 +20,11 @@ part-clear-over-end c = search needs
 clear-over-requires : tie.Need-clear-over-requires
 clear-over-requires c κs = search needs
 
-add-t7 : tie.Need-add-t7
-add-t7 c = search needs
+add-passed : tie.Need-add-passed
+add-passed c = search needs
+
+next-start-requires : tie.Need-next-start-requires
+next-start-requires c κs = search needs
 
 add-t10 : tie.Need-add-t10
 add-t10 c = search needs
@@ -31,16 +34,16 @@ same-length c = search needs
 
 returns : tie.Need-returns
 returns c =
-    let a = c .before .before .before .before .before .before .before .args in
+    let a = c .before .before .before .before .before .before .before .before .args in
     let to = a .from .at + a .walk .b in
     let len : to - a .from .at ≡ a .walk .b = omega arith in
-    let part = c .before .before .before .before .clear-over in
+    let part = c .before .before .before .before .before .clear-over in
     let put = part-put (a .from .at) to (a .word .now) (part .last .0) (replicate (a .walk .b) 0) (omega arith) (omega arith) (search needs)
     (rw len (part .ensures)) in
-    record { at-is = refl; indexed-is = refl; sent-is = refl; passed-is = refl; made = put .0; size = put .1 }
+    (record { at-is = refl; indexed-is = refl; sent-is = refl; passed-is = refl; made = put .0; size = put .1 }, c .before .next-start .ensures)
 
 pub fill-burst-spec : {M : Type 1} → statement M
 fill-burst-spec =
     tie.close
     (tie.spec
-    sub-clear-over part-clear-over-start part-clear-over-end clear-over-requires add-t7 add-t10 same-length returns)
+    sub-clear-over part-clear-over-start part-clear-over-end clear-over-requires add-passed next-start-requires add-t10 same-length returns)

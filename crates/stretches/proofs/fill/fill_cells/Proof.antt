@@ -36,14 +36,17 @@ ds s = digitsBy (s .args .walk) (s .args .kinds .now) (s .args .digits .now)
 
 -- ---- What is left of the code
 
+next-start-requires : tie.Need-next-start-requires Inv-loop μ-loop
+next-start-requires c κs = c .before .before .before .pre .walks .bursts
+
 loop-holds : tie.Need-loop-holds Inv-loop μ-loop
 unfolding sum
 loop-holds c =
-    let s = c .before .before .before in
+    let s = c .before .before .before .before in
     let R = s .pre in
     let none : 0 * s .args .walk .«head_len» ≡ 0 = omega arith in (
       omega arith,
-      (entering-first (walkable (R .walks)), omega arith),
+      (entering-first (walkable (R .walks)), omega arith, c .next-start .ensures),
       record {
         walks = R .walks;
         digits-lent = R .digits-lent;
@@ -61,7 +64,7 @@ add-block : tie.Need-add-block Inv-loop μ-loop
 add-block c =
     omega (
       arith,
-      c .before .before .before .before .before .before .before .before .before .before .pre .walks .blocks-most,
+      c .before .before .before .before .before .before .before .before .before .before .before .pre .walks .blocks-most,
       c .before .before .before .before .if1 .taken,
     )
 
@@ -75,11 +78,11 @@ loop-again c =
     (omega (arith, c .before .before .before .before .if1 .taken), rw (add-one (t .block)) (r .1), r .0)
 
 same-length : tie.Need-same-length Inv-loop μ-loop
-same-length c = c .before .before .loop .inv .2 .filled .size ∙ sym (c .before .before .before .before .before .before .pre .room)
+same-length c = c .before .before .loop .inv .2 .filled .size ∙ sym (c .before .before .before .before .before .before .before .pre .room)
 
 returns : tie.Need-returns Inv-loop μ-loop
 returns c =
-    let s = c .before .before .before .before .before .before in
+    let s = c .before .before .before .before .before .before .before in
     let R = s .pre in
     let t = c .before .before .loop in
     let n = s .args .walk .n in
@@ -94,4 +97,4 @@ pub fill-cells-spec : {M : Type 1} → statement M
 fill-cells-spec =
     tie.close
     (tie.spec
-    Inv-loop μ-loop loop-holds fill-block-requires add-block loop-less loop-again same-length returns)
+    Inv-loop μ-loop next-start-requires loop-holds fill-block-requires add-block loop-less loop-again same-length returns)

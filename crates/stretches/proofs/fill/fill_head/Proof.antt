@@ -105,7 +105,7 @@ returns c =
     let cells = fixed-cells (w s) (s .args .block) (x s) (s .args .from .passed) (s .pre .1 .0) (s .pre .1 .1 .0) (kind-fixed e .0) (kind-fixed e .1) in
     let made = take-suc-set word (x s) 0 (omega (arith, past .between .within, s .pre .0 .filled .size)) in (
       fixed-on (s .pre .0) (x s + 1) (omega arith) (past .between .within) (set word (x s) 0) cells (rw (one, add-one (x s)) made) (length-set word (x s) 0),
-      (past, omega (arith, s .pre .1 .1 .1, index-next (s .args .kinds .now) (s .args .block) false (kind-fixed e .0))),
+      (past, omega (arith, s .pre .1 .1 .1, index-next (s .args .kinds .now) (s .args .block) false (kind-fixed e .0)), s .pre .1 .1 .2),
     )
 
 mul-spelled : tie.Need-mul-spelled
@@ -175,7 +175,7 @@ returns-2 c =
     let put = part-put (x s) (to s) (s .args .word .now) (part .last .0) (take len (drop spelled digits)) (omega arith) (room s e) (search needs)
     (rw long (part .ensures ∙ ap (take len) (rest-is spelled digits))) in (
       digits-on (s .pre .0) (to s) (omega arith) (past .between .within) _ (digit-cells s e) long (among s e) (put .0) (put .1),
-      (past, omega (arith, s .pre .1 .1 .1, index-next (s .args .kinds .now) (s .args .block) true (is-index s e))),
+      (past, omega (arith, s .pre .1 .1 .1, index-next (s .args .kinds .now) (s .args .block) true (is-index s e)), s .pre .1 .1 .2),
     )
 
 returns-3 : tie.Need-returns-3
@@ -186,6 +186,7 @@ returns-3 c =
       (
         head-none (w s) (s .args .block) (x s) (s .args .from .passed) (s .pre .1 .0) (s .pre .1 .1 .0) (k .0) (k .1),
         omega (arith, s .pre .1 .1 .1, index-next (s .args .kinds .now) (s .args .block) false (k .0)),
+        s .pre .1 .1 .2,
       ),
     )
 

@@ -47,7 +47,7 @@ returns c =
     let put = part-put (a .from .at) (a .to) (a .word .now) (part .last .0) (take len (drop (a .from .sent) (a .message .now))) (omega arith) (omega arith)
     (search needs)
     (part .ensures ∙ ap (take len) (rest-is (a .from .sent) (a .message .now))) in
-    record { at-is = refl; indexed-is = refl; sent-is = refl; passed-is = refl; made = put .0; size = put .1 }
+    record { at-is = refl; indexed-is = refl; sent-is = refl; passed-is = refl; stop-is = refl; made = put .0; size = put .1 }
 
 pub fill-message-spec : {M : Type 1} → statement M
 fill-message-spec =

@@ -49,7 +49,7 @@ returns c =
     let long : taken + len - taken ≡ len = omega arith in
     let put = part-put taken (taken + len) (a .message .now) (part .last .0) (take len (drop x (a .word .now))) (omega arith) (omega arith) (search needs)
     (rw long (part .ensures ∙ ap (take len) (rest-is x (a .word .now)))) in
-    record { at-is = refl; taken-is = refl; passed-is = refl; made = put .0; size = put .1 }
+    record { at-is = refl; taken-is = refl; passed-is = refl; stop-is = refl; made = put .0; size = put .1 }
 
 pub take-cells-spec : {M : Type 1} → statement M
 take-cells-spec =

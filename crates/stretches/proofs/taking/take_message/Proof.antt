@@ -31,12 +31,15 @@ kd s = kindIn (frameBy (s .args .walk) (s .args .heads .now) (s .args .kinds .no
 
 -- ---- What is left of the code
 
+next-start-requires : tie.Need-next-start-requires Inv-loop μ-loop
+next-start-requires c κs = c .before .before .pre .walks .bursts
+
 loop-holds : tie.Need-loop-holds Inv-loop μ-loop
 loop-holds c =
-    let s = c .before .before in
+    let s = c .before .before .before in
     let R = s .pre in (
       omega arith,
-      entering-first (walkable (R .walks)),
+      (entering-first (walkable (R .walks)), c .next-start .ensures),
       record { walks = R .walks; whole = R .whole; so-far = taken-start (s .args .walk .n) (kd s) (s .args .word .now) (s .args .message .now) (R .room) },
     )
 
@@ -49,7 +52,7 @@ add-block : tie.Need-add-block Inv-loop μ-loop
 add-block c =
     omega (
       arith,
-      c .before .before .before .before .before .before .before .before .before .pre .walks .blocks-most,
+      c .before .before .before .before .before .before .before .before .before .before .pre .walks .blocks-most,
       c .before .before .before .before .if1 .taken,
     )
 
@@ -63,21 +66,21 @@ loop-again c =
     (omega (arith, c .before .before .before .before .if1 .taken), rw (add-one (t .block)) (r .1), r .0)
 
 same-length : tie.Need-same-length Inv-loop μ-loop
-same-length c = sym (c .before .before .loop .inv .2 .so-far .size) ∙ c .before .before .before .before .before .pre .room
+same-length c = sym (c .before .before .loop .inv .2 .so-far .size) ∙ c .before .before .before .before .before .before .pre .room
 
 returns : tie.Need-returns Inv-loop μ-loop
 returns c =
-    let s = c .before .before .before .before .before in
+    let s = c .before .before .before .before .before .before in
     let R = s .pre in
     let t = c .before .before .loop in
     let n = s .args .walk .n in
     let word = s .args .word .now in
     let e : t .block ≡ s .args .walk .blocks = omega (arith, t .inv .0, c .if1 .left) in
-    let end : t .here .at ≡ n = omega (arith, t .inv .1 .from, t .inv .1 .between .within, ap (λ (k : ℕ). getD (s .args .heads .now) k 0) e, R .walks .last) in
+    let end : t .here .at ≡ n = omega (arith, t .inv .1 .0 .from, t .inv .1 .0 .between .within, ap (λ (k : ℕ). getD (s .args .heads .now) k 0) e, R .walks .last) in
     taken-done n (kd s) word (t .here .taken) (t .message) (subst (λ (x : ℕ). Taken n (kd s) word x (t .message) (t .here .taken)) end (t .inv .2 .so-far))
 
 pub take-message-spec : {M : Type 1} → statement M
 take-message-spec =
     tie.close
     (tie.spec
-    Inv-loop μ-loop loop-holds take-block-requires add-block loop-less loop-again same-length returns)
+    Inv-loop μ-loop next-start-requires loop-holds take-block-requires add-block loop-less loop-again same-length returns)
