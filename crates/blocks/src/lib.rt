@@ -3,13 +3,13 @@ ghost use mathlib.Core.Path.{_≡_};
 ghost use mathlib.Core.Bool.{not};
 ghost use Prim.Native.Nat.{ℕ, _+_, _*_, _≤_, _<_};
 ghost use lib.Dec.{eqb};
-ghost use lib.ListN.{getD, set};
+ghost use lib.ListN.{getD};
 ghost use Rattle.combinatorics.specs.Stretch.{count, first};
 ghost use Rattle.construction_a.specs.Writing;
 ghost use Rattle.construction_a.specs.Writing.{next, becomes, partCount, partWith, Chosen, chosen, isIndexIn};
 ghost use Rattle.placements.specs.Bridge.{startsIn, PlacesBursts};
 ghost use Rattle.params.specs.Given.{maxBlocks, figuresOf};
-ghost use Rattle.blocks.specs.Blocks.{burstKind, bursts, marked, BurstsOf, KindsOf};
+ghost use Rattle.blocks.specs.Blocks.{bursts, marked, BurstsOf, KindsOf};
 use params::Layout;
 use placements::Placement;
 
@@ -40,8 +40,8 @@ fn burst_kinds(layout: Layout, at: Placement) -> [u8; Layout::MAX_BLOCKS]
         let s = at.starts[j];
         let start = s as usize;
         let last = layout.block_of(start + layout.b - 1);
-        let next = with_burst(kinds, blocks, last);
-        kinds = next;
+        let next = burst_block(&kinds, blocks, last);
+        kinds[next] = BURST;
         j += 1;
     }
     kinds
@@ -86,35 +86,28 @@ fn one_each(kinds: [u8; Layout::MAX_BLOCKS], parts: usize, m: usize) -> [u8; Lay
     let mut next = kinds;
     let mut i: usize = 0;
     while i < parts {
-        let at = i * m + beside(kinds, m, i);
+        let at = i * m + beside(&kinds, m, i);
         next[at] = INDEX;
         i += 1;
     }
     next
 }
 
-// The kinds with one burst block more: block `last`, in which a burst ends, or the leftmost spare where it is one already.
-fn with_burst(
-    kinds: [u8; Layout::MAX_BLOCKS],
-    blocks: usize,
-    last: usize,
-) -> [u8; Layout::MAX_BLOCKS]
-    requires { ⌜ (last < blocks) × (blocks ≤ maxBlocks) × (count blocks 0 (bursts kinds) < blocks) ⌝ }
-    ensures { λ r. ⌜ r ≡ set kinds (becomes blocks (bursts kinds) last) burstKind ⌝ }
+// The next burst block: block `last`, in which a burst ends, or the leftmost spare where it is one already.
+fn burst_block(kinds: &[u8; Layout::MAX_BLOCKS], blocks: usize, last: usize) -> usize
+    requires { ⌜ (last < blocks) × (blocks ≤ maxBlocks) × (count blocks 0 (bursts (now kinds)) < blocks) ⌝ }
+    ensures { λ r. ⌜ (r ≡ becomes blocks (bursts (now (kinds .entry))) last) × (r < blocks) ⌝ }
 {
-    let mut at = last;
     if kinds[last] == BURST {
-        at = first_spare(kinds, blocks);
+        return first_spare(kinds, blocks);
     }
-    let mut next = kinds;
-    next[at] = BURST;
-    next
+    last
 }
 
 // The leftmost block that is no burst block, or `blocks`.
-fn first_spare(kinds: [u8; Layout::MAX_BLOCKS], blocks: usize) -> usize
+fn first_spare(kinds: &[u8; Layout::MAX_BLOCKS], blocks: usize) -> usize
     requires { ⌜ blocks ≤ maxBlocks ⌝ }
-    ensures { λ r. ⌜ r ≡ first blocks 0 (λ k. not (bursts kinds k)) ⌝ }
+    ensures { λ r. ⌜ r ≡ first blocks 0 (λ k. not (bursts (now (kinds .entry)) k)) ⌝ }
 {
     let mut k: usize = 0;
     while k < blocks {
@@ -165,9 +158,9 @@ fn part_with(kinds: &[u8; Layout::MAX_BLOCKS], parts: usize, m: usize, wanted: u
 }
 
 // The block of a part that comes after its first burst block, 0 after the last; counted within the part.
-fn beside(kinds: [u8; Layout::MAX_BLOCKS], m: usize, part: usize) -> usize
+fn beside(kinds: &[u8; Layout::MAX_BLOCKS], m: usize, part: usize) -> usize
     requires { ⌜ part * m + m ≤ maxBlocks ⌝ }
-    ensures { λ r. ⌜ r ≡ Rattle.construction_a.specs.Writing.beside m (bursts kinds) part ⌝ }
+    ensures { λ r. ⌜ r ≡ Rattle.construction_a.specs.Writing.beside m (bursts (now (kinds .entry))) part ⌝ }
 {
     let from = part * m;
     let mut j: usize = 0;

@@ -1,8 +1,9 @@
 -- `burst_kinds` meets its contract: the first j bursts have their blocks. Assumes nothing.
 use mathlib.Core.Path.{_≡_, refl, subst}
-use Prim.Native.Nat.{ℕ, _+_, _-_, _*_, _≤_}
+use Prim.Native.Nat.{ℕ, _+_, _-_, _*_, _≤_, _<_}
 use native.Mathlib.Omega.{arith}
 use lib.ListN.{length, getD}
+use Rattle.cells.specs.Cut.{blockWith}
 use Rattle.cells.proofs.Cut.{block-with}
 use Rattle.placements.specs.Bridge.{startsIn}
 use Rattle.params.specs.Given.{figuresOf}
@@ -75,18 +76,30 @@ block-of-requires c κs =
       inside = omega (arith, start-in (s .args .layout) (s .args .t2) (s .pre) (c .before .before .before .before .loop .j) (omega arith), b .b-least);
     }
 
-with-burst-requires : tie.Need-with-burst-requires Inv-loop μ-loop
-with-burst-requires c κs =
-    let s = c .before .before .before .before .before .before .before in
-    let b = c .before .before .before .before .before in
+-- the block in which a burst ends is one of the word's
+ends-in : (s : tie.Start Inv-loop μ-loop) (j : ℕ) → j < s .args .layout .m
+    → blockWith (s .args .layout .n) (s .args .layout .parts) (s .args .layout .m) (getD (s .args .t2 .starts) j 0 + s .args .layout .b - 1)
+    < s .args .layout .parts * s .args .layout .m
+ends-in s j h =
     let l = s .args .layout in
-    let g = bound l (s .pre .layout) in (
-      rw (c .block-of .ensures)
-          (block-with (l .n) (l .parts) (l .m) (getD (s .args .t2 .starts) (b .loop .j) 0 + l .b - 1) (omega (arith, g .parts-least)) (g .m-least)
-          (omega (arith, start-in l (s .args .t2) (s .pre) (b .loop .j) (omega arith), g .b-least)) .below),
+    let g = bound l (s .pre .layout) in
+    block-with (l .n) (l .parts) (l .m) (getD (s .args .t2 .starts) j 0 + l .b - 1) (omega (arith, g .parts-least)) (g .m-least)
+    (omega (arith, start-in l (s .args .t2) (s .pre) j h, g .b-least)) .below
+
+burst-block-requires : tie.Need-burst-block-requires Inv-loop μ-loop
+burst-block-requires c κs =
+    let s = c .before .before .before .before .before .before .before .before in
+    let b = c .before .before .before .before .before .before in
+    let l = s .args .layout in (
+      rw (c .before .block-of .ensures) (ends-in s (b .loop .j) (omega arith)),
       blocks-fit l (s .pre .layout),
       rw (s .pre .layout .parts-is) (omega (arith, b .loop .inv .2 .marked, many l (s .pre .layout))),
     )
+
+array-write-kinds : tie.Need-array-write-kinds Inv-loop μ-loop
+array-write-kinds c =
+    let s = c .before .before .before .before .before .before .before .before .before in
+    omega (arith, c .burst-block .ensures .1, blocks-fit (s .args .layout) (s .pre .layout), c .before .before .before .before .before .before .before .loop .inv .2 .size)
 
 add-j : tie.Need-add-j Inv-loop μ-loop
 add-j c = omega arith
@@ -96,18 +109,18 @@ loop-less c = omega arith
 
 loop-again : tie.Need-loop-again Inv-loop μ-loop
 loop-again c =
-    let s = c .before .before .before .before .before .before .before .before in
-    let b = c .before .before .before .before .before .before in
+    let s = c .before .before .before .before .before .before .before .before .before in
+    let b = c .before .before .before .before .before .before .before in
     let l = s .args .layout in
     let f = figuresOf l in
     let p = s .pre .layout .parts-is in (
       omega arith,
       refl,
-      rw (c .with-burst .ensures, p)
-          (bursting-turn f (startsIn (s .args .t2)) (b .loop .j) (c .before .block-of .result) (b .loop .kinds) (b .loop .inv .2)
+      rw (c .burst-block .ensures .0, p)
+          (bursting-turn f (startsIn (s .args .t2)) (b .loop .j) (c .before .before .block-of .result) (b .loop .kinds) (b .loop .inv .2)
           (omega (arith, starts-count l (s .args .t2) (s .pre)))
-          (rw (start-is l (s .args .t2) (s .pre) (b .loop .j) (omega arith), ← p) (c .before .block-of .ensures))
-          (rw (← p) (with-burst-requires (c .before) tt .0))
+          (rw (start-is l (s .args .t2) (s .pre) (b .loop .j) (omega arith), ← p) (c .before .before .block-of .ensures))
+          (rw (c .before .before .block-of .ensures, ← p) (ends-in s (b .loop .j) (omega arith)))
           (omega (arith, many l (s .pre .layout))) (blocks-most l (s .pre .layout))),
     )
 
@@ -124,4 +137,4 @@ burst-kinds-spec =
     tie.close
     (tie.spec
     Inv-loop μ-loop mul-blocks loop-holds mul-s element-copy-out-s cast-start add-block-of sub-block-of block-of-requires
-    with-burst-requires add-j loop-less loop-again returns)
+    burst-block-requires array-write-kinds add-j loop-less loop-again returns)

@@ -10,26 +10,24 @@ use Rattle.blocks.specs.Blocks.{bursts}
 use Rattle.blocks.proofs.BlockSets.{is-burst, no-burst}
 use Rattle.blocks.proofs.first_spare.Statement.{statement}
 use Rattle.blocks.proofs.first_spare.Tie as tie
-use Rattle.blocks.proofs.first_spare.Reads as reads
-use Rattle.blocks.proofs.first_spare.Lts as lts
 
 abbrev Inv-loop : tie.InvT-loop
-Inv-loop blocks kinds k₀ k = (k ≤ blocks) × (first (blocks - k) k (λ x. not (bursts kinds x)) ≡ first blocks 0 (λ x. not (bursts kinds x)))
+Inv-loop kinds blocks k₀ k = (k ≤ blocks) × (first (blocks - k) k (λ x. not (bursts kinds x)) ≡ first blocks 0 (λ x. not (bursts kinds x)))
 
 abbrev μ-loop : tie.MeasureT-loop
-μ-loop blocks kinds k₀ k = blocks - k
+μ-loop kinds blocks k₀ k = blocks - k
 
 loop-holds : tie.Need-loop-holds Inv-loop μ-loop
-loop-holds c = (omega arith, first-start (c .args .blocks) (λ x. not (bursts (c .args .t1) x)))
+loop-holds c = (omega arith, first-start (c .args .blocks) (λ x. not (bursts (c .args .kinds .now) x)))
 
-array-read-if1 : tie.Need-array-read-if1 Inv-loop μ-loop
-array-read-if1 c = search needs
+element-copy-out-if1 : tie.Need-element-copy-out-if1 Inv-loop μ-loop
+element-copy-out-if1 c = search needs
 
 returns : tie.Need-returns Inv-loop μ-loop
 returns c =
-    let s = c .before .before in
-    sym (first-here (s .before .args .blocks) (s .loop .k) (λ x. not (bursts (s .before .args .t1) x)) (omega arith)
-    (rw (no-burst (s .before .args .t1) (s .loop .k) (c .if1 .taken)))) ∙ s .loop .inv .1
+    let s = c .before .before .before in
+    sym (first-here (s .before .args .blocks) (s .loop .k) (λ x. not (bursts (s .before .args .kinds .now) x)) (omega arith)
+    (rw (no-burst (s .before .args .kinds .now) (s .loop .k) (c .if1 .taken)))) ∙ s .loop .inv .1
 
 add-k : tie.Need-add-k Inv-loop μ-loop
 add-k c = search needs
@@ -39,19 +37,19 @@ loop-less c = search needs
 
 loop-again : tie.Need-loop-again Inv-loop μ-loop
 loop-again c =
-    let s = c .before .before in (
+    let s = c .before .before .before in (
       omega arith,
-      sym (first-on (s .before .args .blocks) (s .loop .k) (λ x. not (bursts (s .before .args .t1) x)) (omega arith)
-          (rw (is-burst (s .before .args .t1) (s .loop .k) (c .if1 .left)))) ∙ s .loop .inv .1,
+      sym (first-on (s .before .args .blocks) (s .loop .k) (λ x. not (bursts (s .before .args .kinds .now) x)) (omega arith)
+          (rw (is-burst (s .before .args .kinds .now) (s .loop .k) (c .if1 .left)))) ∙ s .loop .inv .1,
     )
 
 returns-2 : tie.Need-returns-2 Inv-loop μ-loop
 returns-2 c =
     let s = c .before in
-    sym (first-over (s .before .args .blocks) (s .loop .k) (λ x. not (bursts (s .before .args .t1) x)) (omega arith)) ∙ s .loop .inv .1
+    sym (first-over (s .before .args .blocks) (s .loop .k) (λ x. not (bursts (s .before .args .kinds .now) x)) (omega arith)) ∙ s .loop .inv .1
 
 pub first-spare-spec : {M : Type 1} → statement M
 first-spare-spec =
     tie.close
     (tie.spec
-    Inv-loop μ-loop loop-holds array-read-if1 returns add-k loop-less loop-again returns-2)
+    Inv-loop μ-loop loop-holds element-copy-out-if1 returns add-k loop-less loop-again returns-2)

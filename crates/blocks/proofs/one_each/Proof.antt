@@ -13,17 +13,17 @@ use Rattle.blocks.proofs.one_each.Statement.{statement}
 use Rattle.blocks.proofs.one_each.Tie as tie
 
 abbrev Inv-loop : tie.InvT-loop
-Inv-loop kinds parts m next₀ i₀ next i = (i ≤ parts) × (length next ≡ maxBlocks) × ((k : ℕ) → getD next k 0 ≡ marked (before m (bursts kinds) i) kinds k)
+Inv-loop parts m kinds next₀ i₀ next i = (i ≤ parts) × (length next ≡ maxBlocks) × ((k : ℕ) → getD next k 0 ≡ marked (before m (bursts kinds) i) kinds k)
 
 abbrev μ-loop : tie.MeasureT-loop
-μ-loop kinds parts m next₀ i₀ next i = parts - i
+μ-loop parts m kinds next₀ i₀ next i = parts - i
 
 loop-holds : tie.Need-loop-holds Inv-loop μ-loop
 loop-holds c = (
   omega arith,
   omega arith,
-  λ k. mark-none (before (c .args .m) (bursts (c .args .kinds)) 0) (c .args .kinds) k
-      (before-none (c .args .m) (bursts (c .args .kinds)) k),
+  λ k. mark-none (before (c .args .m) (bursts (c .args .t1)) 0) (c .args .t1) k
+      (before-none (c .args .m) (bursts (c .args .t1)) k),
 )
 
 mul-at : tie.Need-mul-at Inv-loop μ-loop
@@ -34,23 +34,23 @@ mul-at c =
 
 beside-requires : tie.Need-beside-requires Inv-loop μ-loop
 beside-requires c κs =
-    let s = c .before in
+    let s = c .before .before in
     let l : s .loop .i + 1 ≤ s .before .args .parts = omega arith in
     omega (arith, mul-le-mul-right (s .before .args .m) l)
 
 add-at : tie.Need-add-at Inv-loop μ-loop
 add-at c =
-    let a = c .before .before .before .args in
-    let h = c .before .before .before .pre .1 (c .before .before .loop .i) (omega arith) in
-    let l : c .before .before .loop .i + 1 ≤ a .parts = omega arith in
-    omega (arith, c .beside .ensures, beside-lt (a .m) (bursts (a .kinds)) (c .before .before .loop .i) h, mul-le-mul-right (a .m) l)
+    let a = c .before .before .before .before .args in
+    let h = c .before .before .before .before .pre .1 (c .before .before .before .loop .i) (omega arith) in
+    let l : c .before .before .before .loop .i + 1 ≤ a .parts = omega arith in
+    omega (arith, c .beside .ensures, beside-lt (a .m) (bursts (a .t1)) (c .before .before .before .loop .i) h, mul-le-mul-right (a .m) l)
 
 array-write-next : tie.Need-array-write-next Inv-loop μ-loop
 array-write-next c =
-    let a = c .before .before .before .args in
-    let h = c .before .before .before .pre .1 (c .before .before .loop .i) (omega arith) in
-    let l : c .before .before .loop .i + 1 ≤ a .parts = omega arith in
-    omega (arith, c .beside .ensures, beside-lt (a .m) (bursts (a .kinds)) (c .before .before .loop .i) h, mul-le-mul-right (a .m) l)
+    let a = c .before .before .before .before .args in
+    let h = c .before .before .before .before .pre .1 (c .before .before .before .loop .i) (omega arith) in
+    let l : c .before .before .before .loop .i + 1 ≤ a .parts = omega arith in
+    omega (arith, c .beside .ensures, beside-lt (a .m) (bursts (a .t1)) (c .before .before .before .loop .i) h, mul-le-mul-right (a .m) l)
 
 add-i : tie.Need-add-i Inv-loop μ-loop
 add-i c = search needs
@@ -60,15 +60,15 @@ loop-less c = search needs
 
 loop-again : tie.Need-loop-again Inv-loop μ-loop
 loop-again c =
-    let s = c .before .before in
+    let s = c .before .before .before in
     let a = s .before .args in
     let i = s .loop .i in
     let h = s .before .pre .1 i (omega arith) in (
       omega arith,
       simp length-set (s .loop .inv .1),
-      mark-more (before (a .m) (bursts (a .kinds)) i) (before (a .m) (bursts (a .kinds)) (i + 1)) (a .kinds) (s .loop .next) (i * a .m + c .beside .result)
+      mark-more (before (a .m) (bursts (a .t1)) i) (before (a .m) (bursts (a .t1)) (i + 1)) (a .t1) (s .loop .next) (i * a .m + c .beside .result)
           (omega (arith, array-write-next c)) (s .loop .inv .2)
-          (λ k. rw (c .beside .ensures) (before-more (a .m) (bursts (a .kinds)) i k (beside-lt (a .m) (bursts (a .kinds)) i h))),
+          (λ k. rw (c .beside .ensures) (before-more (a .m) (bursts (a .t1)) i k (beside-lt (a .m) (bursts (a .t1)) i h))),
     )
 
 returns : tie.Need-returns Inv-loop μ-loop
@@ -76,9 +76,9 @@ returns c =
     let s = c .before in
     let a = s .before .args in
     let e : s .loop .i ≡ a .parts = omega arith in
-    λ k l. mark-same (before (a .m) (bursts (a .kinds)) (s .loop .i)) (isIndexIn (a .m) (bursts (a .kinds)) oneEach) (a .kinds) (s .loop .next) k
+    λ k l. mark-same (before (a .m) (bursts (a .t1)) (s .loop .i)) (isIndexIn (a .m) (bursts (a .t1)) oneEach) (a .t1) (s .loop .next) k
     (s .loop .inv .2 k)
-    (rw e (before-all (a .m) (bursts (a .kinds)) (a .parts) k l))
+    (rw e (before-all (a .m) (bursts (a .t1)) (a .parts) k l))
 
 pub one-each-spec : {M : Type 1} → statement M
 one-each-spec =
