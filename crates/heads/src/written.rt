@@ -9,6 +9,7 @@ ghost use Rattle.params.specs.Given.{figuresOf, HeadsOf};
 ghost use Rattle.heads.specs.Written.{headsIn, writtenIn, OpenHeads, LeadsIn, plainPlaces};
 use params::Layout;
 use placements::Placement;
+use symbols::numbers::BYTE_VALUES;
 
 // The value, or the count of placements where that is less: then it is refusal 8. The most significant digit comes first.
 pub fn written_value(
@@ -80,11 +81,19 @@ pub fn with_digits(high: u64, q: u64, digits: &[u8], cap: u64) -> u64
     value
 }
 
-// A value with one digit behind it, or the cap where that is less. A division tells them apart before anything is multiplied.
+// A value with one digit behind it, or the cap where that is less. Small values are multiplied at once; of others a division tells them apart before
+// anything is multiplied.
 fn with_digit(high: u64, radix: u64, digit: u64, cap: u64) -> u64
     requires { ⌜ 0 < radix ⌝ }
     ensures { λ r. ⌜ r ≡ min (high * radix + digit) cap ⌝ }
 {
+    if high <= SMALL && radix <= BYTE_VALUES && digit <= BYTE_VALUES {
+        let sum = high * radix + digit;
+        if cap <= sum {
+            return cap;
+        }
+        return sum;
+    }
     if cap <= digit {
         return cap;
     }
@@ -93,3 +102,6 @@ fn with_digit(high: u64, radix: u64, digit: u64, cap: u64) -> u64
     }
     high * radix + digit
 }
+
+// So much by a byte's values, and one byte more, fits 64 bits.
+const SMALL: u64 = 36028797018963968;
