@@ -4,7 +4,8 @@ use mathlib.Core.Logic.{_≢_}
 use mathlib.Core.Bool.{cond}
 use mathlib.Core.List.{List, [], _∷_, _++_, append-assoc, append-nil}
 use Prim.Native.Nat.{ℕ, zero, suc, _+_, _-_, _*_, _/_, _%_, _≤_, _<_}
-use native.Mathlib.Nat.{mul-comm, div-lt-iff-lt-mul, mod-eq-of-lt, mod-lt, add-mod-left}
+use native.Mathlib.Nat.{mul-comm, suc-mul, div-lt-iff-lt-mul, div-add-mod', mod-eq-of-lt, mod-lt, add-mod-left}
+use lib.Arith.{digits-mod}
 use native.Mathlib.Numerals.{add-one}
 use native.Mathlib.Omega.{arith}
 use lib.Dec.{eqb}
@@ -103,3 +104,20 @@ place-lead r i e = rw (eqb-same (i % suc r) 0 (rw add-one at e))
 pub place-plain : (r i : ℕ) → i % (r + 1) ≢ 0 → placeAt r i ≡ plain
 unfolding placeAt
 place-plain r i e = rw (eqb-other (i % suc r) 0 (rw add-one at e))
+
+-- the place before, in blocks of suc t
+pub place-back : (t i : ℕ) → (suc i % suc t ≡ 0 → i % suc t ≡ t) × ((p : ℕ) → suc i % suc t ≡ suc p → i % suc t ≡ p)
+place-back t i =
+    let d = i % suc t in
+    let k = i / suc t in
+    let whole = div-add-mod' i (suc t) in
+    let low = mod-lt i {m = suc t} (omega arith) in
+    by-le (suc d) t (λ _. (suc i % suc t ≡ 0 → d ≡ t) × ((p : ℕ) → suc i % suc t ≡ suc p → d ≡ p))
+    (λ l.
+    let e : suc i ≡ k * suc t + suc d = omega (arith, whole) in
+    let next : suc i % suc t ≡ suc d = ap (λ (y : ℕ). y % suc t) e ∙ digits-mod k {m = suc t} {r = suc d} (omega arith) in
+    (λ z. absurd (omega (arith, next, z)), λ p h. omega (arith, next, h)))
+    (λ l.
+    let e : suc i ≡ suc k * suc t + 0 = omega (arith, whole, low, suc-mul k (suc t)) in
+    let next : suc i % suc t ≡ 0 = ap (λ (y : ℕ). y % suc t) e ∙ digits-mod (suc k) {m = suc t} {r = 0} (omega arith) in
+    (λ _. omega (arith, low), λ p h. absurd (omega (arith, next, h))))
