@@ -37,7 +37,8 @@ static const uint8_t untouched[64] = {
 
 static const uint8_t first_word[30] = {0, 1, 1, 1, 1, 1, 1, 1, 1, 1, 1, 1, 0, 0, 0, 1, 1, 1, 1, 1, 1, 0, 1, 1, 0, 0, 1, 1, 1, 1};
 
-static void first_strip(const char *what, unsigned wanted, uint32_t q, uint32_t b, uint16_t start, size_t starts_len, uint8_t last, size_t message_len, size_t word_len)
+static void first_strip(const char *what, unsigned wanted, uint32_t q, uint32_t b, uint16_t start, size_t starts_len, uint8_t last,
+                        size_t message_len, size_t word_len)
 {
     uint8_t starts[4] = {(uint8_t)(start >> 8), (uint8_t)start, 0, 0}, message[24], word[64];
     memset(message, 1, sizeof message);
@@ -49,7 +50,8 @@ static void first_strip(const char *what, unsigned wanted, uint32_t q, uint32_t 
 }
 
 /* The check of that word against its placement and message, with one of its symbols altered. */
-static void check(const char *what, unsigned wanted, uint32_t q, uint32_t b, uint16_t start, size_t starts_len, uint8_t last, size_t message_len, size_t at, uint8_t value, size_t word_len)
+static void check(const char *what, unsigned wanted, uint32_t q, uint32_t b, uint16_t start, size_t starts_len, uint8_t last, size_t message_len,
+                  size_t at, uint8_t value, size_t word_len)
 {
     uint8_t starts[4] = {(uint8_t)(start >> 8), (uint8_t)start, 0, 0}, message[24], word[32];
     memset(message, 1, sizeof message);
@@ -209,7 +211,8 @@ static void maps(void)
 static const uint8_t two_words[8] = {0, 1, 2, 3, 2, 1, 4, 4}, two_laid[6] = {0, 3, 1, 2, 2, 1};
 
 /* Both ways: laid where `into` is 1, taken apart where it is 0. The fifth symbol is `fifth`. */
-static void lanes(const char *what, unsigned wanted, int one_long, int into, uint32_t q, uint32_t b, uint32_t depth, uint8_t fifth, size_t from_len, size_t to_len)
+static void lanes(const char *what, unsigned wanted, int one_long, int into, uint32_t q, uint32_t b, uint32_t depth, uint8_t fifth, size_t from_len,
+                  size_t to_len)
 {
     uint8_t from[8], to[8];
     memcpy(from, into ? two_words : two_laid, 6);
@@ -439,7 +442,8 @@ static const uint8_t payload7[11] = {0, 0, 0, 7, 0x41, 0x42, 0x43, 0x44, 0x45, 0
 static const uint8_t written7[15] = {0, 0, 0, 0, 7, 0x41, 0, 0, 0x42, 0x43, 7, 0x44, 0x45, 0x46, 0x47};
 static const uint8_t found7[15] = {0, 0, 0, 0, 7, 0x41, 0xFF, 0xFF, 0x42, 0x43, 7, 0x44, 0x45, 0x46, 0x47};
 
-static void write7(const char *what, unsigned wanted, uint32_t q, uint32_t b, const uint8_t *table, size_t table_len, uint8_t start, size_t starts_len, size_t payload_len, size_t word_len)
+static void write7(const char *what, unsigned wanted, uint32_t q, uint32_t b, const uint8_t *table, size_t table_len, uint8_t start,
+                   size_t starts_len, size_t payload_len, size_t word_len)
 {
     uint8_t starts[4] = {0, start, 0, 0}, word[16];
     memcpy(word, untouched, sizeof word);
@@ -447,7 +451,8 @@ static void write7(const char *what, unsigned wanted, uint32_t q, uint32_t b, co
     see(what, answer, wanted, word, wanted == BURGZEMI_SERVED ? written7 : untouched, 15);
 }
 
-static void read7(const char *what, unsigned wanted, uint32_t q, uint32_t b, const uint8_t *table, size_t table_len, const uint8_t *word, size_t word_len, size_t payload_len)
+static void read7(const char *what, unsigned wanted, uint32_t q, uint32_t b, const uint8_t *table, size_t table_len, const uint8_t *word,
+                  size_t word_len, size_t payload_len)
 {
     uint8_t payload[16];
     memcpy(payload, untouched, sizeof payload);
@@ -646,7 +651,8 @@ struct lengths {
 
 static const struct lengths right_lengths = {BURGZEMI_TABLE_LEN, 2, 25, BURGZEMI_MARKS_LEN, BURGZEMI_POWERS_LEN};
 
-static void write_prescription(const char *what, unsigned wanted, uint32_t n, uint8_t state, uint32_t number, uint8_t start, double distance, struct lengths lens)
+static void write_prescription(const char *what, unsigned wanted, uint32_t n, uint8_t state, uint32_t number, uint8_t start, double distance,
+                               struct lengths lens)
 {
     uint8_t table[BURGZEMI_TABLE_LEN + 5], starts[4] = {0, start, 0, 0}, word[64];
     memset(table, 0, sizeof table);
@@ -779,7 +785,8 @@ static void long_written(void)
 }
 
 /* Reads a word of 20 characters: the start, or the refusal with both buffers as they were. */
-static void long_read(const char *what, unsigned wanted, uint32_t q, uint32_t b, const char *text, size_t word_len, size_t message_len, size_t starts_len, uint8_t start)
+static void long_read(const char *what, unsigned wanted, uint32_t q, uint32_t b, const char *text, size_t word_len, size_t message_len,
+                      size_t starts_len, uint8_t start)
 {
     uint8_t word[21] = {0}, message[12], starts[4], kept[4] = {0, start, 0xA5, 0x5A};
     symbols_of(text, word);

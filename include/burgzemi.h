@@ -264,7 +264,7 @@ uint8_t burgzemi_prescription_read(uint32_t n, uint32_t q, uint32_t m, uint32_t 
 
 /*
  * Strips with one long burst: Construction B, with the figures n, q and b. Each of these functions does what the one without "long_" in its name does, on
- * buffers of the same lengths with 2 bytes of starts, and refuses the same in the same order, but for what the figures give:
+ * buffers of the same lengths, of which `start` has 2 bytes, and refuses the same in the same order, but for what the figures give:
  *
  * b may be up to n / 3 (rounded down), and r is the least for which an index block's first 1 + r symbols spell at least n / 3 values (rounded up). 2 is for a
  * b above n / 3 or an r that is not below it (both rounded down). k is n - b - r - 2. The index block spells how far into its part the burst ends: 8 is for a
@@ -279,20 +279,20 @@ uint32_t burgzemi_long_payload_len(uint32_t n, uint32_t q, uint32_t b);
 uint8_t burgzemi_long_decode(uint32_t n, uint32_t q, uint32_t b,
                              const uint8_t *word, size_t word_len,
                              uint8_t *message, size_t message_len,
-                             uint8_t *starts, size_t starts_len);
+                             uint8_t *start, size_t start_len);
 
 uint8_t burgzemi_long_encode(uint32_t n, uint32_t q, uint32_t b,
-                             const uint8_t *starts, size_t starts_len,
+                             const uint8_t *start, size_t start_len,
                              const uint8_t *message, size_t message_len,
                              uint8_t *word, size_t word_len);
 
 uint8_t burgzemi_long_cover(uint32_t n, uint32_t q, uint32_t b,
                             const uint8_t *map, size_t map_len,
-                            uint8_t *starts, size_t starts_len);
+                            uint8_t *start, size_t start_len);
 
 uint8_t burgzemi_long_job_write(uint32_t n, uint32_t q, uint32_t b,
                                 const uint8_t *table, size_t table_len,
-                                const uint8_t *starts, size_t starts_len,
+                                const uint8_t *start, size_t start_len,
                                 const uint8_t *payload, size_t payload_len,
                                 uint8_t *word, size_t word_len);
 
@@ -311,7 +311,7 @@ uint8_t burgzemi_long_deinterleave(uint32_t n, uint32_t q, uint32_t b, uint32_t 
 
 uint8_t burgzemi_long_prescription_write(uint32_t n, uint32_t q, uint32_t b,
                                          const uint8_t *table, size_t table_len,
-                                         const uint8_t *starts, size_t starts_len,
+                                         const uint8_t *start, size_t start_len,
                                          uint32_t number,
                                          uint8_t right_kind, double right_sphere, double right_cylinder, uint8_t right_axis,
                                          uint8_t left_kind, double left_sphere, double left_cylinder, uint8_t left_axis,
@@ -359,30 +359,30 @@ uint8_t burgzemi_larsson_cover(uint32_t n, uint32_t q, uint32_t m, uint32_t b,
                                uint8_t *starts, size_t starts_len);
 
 /*
- * Moves a job from a strip of the older trays to one of Construction A, with the same figures and placement. `strip` is a found word of n values, which is
- * read as burgzemi_larsson_decode does; `moved`, of n bytes, gets the word that burgzemi_job_write writes for the same starts, number and text. Where its
+ * Moves a job from a strip of the older trays to one of Construction A, with the same figures and placement. `older` is a found word of n values, which is
+ * read as burgzemi_larsson_decode does; `newer`, of n bytes, gets the word that burgzemi_job_write writes for the same starts, number and text. Where its
  * payload is longer than the one that was read, it ends in bytes of 0; where it is shorter, the surplus bytes that were read must be 0. The job must be
  * open, and its number not 0.
  *
- * Moved back by burgzemi_move_to_larsson, with the same table and whatever values up to q the bursts of `moved` then hold, it has the message that it had,
+ * Moved back by burgzemi_move_to_larsson, with the same table and whatever values up to q the bursts of `newer` then hold, it has the message that it had,
  * and 0 in its bursts.
  *
  * Refusals: 1 for the figures and for the slots of a table of BURGZEMI_TABLE_LEN bytes; 2 where the figures don't fit both codes; 10 where either payload is
- * below 5 bytes; 3 where table_len is not BURGZEMI_TABLE_LEN, or strip_len or moved_len not n; 4 21 8 9 19 for the word; 10 for a message that spells no
+ * below 5 bytes; 3 where table_len is not BURGZEMI_TABLE_LEN, or older_len or newer_len not n; 4 21 8 9 19 for the word; 10 for a message that spells no
  * payload; 12, 23 and 14 for the job; 22 for surplus bytes that aren't all 0; 17 for number 0, which is then open.
  */
 uint8_t burgzemi_move_to_a(uint32_t n, uint32_t q, uint32_t m, uint32_t b,
                            const uint8_t *table, size_t table_len,
-                           const uint8_t *strip, size_t strip_len,
-                           uint8_t *moved, size_t moved_len);
+                           const uint8_t *older, size_t older_len,
+                           uint8_t *newer, size_t newer_len);
 
 /*
  * Moves it back, or any job from a strip of Construction A to one of the older trays, likewise. Refusals: as above, but 4 7 19 8 9 19 for the word.
  */
 uint8_t burgzemi_move_to_larsson(uint32_t n, uint32_t q, uint32_t m, uint32_t b,
                                  const uint8_t *table, size_t table_len,
-                                 const uint8_t *strip, size_t strip_len,
-                                 uint8_t *moved, size_t moved_len);
+                                 const uint8_t *newer, size_t newer_len,
+                                 uint8_t *older, size_t older_len);
 
 #ifdef __cplusplus
 }

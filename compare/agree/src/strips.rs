@@ -36,22 +36,20 @@ fn seventeen(judge: &mut Judge) {
 }
 
 fn covering(judge: &mut Judge) {
-    let mut map = [0; 30];
-    let none = judge.cover(FIRST, &map, 2);
-    is(
-        judge,
-        Op::Cover,
-        "no worn cell gives 0",
-        none.number == 0 && none.out == [0, 0],
-    );
-    map[12] = 1;
-    let one = judge.cover(FIRST, &map, 2);
-    is(
-        judge,
-        Op::Cover,
-        "worn 12 gives 10",
-        one.number == 0 && one.out == [0, 10],
-    );
+    let mut worn = [0; 30];
+    worn[12] = 1;
+    for (what, map, start) in [
+        ("no worn cell gives 0", [0; 30], 0),
+        ("worn 12 gives 10", worn, 10),
+    ] {
+        let found = judge.cover(FIRST, &map, 2);
+        is(
+            judge,
+            Op::Cover,
+            what,
+            found.number == 0 && found.out == [0, start],
+        );
+    }
 }
 
 fn reading(judge: &mut Judge) {

@@ -26,10 +26,12 @@ pub trait Numbers: TryInto<Figures, Error = u8> {}
 impl<N: TryInto<Figures, Error = u8>> Numbers for N {}
 
 /// n, q, m and b of Construction A.
-impl TryFrom<(u32, u32, u32, u32)> for Figures {
+pub type Ranked = (u32, u32, u32, u32);
+
+impl TryFrom<Ranked> for Figures {
     type Error = u8;
 
-    fn try_from((n, q, m, b): (u32, u32, u32, u32)) -> Result<Figures, u8> {
+    fn try_from((n, q, m, b): Ranked) -> Result<Figures, u8> {
         Figures::new(n, q, m, b)
     }
 }
@@ -210,6 +212,24 @@ fn job_inputs(numbers: impl Numbers, table: &[u8]) -> Result<(Figures, Option<Bo
     Ok((numbers.try_into()?, book))
 }
 
+/// What both writing calls go on with: 10, then 3 for the bytes of the table and of the starts.
+fn write_with(
+    numbers: impl Numbers,
+    table: &[u8],
+    starts: &[u8],
+    write: impl FnOnce(&Figures, &Book, &[u16]) -> u8,
+) -> u8 {
+    let (f, book) = match job_inputs(numbers, table) {
+        Ok(inputs) => inputs,
+        Err(refusal) => return refusal,
+    };
+    match book {
+        _ if job::payload_len(&f) < job::LEAST_PAYLOAD => 10,
+        Some(book) if starts.len() == 2 * f.m => write(&f, &book, &starts_of(starts)[..f.m]),
+        _ => 3,
+    }
+}
+
 pub fn job_write(
     numbers: impl Numbers,
     table: &[u8],
@@ -217,18 +237,9 @@ pub fn job_write(
     payload: &[u8],
     word: &mut [u8],
 ) -> u8 {
-    let (f, book) = match job_inputs(numbers, table) {
-        Ok(inputs) => inputs,
-        Err(refusal) => return refusal,
-    };
-    let wrong_starts = starts.len() != 2 * f.m;
-    match book {
-        _ if job::payload_len(&f) < job::LEAST_PAYLOAD => 10,
-        Some(book) if !wrong_starts => {
-            job::write_job(&f, &book, &starts_of(starts)[..f.m], payload, word)
-        }
-        _ => 3,
-    }
+    write_with(numbers, table, starts, |f, book, starts| {
+        job::write_job(f, book, starts, payload, word)
+    })
 }
 
 pub fn job_read(numbers: impl Numbers, table: &[u8], word: &[u8], payload: &mut [u8]) -> u8 {
@@ -243,34 +254,20 @@ pub fn job_read(numbers: impl Numbers, table: &[u8], word: &[u8], payload: &mut 
     }
 }
 
-pub fn move_to_a(
-    numbers: (u32, u32, u32, u32),
-    table: &[u8],
-    strip: &[u8],
-    moved: &mut [u8],
-) -> u8 {
-    move_job(numbers, table, |layouts, book| {
-        layouts.from_larsson(book, strip, moved)
+pub fn move_to_a(numbers: Ranked, table: &[u8], strip: &[u8], moved: &mut [u8]) -> u8 {
+    move_job(numbers, table, |both, book| {
+        both.from_larsson(book, strip, moved)
     })
 }
 
-pub fn move_to_larsson(
-    numbers: (u32, u32, u32, u32),
-    table: &[u8],
-    strip: &[u8],
-    moved: &mut [u8],
-) -> u8 {
-    move_job(numbers, table, |layouts, book| {
-        layouts.to_larsson(book, strip, moved)
+pub fn move_to_larsson(numbers: Ranked, table: &[u8], strip: &[u8], moved: &mut [u8]) -> u8 {
+    move_job(numbers, table, |both, book| {
+        both.to_larsson(book, strip, moved)
     })
 }
 
 /// What both moves begin with: refusal 1 for the table, 1 and 2 for the figures, 10, and 3 for the table's length.
-fn move_job(
-    (n, q, m, b): (u32, u32, u32, u32),
-    table: &[u8],
-    go: impl FnOnce(&Layouts, &Book) -> u8,
-) -> u8 {
+fn move_job((n, q, m, b): Ranked, table: &[u8], go: impl FnOnce(&Layouts, &Book) -> u8) -> u8 {
     let book = match book_of(table).transpose() {
         Ok(book) => book,
         Err(refusal) => return refusal,

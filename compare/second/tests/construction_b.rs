@@ -1,6 +1,7 @@
 //! Document 02's change request 1: Construction B, for one long run.
 
 mod exhaustive;
+mod wording;
 
 use std::collections::BTreeSet;
 
@@ -105,13 +106,7 @@ fn by_wording(f: &Figures, start: usize, message: &[u8]) -> Vec<u8> {
     }
     assert!(value < q - 1);
     cells[begin(index)] = Some(value as u8 + 1);
-    let mut symbols = message.iter();
-    let word = cells
-        .iter()
-        .map(|cell| cell.unwrap_or_else(|| *symbols.next().expect("a symbol")))
-        .collect();
-    assert!(symbols.next().is_none());
-    word
+    wording::filled(&cells, message)
 }
 
 /// Writes, compares with the wording, and reads back with values at will inside the run.

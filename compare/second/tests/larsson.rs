@@ -1,6 +1,7 @@
 //! Document 02's change request 8: the Larsson code of the older trays.
 
 mod exhaustive;
+mod wording;
 
 use std::collections::BTreeSet;
 
@@ -128,13 +129,7 @@ fn by_wording(f: &Figures, starts: &[u16], message: &[u8]) -> Vec<u8> {
         }
         assert_eq!(left, 0);
     }
-    let mut symbols = message.iter();
-    let word = cells
-        .iter()
-        .map(|cell| cell.unwrap_or_else(|| *symbols.next().expect("a symbol")))
-        .collect();
-    assert!(symbols.next().is_none());
-    word
+    wording::filled(&cells, message)
 }
 
 /// Writes, compares with the wording, and reads back with values at will inside the runs.

@@ -9,7 +9,7 @@ use Rattle.combinatorics.specs.Stretch.{has}
 use Rattle.combinatorics.proofs.Cases.{by-le, by-bool, leb-holds}
 use Rattle.combinatorics.proofs.Choose.{quick-is, choose-mono}
 use Rattle.combinatorics.proofs.Stretch.{has-some}
-use Rattle.construction_a.specs.Figures.{maxCount}
+use Rattle.cells.specs.Figures.{maxCount}
 use Rattle.binomials.specs.Limits.{maxThings, maxChosen, maxTaken, mostThings}
 
 -- none of a stretch passes

@@ -3,8 +3,8 @@ use mathlib.Core.Path.{_≡_, sym, ap, _∙_}
 use Prim.Native.Nat.{ℕ, _≤_, _<_}
 use native.Mathlib.Omega.{arith}
 use Rattle.combinatorics.proofs.Cases.{by-le}
-use Rattle.construction_a.specs.Figures.{Counted, counted, tooMany, countOut, maxCount}
-use Rattle.construction_a.proofs.Figures.{count-given, count-over}
+use Rattle.cells.specs.Figures.{Counted, counted, tooMany, countOut, maxCount}
+use Rattle.cells.proofs.Figures.{count-given, count-over}
 use Rattle.binomials.specs.Limits.{countedAs}
 use Rattle.binomials.specs.declared.CountAnswer.{CountAnswer}
 use Rattle.binomials.specs.declared.CountAnswer.the-variants.{Ways, TooMany}

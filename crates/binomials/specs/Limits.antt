@@ -2,7 +2,7 @@
 use mathlib.Core.Bool.{cond}
 use Prim.Native.Nat.{ℕ}
 use lib.Dec.{eqb}
-use Rattle.construction_a.specs.Figures.{maxWord, maxBursts, Counted, counted, tooMany}
+use Rattle.cells.specs.Figures.{maxWord, maxBursts, Counted, counted, tooMany}
 use Rattle.binomials.specs.declared.CountAnswer.{CountAnswer}
 use Rattle.binomials.specs.declared.CountAnswer.the-variants.{Ways, TooMany}
 

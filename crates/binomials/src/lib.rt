@@ -2,22 +2,23 @@
 ghost use mathlib.Core.Path.{_≡_};
 ghost use Prim.Native.Nat.{_*_, _/_, _≤_};
 ghost use Rattle.combinatorics.specs.Choose.{choose as ways};
-ghost use Rattle.construction_a.specs.Figures.{maxCount, countOut};
+ghost use Rattle.cells.specs.Figures.{maxCount, countOut};
 ghost use Rattle.binomials.specs.Limits.{maxThings, maxChosen, maxTaken, mostThings, countedAs};
 
-// A count: its value, or that it exceeds MAX_COUNT.
+// A count: its value, or that it exceeds the largest that is given.
 pub enum CountAnswer {
     Ways(u64),
     TooMany,
 }
 
-// The largest count that is given.
-pub const MAX_COUNT: u64 = 9223372036854775807;
+impl CountAnswer {
+    pub const MAX: u64 = 9223372036854775807;
+}
 
 // No more things than the longest word has symbols.
 const MAX_THINGS: u64 = 4096;
 
-// Out of so many things 7, and 8, are chosen in at most MAX_COUNT ways, and out of one more in more ways than that. Fewer are chosen out of
+// Out of so many things 7, and 8, are chosen in at most CountAnswer::MAX ways, and out of one more in more ways than that. Fewer are chosen out of
 // MAX_THINGS in less.
 const MOST_FOR_7: u64 = 1733;
 
@@ -30,7 +31,7 @@ const MAX_TAKEN: u64 = 5;
 pub fn count(n: u64, k: u64) -> CountAnswer
     requires { ⌜ (n ≤ maxThings) × (k ≤ maxChosen) ⌝ }
     ensures value { λ r. ⌜ countedAs r ≡ countOut (ways n k) ⌝ }
-    ensures limit { λ _. do ⌜ (← ⟦MAX_COUNT⟧ .entry) ≡ maxCount ⌝ }
+    ensures limit { λ _. do ⌜ (← ⟦CountAnswer::MAX⟧ .entry) ≡ maxCount ⌝ }
 {
     if most_things(k) < n {
         return CountAnswer::TooMany;
@@ -69,7 +70,7 @@ pub fn worked_out(n: u64, k: u64) -> u64
     chosen
 }
 
-// The most things out of which k can be chosen in at most MAX_COUNT ways.
+// The most things out of which k can be chosen in at most CountAnswer::MAX ways.
 fn most_things(k: u64) -> u64
     requires { ⌜ k ≤ maxChosen ⌝ }
     ensures { λ r. ⌜ r ≡ mostThings k ⌝ }

@@ -10,9 +10,11 @@ use lib.ListN.{length, getD, set}
 use lib.Seq.{getD-set-same, getD-set-other}
 use Rattle.combinatorics.specs.Stretch.{bit, count, first}
 use Rattle.combinatorics.proofs.Cases.{by-eq, by-bool, eqb-same, eqb-other}
-use Rattle.combinatorics.proofs.Stretch.{sum-append, count-le, count-on, some-false, first-most}
+use Rattle.combinatorics.proofs.StretchLoops.{count-on}
+use Rattle.combinatorics.proofs.Stretch.{sum-append, count-le, some-false, first-most}
 use Rattle.construction_a.specs.Writing.{becomes, withBurst, row, chosen, isIndexIn, isIndex, isBurst}
-use Rattle.construction_a.specs.Figures.{Params, parts}
+use Rattle.cells.specs.Figures.{Params}
+use Rattle.construction_a.specs.Figures.{parts}
 use Rattle.blocks.specs.Blocks.{fixedKind, burstKind, indexKind, bursts, marked, blockKind, BurstsOf}
 
 pub is-burst : (kinds : List ℕ) (k : ℕ) → getD kinds k 0 ≡ 1 → bursts kinds k ≡ true

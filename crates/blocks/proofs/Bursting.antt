@@ -11,7 +11,8 @@ use lib.Seq.{getD-set-same, getD-set-other}
 use Rattle.combinatorics.specs.Stretch.{count}
 use Rattle.combinatorics.proofs.Cases.{by-eq, eqb-other}
 use Rattle.combinatorics.proofs.Stretch.{count-none}
-use Rattle.construction_a.specs.Figures.{Params, blocks, blockOf}
+use Rattle.cells.specs.Figures.{Params}
+use Rattle.construction_a.specs.Figures.{blocks, blockOf}
 use Rattle.construction_a.specs.Writing.{becomes, withBurst, withBursts, lastBlocks, isBurst}
 use Rattle.construction_a.proofs.Rule.{withBurst-count}
 use Rattle.params.specs.Given.{maxBlocks}

@@ -12,8 +12,10 @@ use lib.Seq.{getD-set-same, getD-set-other}
 use Rattle.combinatorics.specs.Stretch.{count, first}
 use Rattle.combinatorics.proofs.Cases.{by-le, by-eq, eqb-same, eqb-other, eqb-false, leb-holds, leb-fails}
 use Rattle.combinatorics.proofs.Stretch.{first-in, first-false}
-use Rattle.construction_a.specs.Writing.{row, next, partCount, partWith, Chosen, whole, oneEach, chosen, beside, isChosen, isIndexIn}
-use Rattle.construction_a.proofs.Rule.{next-lt, at-row, chosen-by}
+use Rattle.cells.specs.Round.{next}
+use Rattle.construction_a.specs.Writing.{row, partCount, partWith, Chosen, whole, oneEach, chosen, beside, isChosen, isIndexIn}
+use Rattle.cells.proofs.Round.{next-lt}
+use Rattle.construction_a.proofs.Rule.{at-row, chosen-by}
 use Rattle.blocks.specs.Blocks.{marked}
 
 -- none yet

@@ -5,7 +5,8 @@ use mathlib.Core.List.{List}
 use Prim.Native.Nat.{ℕ, _≤_, _<_}
 use lib.Dec.{eqb}
 use lib.ListN.{getD}
-use Rattle.construction_a.specs.Figures.{Params, blocks}
+use Rattle.cells.specs.Figures.{Params}
+use Rattle.construction_a.specs.Figures.{blocks}
 use Rattle.construction_a.specs.Writing.{isBurst, isIndex}
 
 abbrev pub fixedKind : ℕ

@@ -9,7 +9,8 @@ use lib.ListN.{length, getD, drop, length-map}
 use Rattle.combinatorics.specs.Lists.{all, allBelow}
 use Rattle.combinatorics.specs.Stretch.{sum, bit, count, keepIf, members, tabulate}
 use Rattle.combinatorics.proofs.Cases.{by-bool, leb-holds}
-use Rattle.combinatorics.proofs.Stretch.{at-or-past, length-members}
+use Rattle.combinatorics.proofs.Members.{length-members}
+use Rattle.combinatorics.proofs.Stretch.{at-or-past}
 use Rattle.cells.specs.Cells.{Cell, burst, fixed, digit, message, is, weave, pick}
 
 -- two words agree but for the bursts

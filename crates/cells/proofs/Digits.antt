@@ -16,7 +16,7 @@ use Rattle.combinatorics.specs.Lists.{all, allBelow}
 use Rattle.combinatorics.specs.Stretch.{tabulate}
 use Rattle.combinatorics.proofs.Cases.{leb-holds, by-le}
 use Rattle.combinatorics.proofs.Lists.{both}
-use Rattle.combinatorics.proofs.Stretch.{Each, length-tabulate, tabulate-at}
+use Rattle.combinatorics.proofs.Members.{Each, length-tabulate, tabulate-at}
 use Rattle.cells.specs.Digits.{Place, lead, plain, radix, offset, span, spell, value, places}
 
 -- stored digits that are in range

@@ -2,10 +2,12 @@
 use mathlib.Core.Path.{_≡_, refl}
 use mathlib.Core.Bool.{true, false}
 use mathlib.Core.List.{[], _∷_}
+use mathlib.Core.Option.{none, some}
 use Rattle.combinatorics.specs.Stretch.{sum, tabulate}
 use Rattle.cells.specs.Cells.{digit, message, fixed}
 use Rattle.cells.specs.Plan.{cellOf}
 use Rattle.cells.specs.Cut.{pieceLen, pieceStart, blockAt, blockHead}
+use Rattle.cells.specs.Round.{later}
 use Rattle.cells.specs.Digits.{span, spell, value, places}
 
 -- "shorter ones first": 11 positions in 3 pieces
@@ -31,3 +33,8 @@ value-44 = refl
 first-cells : cellOf 2 false true false 0 ∷ cellOf 2 false false true 0 ∷ cellOf 2 false false false 0 ∷ [] ≡ digit ∷ message ∷ fixed ∷ []
 unfolding cellOf
 first-cells = refl
+
+-- "neighbours i and i+1 give i+1; parts 0 and p−1 give part 0", and any other pair none
+pairs-of-5 : later 5 (1 ∷ 2 ∷ []) ∷ later 5 (0 ∷ 4 ∷ []) ∷ later 5 (1 ∷ 3 ∷ []) ∷ [] ≡ some 2 ∷ some 0 ∷ none ∷ []
+unfolding later
+pairs-of-5 = refl

@@ -1,5 +1,7 @@
 mod Examples
 pub mod Cut
+pub mod Figures
+pub mod Round
 pub mod Cells
 pub mod Plan
 pub mod Digits

@@ -10,7 +10,8 @@ use lib.Dec.{ltb, eqb}
 use lib.ListN.{length, getD}
 use Rattle.combinatorics.specs.Stretch.{count, members, tabulate}
 use Rattle.combinatorics.proofs.Cases.{by-le, by-eq, by-bool, eqb-same, eqb-other, leb-holds, leb-fails}
-use Rattle.combinatorics.proofs.Stretch.{same, IsTop, top-only, count-ext, count-three, members-blocks, length-members, length-tabulate, length-flat, flat-map}
+use Rattle.combinatorics.proofs.Members.{members-blocks, length-members, length-tabulate, length-flat, flat-map}
+use Rattle.combinatorics.proofs.Stretch.{same, IsTop, top-only, count-ext, count-three}
 use Rattle.cells.specs.Cells.{burst, fixed, digit, message, is, weave, pick}
 use Rattle.cells.specs.Plan.{Frame, cellOf, kindIn, planIn, Spares}
 use Rattle.cells.proofs.Cells.{kinds, pick-at, pick-agrees, length-pick, no-burst, digits-woven, message-woven, woven-clean, clean-at, Clean}

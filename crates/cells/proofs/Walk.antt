@@ -8,7 +8,7 @@ use native.Mathlib.Omega.{arith}
 use lib.ListN.{length, getD, take, drop, replicate, length-drop}
 use lib.Seq.{drop-nil, take-all}
 use Rattle.combinatorics.specs.Stretch.{sum, bit, count, tabulate}
-use Rattle.combinatorics.proofs.Stretch.{keep-append}
+use Rattle.combinatorics.proofs.Members.{keep-append}
 use Rattle.cells.specs.Cells.{Cell, burst, fixed, digit, message, is, weave, pick, content, Enough}
 
 -- how many cells of a list are of a kind

@@ -5,7 +5,9 @@ use mathlib.Core.Bool.{Bool, true, false}
 use mathlib.Core.List.{List}
 use Prim.Native.Nat.{ℕ, _<_}
 use lib.ListN.{length, getD}
+use Rattle.combinatorics.specs.Bursts.{inBurst}
 use Rattle.combinatorics.specs.Lists.{allBelow}
+use Rattle.cells.specs.Erasures.{foundBound}
 
 -- what a decoder makes of a found word: a placement, by its starts, and a message; or a refusal
 pub data Reading : Type 0 where
@@ -23,6 +25,20 @@ pub record Codec : Type 0 where
   pub spoilt : List ℕ → ℕ → Bool
   pub encode : List ℕ → List ℕ → List ℕ
   pub decode : List ℕ → Reading
+
+-- a code on words of n symbols below q with k message symbols, whose placements have bursts of b positions
+abbrev pub burstCodec : (n q b k : ℕ) → (List ℕ → Bool) → (List ℕ → List ℕ → List ℕ) → (List ℕ → Reading) → Codec
+burstCodec n q b k placed encode decode =
+    record {
+      wordLen = n;
+      alphabet = q;
+      foundBound = foundBound q;
+      messageLen = k;
+      placed = placed;
+      spoilt = inBurst b;
+      encode = encode;
+      decode = decode;
+    }
 
 -- a word that can be found
 pub record Word (c : Codec) (w : List ℕ) : Type 0 where

@@ -1,4 +1,6 @@
 pub mod Cut
+pub mod Figures
+pub mod Round
 pub mod Cells
 pub mod Plan
 pub mod Digits

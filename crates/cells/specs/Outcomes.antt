@@ -8,6 +8,7 @@ use lib.ListN.{length, getD, take, replicate}
 use Rattle.refusals.specs.Refusals.{must, served, invalid, unfit, wrongLength, badSymbol, badStarts, uncovered}
 use Rattle.combinatorics.specs.Bursts.{apart, rankOf, startsOf, coverRank}
 use Rattle.combinatorics.specs.Lists.{allBelow}
+use Rattle.cells.specs.Figures.{maxBursts}
 use Rattle.cells.specs.Codec.{Reading, accepted, refused, Codec}
 
 -- what figures give, whatever numbers a caller passes: whether each is in range, and whether they fit; m bursts of b positions each, T and r; and
@@ -20,9 +21,6 @@ pub record Coding : Type 0 where
   pub placementCount : ℕ
   pub indexTail : ℕ
   pub codec : Codec
-
-abbrev pub maxBursts : ℕ
-maxBursts = 8
 
 -- "A placement is held as six starts and the count in use"; document 02, ticket 11: "Raise .. a placement's starts to eight"
 pub record Held : Type 0 where

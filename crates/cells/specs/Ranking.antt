@@ -1,4 +1,4 @@
--- What ranks and covers are, whatever the construction: statements about the definitions of a placement's rank, of the placement of a rank and of
+-- What ranks, covers and r are, whatever the construction: statements about the definitions of a placement's rank, of the placement of a rank and of
 -- covering. The proofs are `rank-bijection` and `covers-least` of proofs/Ranking.antt. Assumes nothing.
 use mathlib.Core.Path.{_≡_}
 use mathlib.Core.Logic.{_↔_}
@@ -6,6 +6,7 @@ use mathlib.Core.Bool.{Bool, true}
 use mathlib.Core.List.{List}
 use Prim.Native.Nat.{ℕ, _≤_, _<_}
 use Rattle.combinatorics.specs.Bursts.{rankOf, startsOf, covers, coverRank}
+use Rattle.cells.specs.Figures.{indexValues}
 use Rattle.cells.specs.Outcomes.{Coding}
 
 -- the placement of a rank, and the least rank of a cover
@@ -32,3 +33,8 @@ pub record CoversLeast (d : Coding) (worn : ℕ → Bool) : Type 0 where
   pub some : (coverRankUnder d worn < d .placementCount) ↔ ((ss : List ℕ) × CoveredBy d worn ss)
   pub gives : coverRankUnder d worn < d .placementCount → CoveredBy d worn (placementUnder d (coverRankUnder d worn))
   pub least : (ss : List ℕ) → CoveredBy d worn ss → coverRankUnder d worn ≤ rankOf (d .burstLen) ss
+
+-- "the least whole number for which m such I-blocks together spell at least T values": of all numbers
+pub record ServesLeast (q m values r : ℕ) : Type 0 where
+  pub serves : values ≤ indexValues q m r
+  pub least : (r′ : ℕ) → values ≤ indexValues q m r′ → r ≤ r′

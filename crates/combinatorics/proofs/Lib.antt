@@ -1,6 +1,8 @@
 pub mod Cases
 pub mod Lists
 pub mod Stretch
+pub mod Members
+pub mod StretchLoops
 pub mod Majority
 pub mod Choose
 pub mod Rank

@@ -10,7 +10,7 @@ use lib.Dec.{leb}
 use lib.ListN.{length, getD, drop, take, set, replicate, drop-of-length-le, length-take}
 use lib.Seq.{drop-cons, getD-take, length-take-le, lt-length-set, getD-set-same, drop-set-lt}
 use Rattle.combinatorics.specs.Choose.{choose}
-use Rattle.combinatorics.specs.Rank.{rankFrom, ways, unrankDown, unrank}
+use Rattle.combinatorics.specs.Rank.{rankFrom, waysFrom, unrankDown, unrank}
 use Rattle.combinatorics.specs.Stretch.{top}
 use Rattle.combinatorics.specs.Bursts.{apart, contracted, reduceFrom, expandFrom, rankOf, startsOf}
 use Rattle.combinatorics.proofs.Cases.{leb-holds, leb-fails}
@@ -131,12 +131,12 @@ pub record LastStart (d n i v c : ℕ) : Type 0 where
   pub rest : v - choose c i < choose c (i - 1)
   pub starts : startsDown d n i v ≡ (c + (i - 1) * d) ∷ startsDown d c (i - 1) (v - choose c i)
 
-pub starts-next : (d n i v : ℕ) → 0 < i → v < choose n i → LastStart d n i v (top (ways i) n v)
+pub starts-next : (d n i v : ℕ) → 0 < i → v < choose n i → LastStart d n i v (top (waysFrom i) n v)
 unfolding startsDown expandDown unrankDown
 starts-next d n zero v h l = absurd (omega arith)
 starts-next d n (suc k) v h l =
-    let c = top (ways (suc k)) n v in
-    let t = top-is (ways (suc k)) n v (omega (arith, choose-none k)) l in
+    let c = top (waysFrom (suc k)) n v in
+    let t = top-is (waysFrom (suc k)) n v (omega (arith, choose-none k)) l in
     let less : v - choose c (suc k) < choose c k = omega (arith, t .past, t .reach, pascal c k) in
     let e : suc k - 1 ≡ k = omega arith in
     record {

@@ -9,7 +9,8 @@ use borrow.Author.Tests.{leb-true}
 use Rattle.combinatorics.specs.Majority.{isValue, common, hasCommon, valueAtFirst, majority}
 use Rattle.combinatorics.specs.Stretch.{count, first}
 use Rattle.combinatorics.proofs.Cases.{by-eq, by-bool, eqb-same, eqb-other, eqb-true}
-use Rattle.combinatorics.proofs.Stretch.{first-in, first-true, count-three, by-members}
+use Rattle.combinatorics.proofs.Members.{by-members}
+use Rattle.combinatorics.proofs.Stretch.{first-in, first-true, count-three}
 
 -- ---- One place
 

@@ -7,7 +7,7 @@ use native.Mathlib.Omega.{arith}
 use lib.ListN.{length, length-reverse}
 use Rattle.combinatorics.specs.Choose.{choose}
 use Rattle.combinatorics.specs.Stretch.{top}
-use Rattle.combinatorics.specs.Rank.{rankFrom, ways, unrankDown, unrank}
+use Rattle.combinatorics.specs.Rank.{rankFrom, waysFrom, unrankDown, unrank}
 use Rattle.combinatorics.proofs.Choose.{pascal, choose-mono, choose-zero, choose-none}
 use Rattle.combinatorics.proofs.Stretch.{IsTop, top-is, top-only}
 
@@ -26,7 +26,7 @@ rank-lt n [] h = omega (arith, choose-zero n)
 rank-lt n (c ∷ cs) (h, k) = omega (arith, rank-lt c cs k, pascal c (length cs), choose-mono (suc (length cs)) h)
 
 -- of the first number
-rank-top : (n c : ℕ) (cs : List ℕ) → c < n → Falling c cs → IsTop (ways (suc (length cs))) n (rankDown (c ∷ cs)) c
+rank-top : (n c : ℕ) (cs : List ℕ) → c < n → Falling c cs → IsTop (waysFrom (suc (length cs))) n (rankDown (c ∷ cs)) c
 unfolding rankDown
 rank-top n c cs h k = record { below = h; reach = omega arith; past = omega (arith, rank-lt c cs k, pascal c (length cs)) }
 
@@ -36,9 +36,9 @@ unrank-rank n [] h = refl
 unrank-rank n (c ∷ cs) (h, k) =
     let w = length cs in
     let v = choose c (suc w) + rankDown cs in
-    let e : top (ways (suc w)) n v ≡ c =
-    top-only (ways (suc w)) (λ a b l. choose-mono (suc w) l)
-    (top-is (ways (suc w)) n v (omega (arith, choose-none w)) (rank-lt n (c ∷ cs) (h, k))) (rank-top n c cs h k) in
+    let e : top (waysFrom (suc w)) n v ≡ c =
+    top-only (waysFrom (suc w)) (λ a b l. choose-mono (suc w) l)
+    (top-is (waysFrom (suc w)) n v (omega (arith, choose-none w)) (rank-lt n (c ∷ cs) (h, k))) (rank-top n c cs h k) in
     rw (e, add-sub-cancel-left, unrank-rank c cs k)
 
 pub record Unranked (n k v : ℕ) (cs : List ℕ) : Type 0 where
@@ -50,8 +50,8 @@ pub rank-unrank : (n k v : ℕ) → v < choose n k → Unranked n k v (unrankDow
 unfolding rankDown unrankDown
 rank-unrank n zero v h = record { falls = tt; count = refl; same = omega (arith, choose-zero n) }
 rank-unrank n (suc k) v h =
-    let c = top (ways (suc k)) n v in
-    let t = top-is (ways (suc k)) n v (omega (arith, choose-none k)) h in
+    let c = top (waysFrom (suc k)) n v in
+    let t = top-is (waysFrom (suc k)) n v (omega (arith, choose-none k)) h in
     let i = rank-unrank c k (v - choose c (suc k)) (omega (arith, t .past, t .reach, pascal c k)) in
     record { falls = (t .below, i .falls); count = ap suc (i .count); same = rw (i .count, i .same) (omega (arith, t .reach)) }
 

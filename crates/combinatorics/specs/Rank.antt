@@ -10,13 +10,13 @@ rankFrom k [] = 0
 rankFrom k (c ∷ cs) = choose c (suc k) + rankFrom (suc k) cs
 
 -- the ways to choose k things, as a function of what they are chosen from
-abbrev pub ways : ℕ → ℕ → ℕ
-ways k c = choose c k
+abbrev pub waysFrom : ℕ → ℕ → ℕ
+waysFrom k c = choose c k
 
 -- the k numbers below n of rank v, falling: the largest is the largest with a share of at most v
 unfoldable pub unrankDown : ℕ → ℕ → ℕ → List ℕ
 unrankDown n zero v = []
-unrankDown n (suc k) v = let c = top (ways (suc k)) n v in c ∷ unrankDown c k (v - choose c (suc k))
+unrankDown n (suc k) v = let c = top (waysFrom (suc k)) n v in c ∷ unrankDown c k (v - choose c (suc k))
 
 -- the same, ascending
 unfoldable pub unrank : ℕ → ℕ → ℕ → List ℕ

@@ -11,15 +11,17 @@ use Rattle.combinatorics.proofs.Bursts.{Placed, rank-lt, starts-of-rank}
 use Rattle.combinatorics.proofs.Cases.{by-bool, eqb-same, eqb-other, leb-holds}
 use Rattle.combinatorics.specs.Lists.{allBelow}
 use Rattle.combinatorics.proofs.Lists.{same-list, at-below}
-use Rattle.combinatorics.proofs.Stretch.{each-member, has-none}
+use Rattle.combinatorics.proofs.Members.{each-member}
+use Rattle.combinatorics.proofs.Stretch.{has-none}
 use Rattle.cells.specs.Cells.{message, pick}
 use Rattle.cells.specs.Codec.{accepted}
 use Rattle.cells.specs.Digits.{spell, places}
 use Rattle.cells.proofs.Plan.{digits-back, message-back, fixed-back}
 use Rattle.cells.proofs.Digits.{Spelled, spell-spelled, spelled-below, value-spell, length-places, length-spell, leads}
 use Rattle.cells.proofs.Erasures.{below-whole}
-use Rattle.construction_a.specs.Figures.{Params, parts, headOf, placementCount, indexTail}
-use Rattle.construction_a.specs.Writing.{isBurst, chosen, isIndex, indexBlocks, isFixed, frame, kindAt, plan, rank, word}
+use Rattle.cells.specs.Figures.{Params, placementCount, rank}
+use Rattle.construction_a.specs.Figures.{parts, headOf, indexTail}
+use Rattle.construction_a.specs.Writing.{isBurst, chosen, isIndex, indexBlocks, isFixed, frame, kindAt, plan, word}
 use Rattle.construction_a.specs.Reading.{looksFixed, heads, written, agrees, readRank, read}
 use Rattle.construction_a.proofs.Figures.{Served, span-enough}
 use Rattle.construction_a.proofs.Rule.{at-row, i-list}

@@ -9,7 +9,7 @@ use lib.ListN.{length}
 use Rattle.refusals.specs.Refusals.{must, noPattern, valueTooLarge, disagrees, erased}
 use Rattle.combinatorics.proofs.Cases.{by-le, leb-holds, leb-fails}
 use Rattle.combinatorics.proofs.Lists.{below-at}
-use Rattle.combinatorics.proofs.Stretch.{length-tabulate}
+use Rattle.combinatorics.proofs.Members.{length-tabulate}
 use Rattle.cells.specs.Cells.{message, pick}
 use Rattle.cells.specs.Codec.{accepted, refused, WritesWords, Exact}
 use Rattle.cells.specs.Digits.{spell, places}
@@ -18,12 +18,14 @@ use Rattle.cells.proofs.Cells.{length-woven, woven-below}
 use Rattle.cells.proofs.Codec.{not-accepted, same-number, reads-exactly}
 use Rattle.cells.proofs.Digits.{Spelled, spell-spelled, spelled-below}
 use Rattle.cells.proofs.Erasures.{found-least}
-use Rattle.construction_a.specs.Figures.{Params, parts, placementCount, indexTail, messageLen}
-use Rattle.construction_a.specs.Writing.{kindAt, plan, rank, placementOf, word}
+use Rattle.cells.specs.Figures.{Params, placementCount, rank, placementOf}
+use Rattle.construction_a.specs.Figures.{parts, indexTail, messageLen}
+use Rattle.construction_a.specs.Writing.{kindAt, plan, word}
 use Rattle.construction_a.specs.Reading.{looksFixed, indexFound, heads, written, agrees, readRank, readFrom, read}
 use Rattle.construction_a.specs.DemandTwo.{constructionA, found, IndexRead, Listed, no-pattern, erased-index, too-large, disagreeing, erased-message}
 use Rattle.construction_a.specs.DemandTwo.{DemandTwo}
-use Rattle.construction_a.proofs.Figures.{Served, serve, span-enough, placed-starts, starts-placed}
+use Rattle.cells.proofs.Figures.{placed-starts, starts-placed}
+use Rattle.construction_a.proofs.Figures.{Served, serve, span-enough}
 use Rattle.construction_a.proofs.Plan.{messages-count}
 use Rattle.construction_a.proofs.Complete.{rank-below, complete}
 use Rattle.construction_a.proofs.Sound.{sound}

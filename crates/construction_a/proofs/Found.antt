@@ -7,10 +7,12 @@ use lib.ListN.{getD}
 use Rattle.combinatorics.specs.Lists.{allBelow}
 use Rattle.combinatorics.specs.Stretch.{tabulate}
 use Rattle.combinatorics.proofs.Lists.{map-below}
-use Rattle.combinatorics.proofs.Stretch.{same, flat-map}
+use Rattle.combinatorics.proofs.Members.{flat-map}
+use Rattle.combinatorics.proofs.Stretch.{same}
 use Rattle.cells.specs.Cells.{message, pick}
 use Rattle.cells.proofs.Cells.{pick-below}
-use Rattle.construction_a.specs.Figures.{Params, headOf}
+use Rattle.cells.specs.Figures.{Params}
+use Rattle.construction_a.specs.Figures.{headOf}
 use Rattle.construction_a.specs.Reading.{headsWith}
 use Rattle.construction_a.specs.Writing.{kindAt, plan}
 

@@ -18,10 +18,12 @@ use Rattle.cells.specs.Plan.{cellOf}
 use Rattle.cells.specs.Codec.{Reading, accepted, refused}
 use Rattle.cells.specs.Digits.{span, spell, value, places}
 use Rattle.cells.specs.Erasures.{hasErasure}
-use Rattle.construction_a.specs.Figures.{params, blocks, parts, blockMin, leastTail, indexTail, headOf}
-use Rattle.construction_a.specs.Writing.{becomes, withBurst, withBursts, isBurst, next, partCount, partWith, chosen, beside, isChosen, isIndexIn}
+use Rattle.cells.specs.Figures.{params, leastTail}
+use Rattle.construction_a.specs.Figures.{blocks, parts, blockMin, indexTail, headOf}
+use Rattle.cells.specs.Round.{next, later}
+use Rattle.construction_a.specs.Writing.{becomes, withBurst, withBursts, isBurst, partCount, partWith, chosen, beside, isChosen, isIndexIn}
 use Rattle.construction_a.specs.Writing.{isIndex, indexBlocks, isFixed, kindAt, plan, word}
-use Rattle.construction_a.specs.Reading.{looksFixed, later, bareParts, openBlocks, indexInPart, collect, indexFound, heads, written, agrees, readRank}
+use Rattle.construction_a.specs.Reading.{looksFixed, bareParts, openBlocks, indexInPart, collect, indexFound, heads, written, agrees, readRank}
 use Rattle.construction_a.specs.Reading.{read}
 
 -- the B-blocks, ascending

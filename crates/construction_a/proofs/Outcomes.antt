@@ -5,7 +5,8 @@ use mathlib.Core.Bool.{true, false}
 use Prim.Native.Nat.{ℕ}
 use Rattle.refusals.specs.Refusals.{must, invalid, unfit}
 use Rattle.cells.proofs.Outcomes as Any
-use Rattle.construction_a.specs.Figures.{Params, inRange, fits, placementCount, indexTail, messageLen}
+use Rattle.cells.specs.Figures.{Params, inRange, placementCount}
+use Rattle.construction_a.specs.Figures.{fits, indexTail, messageLen}
 use Rattle.construction_a.specs.Outcomes.{coding, figured, unserved, figuresOut}
 use Rattle.construction_a.proofs.Figures.{Served, serve}
 

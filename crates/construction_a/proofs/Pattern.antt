@@ -12,10 +12,13 @@ use lib.Dec.{leb, ltb, eqb}
 use lib.ListN.{length}
 use Rattle.combinatorics.specs.Stretch.{count, has, first, keepIf, members, tabulate}
 use Rattle.combinatorics.proofs.Cases.{by-le, by-eq, by-bool, eqb-same, eqb-other, leb-holds, leb-fails}
-use Rattle.combinatorics.proofs.Stretch.{same, Each, each-map, at-or-past, some-false, has-none, has-some, has-ext, members-none, members-ext, length-tabulate}
-use Rattle.construction_a.specs.Writing.{next, row, Chosen, whole, oneEach, chosen, beside, isChosen}
-use Rattle.construction_a.specs.Reading.{later, bareParts, within, openBlocks, indexInPart, consBoth, collect, indexBy, indexFound}
-use Rattle.construction_a.proofs.Rule.{next-inner, next-last, next-lt, next-ne, one-at, one-only, by-chosen, blocksIn}
+use Rattle.combinatorics.proofs.Members.{Each, each-map, length-tabulate}
+use Rattle.combinatorics.proofs.Stretch.{same, at-or-past, some-false, has-none, has-some, has-ext, members-none, members-ext}
+use Rattle.cells.specs.Round.{next, later}
+use Rattle.construction_a.specs.Writing.{row, Chosen, whole, oneEach, chosen, beside, isChosen}
+use Rattle.construction_a.specs.Reading.{bareParts, within, openBlocks, indexInPart, consBoth, collect, indexBy, indexFound}
+use Rattle.cells.proofs.Round.{next-inner, next-last, next-lt, next-ne}
+use Rattle.construction_a.proofs.Rule.{one-at, one-only, by-chosen, blocksIn}
 
 -- ---- what `later` gives
 

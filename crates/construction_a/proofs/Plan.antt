@@ -10,16 +10,19 @@ use lib.ListN.{length}
 use Rattle.combinatorics.specs.Stretch.{count}
 use Rattle.combinatorics.specs.Bursts.{inBurst}
 use Rattle.combinatorics.proofs.Cases.{by-bool}
-use Rattle.combinatorics.proofs.Stretch.{Each, count-none, length-members}
+use Rattle.combinatorics.proofs.Members.{Each, length-members}
+use Rattle.combinatorics.proofs.Stretch.{count-none}
 use Rattle.combinatorics.proofs.Bursts.{Placed, placed-end, by-burst, burst-count}
 use Rattle.cells.specs.Cells.{digit, message, is}
 use Rattle.cells.specs.Plan.{kindIn, Spares}
 use Rattle.cells.proofs.Cut.{block-with, block-next, block-first, block-end, burst-touches}
 use Rattle.cells.proofs.Plan.{Framed}
 use Rattle.cells.proofs.Plan as Frames
-use Rattle.construction_a.specs.Figures.{Params, parts, headOf, blockOf, indexTail, messageLen}
+use Rattle.cells.specs.Figures.{Params}
+use Rattle.construction_a.specs.Figures.{parts, headOf, blockOf, indexTail, messageLen}
 use Rattle.construction_a.specs.Writing.{lastBlocks, isBurst, isIndexIn, isIndex, indexBlocks, frameWith, frame, kindAt}
-use Rattle.construction_a.proofs.Figures.{Ranged, Served, three-parts, parts-most}
+use Rattle.cells.proofs.Figures.{Ranged}
+use Rattle.construction_a.proofs.Figures.{Served, three-parts, parts-most}
 use Rattle.construction_a.proofs.Rule.{withBursts-count, withBursts-ends, i-not-b, i-list}
 
 -- ---- What goes by the cut and the rule alone, for figures in range and whatever r

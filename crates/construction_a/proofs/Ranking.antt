@@ -8,11 +8,13 @@ use native.Mathlib.Omega.{arith}
 use Rattle.combinatorics.specs.Stretch.{count}
 use Rattle.cells.proofs.Ranking.{Placeable}
 use Rattle.cells.proofs.Ranking as Any
-use Rattle.construction_a.specs.Figures.{Params, parts, isPlacement}
+use Rattle.cells.specs.Figures.{Params, isPlacement}
+use Rattle.construction_a.specs.Figures.{parts}
 use Rattle.construction_a.specs.Writing.{row, isBurst, partCount, whole, oneEach}
 use Rattle.construction_a.specs.Outcomes.{coding}
 use Rattle.construction_a.specs.Ranking.{RankBijection, BurstBlocks, CoversLeast, AllFaithful}
-use Rattle.construction_a.proofs.Figures.{Ranged, Served, serve, three-parts, parts-most, index-enough, index-least, placed-starts, starts-placed}
+use Rattle.cells.proofs.Figures.{Ranged, placed-starts, starts-placed}
+use Rattle.construction_a.proofs.Figures.{Served, serve, three-parts, parts-most, index-enough, index-least}
 use Rattle.construction_a.proofs.Plan.{burst-blocks, message-cells}
 use Rattle.construction_a.proofs.Rule.{by-chosen}
 

@@ -10,27 +10,16 @@ use lib.Arith.{digits-div, digits-mod}
 use lib.Dec.{ltb, eqb}
 use lib.ListN.{length}
 use Rattle.combinatorics.specs.Stretch.{sum, bit, count, first, members, tabulate}
-use Rattle.combinatorics.proofs.Cases.{by-le, by-eq, by-bool, eqb-same, eqb-other, eqb-true, eqb-false}
-use Rattle.combinatorics.proofs.Stretch.{same, Each, at-or-past, sum-one, sum-both, sum-ones, sum-each, sum-rows, bit-false, count-le, first-true}
-use Rattle.combinatorics.proofs.Stretch.{first-false, first-in, members-run, members-append, length-tabulate, count-not}
-use Rattle.construction_a.specs.Writing.{becomes, withBurst, withBursts, next, row, partCount, partWith, Chosen, whole, oneEach, chosen, beside}
+use Rattle.combinatorics.proofs.Cases.{by-le, by-bool, eqb-same, eqb-other, eqb-true, eqb-false}
+use Rattle.combinatorics.proofs.Members.{Each, members-run, members-append, length-tabulate}
+use Rattle.combinatorics.proofs.Stretch.{same, at-or-past, sum-one, sum-both, sum-ones, sum-each, sum-rows, bit-false, count-le, first-true}
+use Rattle.combinatorics.proofs.Stretch.{first-false, first-in, count-not}
+use Rattle.cells.proofs.Round.{next-lt, next-ne}
+use Rattle.cells.specs.Round.{next}
+use Rattle.construction_a.specs.Writing.{becomes, withBurst, withBursts, row, partCount, partWith, Chosen, whole, oneEach, chosen, beside}
 use Rattle.construction_a.specs.Writing.{isChosen, isIndexIn}
 
 -- ---- I-blocks
-
-pub next-inner : (n x : ℕ) → suc x ≢ n → next n x ≡ suc x
-unfolding next
-next-inner n x f = rw (eqb-other (suc x) n f)
-
-pub next-last : (n x : ℕ) → suc x ≡ n → next n x ≡ 0
-unfolding next
-next-last n x e = rw (eqb-same (suc x) n e)
-
-pub next-lt : (n i : ℕ) → i < n → next n i < n
-next-lt n i h = by-eq (suc i) n (λ _. next n i < n) (λ e. omega (arith, next-last n i e)) (λ f. omega (arith, next-inner n i f))
-
-pub next-ne : (n i : ℕ) → 2 ≤ n → next n i ≢ i
-next-ne n i h e = by-eq (suc i) n (λ _. ⊥) (λ d. omega (arith, next-last n i d)) (λ f. omega (arith, next-inner n i f))
 
 -- a part with one B-block
 pub one-at : (m i : ℕ) (B : ℕ → Bool) → count m 0 (row m B i) ≡ 1 → first m 0 (row m B i) < m

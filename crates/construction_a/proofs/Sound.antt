@@ -14,7 +14,8 @@ use Rattle.combinatorics.specs.Stretch.{has}
 use Rattle.combinatorics.proofs.Bursts.{Placed, rank-of-starts}
 use Rattle.combinatorics.proofs.Cases.{by-le, by-bool, eqb-true, eqb-false}
 use Rattle.combinatorics.proofs.Lists.{both, list-same}
-use Rattle.combinatorics.proofs.Stretch.{Each, has-some}
+use Rattle.combinatorics.proofs.Members.{Each}
+use Rattle.combinatorics.proofs.Stretch.{has-some}
 use Rattle.cells.specs.Cells.{message, pick}
 use Rattle.cells.specs.Codec.{accepted, refused}
 use Rattle.cells.specs.Digits.{spell, places}
@@ -24,8 +25,10 @@ use Rattle.cells.proofs.Codec.{not-accepted}
 use Rattle.cells.proofs.Digits.{Spelled, spell-value, heads-spelled}
 use Rattle.cells.proofs.Erasures.{whole-below}
 use Rattle.cells.proofs.Plan.{read-agrees}
-use Rattle.construction_a.specs.Figures.{Params, parts, headOf, placementCount, indexTail, messageLen}
-use Rattle.construction_a.specs.Writing.{indexBlocks, isFixed, frame, kindAt, plan, rank, placementOf, word}
+use Rattle.cells.proofs.Figures.{Accepted}
+use Rattle.cells.specs.Figures.{Params, placementCount, rank, placementOf}
+use Rattle.construction_a.specs.Figures.{parts, headOf, indexTail, messageLen}
+use Rattle.construction_a.specs.Writing.{indexBlocks, isFixed, frame, kindAt, plan, word}
 use Rattle.construction_a.specs.Reading.{looksFixed, indexFound, heads, written, agrees, readRank, readFrom, read}
 use Rattle.construction_a.proofs.Found.{heads-below, message-below}
 use Rattle.construction_a.proofs.Figures.{Served}
@@ -39,18 +42,11 @@ unfolding looksFixed
 not-zero f w [] h = tt
 not-zero f w (k ∷ ks) h = (eqb-false (getD w (headOf f k) 0) 0 (not-true (looksFixed f w k) (h .0)), not-zero f w ks (h .1))
 
-pub record Accepted (f : Params) (w ss ms : List ℕ) : Type 0 where
-  pub placed : Placed (f .b) (f .n) 0 ss
-  pub count : length ss ≡ f .m
-  pub message : length ms ≡ messageLen f
-  pub symbols : allBelow (f .q) ms ≡ true
-  pub outside : (x : ℕ) → x < f .n → inBurst (f .b) ss x ≡ false → getD w x 0 ≡ getD (word f ss ms) x 0
-
 module _ (f : Params) (ok : Served f) (w : List ℕ) (small : (x : ℕ) → getD w x 0 < foundBound (f .q)) where
   -- the placement of the value read, where that is below T, the blocks agree and no erasure was read
   kernel : (ks : List ℕ) → indexFound (parts f) (f .m) (looksFixed f w) ≡ some ks → hasErasure (f .q) (heads f w ks) ≡ false → written f w ks < placementCount f
       → agrees f w ks (placementOf f (written f w ks)) ≡ true → hasErasure (f .q) (pick message (plan f (placementOf f (written f w ks))) w) ≡ false
-      → Accepted f w (placementOf f (written f w ks)) (pick message (plan f (placementOf f (written f w ks))) w)
+      → Accepted f (messageLen f) (word f) w (placementOf f (written f w ks)) (pick message (plan f (placementOf f (written f w ks))) w)
   unfolding agrees heads word plan kindAt written messageLen indexBlocks isFixed looksFixed
   kernel ks found whole l a clear =
       let v = written f w ks in
@@ -93,7 +89,7 @@ module _ (f : Params) (ok : Served f) (w : List ℕ) (small : (x : ℕ) → getD
     taken = pick message (plan f at) w
 
     past-message : (b : Bool) → hasErasure (f .q) (heads f w ks) ≡ false → v < placementCount f → agrees f w ks at ≡ true → hasErasure (f .q) taken ≡ b
-        → must (not b) (refused erased) (accepted at taken) ≡ accepted ss ms → Accepted f w ss ms
+        → must (not b) (refused erased) (accepted at taken) ≡ accepted ss ms → Accepted f (messageLen f) (word f) w ss ms
     unfolding v at taken
     past-message true h l a c e = not-accepted e
     past-message false h l a c e =
@@ -102,24 +98,27 @@ module _ (f : Params) (ok : Served f) (w : List ℕ) (small : (x : ℕ) → getD
         rw (e₂, e₁) at (kernel ks found h l a c)
 
     past-blocks : (b : Bool) → hasErasure (f .q) (heads f w ks) ≡ false → v < placementCount f → agrees f w ks at ≡ b
-        → must b (refused disagrees) (must (not (hasErasure (f .q) taken)) (refused erased) (accepted at taken)) ≡ accepted ss ms → Accepted f w ss ms
+        → must b (refused disagrees) (must (not (hasErasure (f .q) taken)) (refused erased) (accepted at taken)) ≡ accepted ss ms
+        → Accepted f (messageLen f) (word f) w ss ms
     past-blocks true h l a e = past-message (hasErasure (f .q) taken) h l a refl e
     past-blocks false h l a e = not-accepted e
 
-    past-index : (b : Bool) → hasErasure (f .q) (heads f w ks) ≡ b → must (not b) (refused erased) (readRank f w ks v) ≡ accepted ss ms → Accepted f w ss ms
+    past-index : (b : Bool) → hasErasure (f .q) (heads f w ks) ≡ b → must (not b) (refused erased) (readRank f w ks v) ≡ accepted ss ms
+        → Accepted f (messageLen f) (word f) w ss ms
     unfolding readRank v at taken
     past-index true h = λ e. not-accepted e
     past-index false h =
         by-le (suc (written f w ks)) (placementCount f)
         (λ t. must t (refused valueTooLarge)
         (must (agrees f w ks at) (refused disagrees) (must (not (hasErasure (f .q) taken)) (refused erased) (accepted at taken))) ≡ accepted ss ms
-        → Accepted f w ss ms)
+        → Accepted f (messageLen f) (word f) w ss ms)
         (λ l. past-blocks (agrees f w ks at) h l refl) (λ _ e. not-accepted e)
 
-  pub sound : (ss ms : List ℕ) → read f w ≡ accepted ss ms → Accepted f w ss ms
+  pub sound : (ss ms : List ℕ) → read f w ≡ accepted ss ms → Accepted f (messageLen f) (word f) w ss ms
   unfolding read v
   sound ss ms = go (indexFound (parts f) (f .m) (looksFixed f w)) refl
     where
-      go : (o : Option (List ℕ)) → indexFound (parts f) (f .m) (looksFixed f w) ≡ o → readFrom f w o ≡ accepted ss ms → Accepted f w ss ms
+      go : (o : Option (List ℕ)) → indexFound (parts f) (f .m) (looksFixed f w) ≡ o → readFrom f w o ≡ accepted ss ms
+          → Accepted f (messageLen f) (word f) w ss ms
       go none found = λ e. not-accepted e
       go (some ks) found = past-index ss ms ks found (hasErasure (f .q) (heads f w ks)) refl

@@ -6,27 +6,17 @@ use mathlib.Core.List.{List}
 use mathlib.Core.Option.{Option, none, some}
 use Prim.Native.Nat.{ℕ, _≤_, _<_}
 use Rattle.refusals.specs.Refusals.{noPattern, valueTooLarge, disagrees, erased}
-use Rattle.combinatorics.specs.Bursts.{inBurst}
 use Rattle.cells.specs.Cells.{message, pick}
-use Rattle.cells.specs.Codec.{Codec}
+use Rattle.cells.specs.Codec.{Codec, burstCodec}
 use Rattle.cells.specs.Codec as Any
-use Rattle.cells.specs.Erasures.{foundBound, hasErasure}
-use Rattle.construction_a.specs.Figures.{Params, inRange, fits, isPlacement, parts, placementCount, messageLen}
-use Rattle.construction_a.specs.Writing.{plan, placementOf, word}
+use Rattle.cells.specs.Erasures.{hasErasure}
+use Rattle.cells.specs.Figures.{Params, inRange, isPlacement, placementCount, placementOf}
+use Rattle.construction_a.specs.Figures.{fits, parts, messageLen}
+use Rattle.construction_a.specs.Writing.{plan, word}
 use Rattle.construction_a.specs.Reading.{looksFixed, indexFound, heads, written, agrees, read}
 
 abbrev pub constructionA : Params → Codec
-constructionA f =
-    record {
-      wordLen = f .n;
-      alphabet = f .q;
-      foundBound = foundBound (f .q);
-      messageLen = messageLen f;
-      placed = isPlacement f;
-      spoilt = inBurst (f .b);
-      encode = word f;
-      decode = read f;
-    }
+constructionA f = burstCodec (f .n) (f .q) (f .b) (messageLen f) (isPlacement f) (word f) (read f)
 
 -- the I-blocks that the listed patterns give
 abbrev pub found : Params → List ℕ → Option (List ℕ)

@@ -6,7 +6,8 @@ use Rattle.cells.specs.Codec.{Reading}
 use Rattle.cells.specs.Outcomes.{Coding, figuresUnder, encodeUnder, coverUnder, decodedFrom, decodeUnder}
 pub use Rattle.cells.specs.Outcomes.{Held, inUse, held, FiguresOut, figured, unserved, figuresNumber, Encoded, unwritten, Covered, unplaced, defectAt}
 pub use Rattle.cells.specs.Outcomes.{WordAnswer, rankIs, refusal, answerNumber, Decoded, unread}
-use Rattle.construction_a.specs.Figures.{Params, inRange, fits, placementCount, indexTail}
+use Rattle.cells.specs.Figures.{Params, inRange, placementCount}
+use Rattle.construction_a.specs.Figures.{fits, indexTail}
 use Rattle.construction_a.specs.DemandTwo.{constructionA}
 
 abbrev pub coding : Params → Coding

@@ -3,11 +3,13 @@
 use mathlib.Core.Path.{_≡_}
 use mathlib.Core.Bool.{Bool, true}
 use mathlib.Core.List.{List}
-use Prim.Native.Nat.{ℕ, _≤_, _<_}
+use Prim.Native.Nat.{ℕ, _<_}
 use Rattle.combinatorics.specs.Stretch.{count}
 use Rattle.cells.specs.Cells.{message, is}
+use Rattle.cells.specs.Ranking.{ServesLeast}
 use Rattle.cells.specs.Ranking as Any
-use Rattle.construction_a.specs.Figures.{Params, inRange, isPlacement, parts, blocks, placementCount, indexValues, indexTail, fits, messageLen}
+use Rattle.cells.specs.Figures.{Params, inRange, isPlacement, placementCount}
+use Rattle.construction_a.specs.Figures.{parts, blocks, indexTail, fits, messageLen}
 use Rattle.construction_a.specs.Writing.{isBurst, partCount, oneEach, chosen, kindAt}
 use Rattle.construction_a.specs.Outcomes.{coding}
 
@@ -22,11 +24,6 @@ pub record BurstBlocks (f : Params) (ss : List ℕ) : Type 0 where
 
 abbrev pub CoversLeast : Params → (ℕ → Bool) → Type 0
 CoversLeast f worn = Any.CoversLeast (coding f) worn
-
--- "the least whole number for which m such I-blocks together spell at least T values": of all numbers
-pub record ServesLeast (q m values r : ℕ) : Type 0 where
-  pub serves : values ≤ indexValues q m r
-  pub least : (r′ : ℕ) → values ≤ indexValues q m r′ → r ≤ r′
 
 -- what is said of figures in range that fit, and of their placements
 pub record Faithful (f : Params) : Type 0 where

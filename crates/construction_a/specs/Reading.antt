@@ -12,21 +12,16 @@ use Rattle.cells.specs.Codec.{Reading, accepted, refused}
 use Rattle.cells.specs.Digits.{value, places}
 use Rattle.cells.specs.Erasures.{hasErasure}
 use Rattle.refusals.specs.Refusals.{must, noPattern, valueTooLarge, disagrees, erased}
-use Rattle.construction_a.specs.Figures.{Params, parts, blocks, headOf, placementCount, indexTail}
-use Rattle.construction_a.specs.Writing.{row, isFixed, indexBlocks, plan, placementOf}
+use Rattle.cells.specs.Figures.{Params, placementCount, placementOf}
+use Rattle.cells.specs.Round.{later}
+use Rattle.construction_a.specs.Figures.{parts, blocks, headOf, indexTail}
+use Rattle.construction_a.specs.Writing.{row, isFixed, indexBlocks, plan}
 
 -- "A block starting with 0 looks F." "As a first symbol such a cell isn't the fixed symbol."
 unfoldable pub looksFixed : Params → List ℕ → ℕ → Bool
 looksFixed f w k = eqb (getD w (headOf f k) 0) 0
 
 -- ---- The listed patterns, for p parts of m blocks of which some look F
-
--- the one; of two "neighbours i and i+1 give i+1", and the first and the last give the first; every other list gives none
-unfoldable pub later : ℕ → List ℕ → Option ℕ
-later n [] = none
-later n (i ∷ []) = some i
-later n (i ∷ j ∷ []) = cond (eqb j (suc i)) (some j) (cond (eqb i 0 && eqb (suc j) n) (some 0) none)
-later n (i ∷ j ∷ k ∷ r) = none
 
 -- the parts without a block that looks F
 unfoldable pub bareParts : ℕ → ℕ → (ℕ → Bool) → List ℕ

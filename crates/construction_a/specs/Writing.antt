@@ -1,14 +1,16 @@
 -- Document 01, "Writing by the FBI rule". A set of blocks is a test of their numbers. Assumes nothing.
 use mathlib.Core.Bool.{Bool, false, not, cond, _||_, _&&_}
 use mathlib.Core.List.{List, [], _∷_, map}
-use Prim.Native.Nat.{ℕ, suc, _+_, _-_, _*_, _/_, _%_}
+use Prim.Native.Nat.{ℕ, _+_, _-_, _*_, _/_, _%_}
 use lib.Dec.{ltb, eqb}
-use Rattle.combinatorics.specs.Bursts.{inBurst, rankOf, startsOf}
+use Rattle.combinatorics.specs.Bursts.{inBurst}
 use Rattle.combinatorics.specs.Stretch.{count, first, members, tabulate}
 use Rattle.cells.specs.Cells.{Cell, weave}
 use Rattle.cells.specs.Plan.{Frame, kindIn}
 use Rattle.cells.specs.Digits.{spell, places}
-use Rattle.construction_a.specs.Figures.{Params, parts, blocks, headOf, blockOf, indexTail}
+use Rattle.cells.specs.Figures.{Params, rank}
+use Rattle.cells.specs.Round.{next}
+use Rattle.construction_a.specs.Figures.{parts, blocks, headOf, blockOf, indexTail}
 
 -- ---- B-blocks
 
@@ -33,10 +35,6 @@ unfoldable pub isBurst : Params → List ℕ → ℕ → Bool
 isBurst f ss = withBursts (blocks f) (lastBlocks f ss) (λ _. false)
 
 -- ---- I-blocks, for p parts of m blocks
-
--- the one after i, of n: 0 "after the last"
-unfoldable pub next : ℕ → ℕ → ℕ
-next n i = cond (eqb (suc i) n) 0 (suc i)
 
 -- part i of a set of blocks
 abbrev pub row : ℕ → (ℕ → Bool) → ℕ → ℕ → Bool
@@ -112,14 +110,6 @@ unfoldable pub plan : Params → List ℕ → List Cell
 plan f ss = tabulate (f .n) 0 (kindAt f ss)
 
 -- ---- The word
-
--- "The rank is the sum, over the runs, of the ways to choose as many things as the run's number out of its reduced start; it lies from 0 to T − 1."
-abbrev pub rank : Params → List ℕ → ℕ
-rank f ss = rankOf (f .b) ss
-
--- and the placement of a rank
-abbrev pub placementOf : Params → ℕ → List ℕ
-placementOf f v = startsOf (f .n) (f .m) (f .b) v
 
 -- "It is written over the I-blocks from left to right, most significant digit first .. Run positions hold 0. The message fills all remaining
 -- positions in ascending order."

@@ -17,8 +17,8 @@ use Rattle.cells.specs.Erasures.{hasErasure}
 use Rattle.cells.proofs.Digits.{Spelled, spell-spelled, spelled-below, value-spell, length-places, length-spell, leads}
 use Rattle.cells.proofs.Erasures.{below-whole}
 use Rattle.cells.proofs.Plan.{digits-back, message-back, fixed-back}
-use Rattle.construction_a.specs.Writing.{next}
-use Rattle.construction_a.proofs.Rule.{next-lt, next-ne}
+use Rattle.cells.specs.Round.{next}
+use Rattle.cells.proofs.Round.{next-lt, next-ne}
 use Rattle.construction_b.specs.Figures.{LongParams, parts, headOf, partLen, indexTail, messageLen}
 use Rattle.construction_b.specs.Writing.{burstPart, indexPart, endOffset, frame, plan, wordFrom}
 use Rattle.construction_b.specs.Reading.{looksFixed, firstSymbols, written, endAt, readPart, read}

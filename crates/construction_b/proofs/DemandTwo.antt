@@ -9,7 +9,7 @@ use lib.Dec.{leb}
 use Rattle.refusals.specs.Refusals.{must, noPattern, valueTooLarge, disagrees, erased}
 use Rattle.combinatorics.proofs.Cases.{by-le, leb-holds, leb-fails}
 use Rattle.combinatorics.proofs.Lists.{below-at}
-use Rattle.combinatorics.proofs.Stretch.{length-tabulate}
+use Rattle.combinatorics.proofs.Members.{length-tabulate}
 use Rattle.cells.specs.Cells.{message, pick}
 use Rattle.cells.specs.Codec.{accepted, refused, WritesWords, Exact}
 use Rattle.cells.specs.Digits.{spell, places}

@@ -12,9 +12,8 @@ use Rattle.cells.specs.Cut.{pieceLen, pieceStart}
 use Rattle.cells.specs.Digits.{span, spell, value, places}
 use Rattle.cells.specs.Erasures.{hasErasure}
 use Rattle.cells.specs.Plan.{cellOf}
-use Rattle.construction_a.specs.Figures.{leastTail}
-use Rattle.construction_a.specs.Reading.{later}
-use Rattle.construction_a.specs.Writing.{next}
+use Rattle.cells.specs.Figures.{leastTail}
+use Rattle.cells.specs.Round.{later, next}
 use Rattle.construction_b.specs.Figures.{inRange, partMin, partMost, placementCount, indexTail, fits, messageLen}
 use Rattle.construction_b.specs.Writing.{burstPart, indexPart, endOffset, plan, wordFrom, word}
 use Rattle.construction_b.specs.Reading.{looksFixed, indexFound, before, written, endAt, readPart, read}

@@ -13,15 +13,15 @@ use Rattle.combinatorics.specs.Choose.{choose}
 use Rattle.combinatorics.specs.Rank.{rankFrom}
 use Rattle.combinatorics.specs.Bursts.{apart, placements, reduceFrom, rankOf}
 use Rattle.combinatorics.specs.Stretch.{bit}
-use Rattle.combinatorics.proofs.Cases.{by-le, leb-holds, eqb-true}
+use Rattle.combinatorics.proofs.Cases.{by-le, leb-holds, eqb-true, le-of}
 use Rattle.combinatorics.proofs.Bursts.{placed-of, of-placed}
 use Rattle.combinatorics.proofs.Lists.{both}
 use Rattle.cells.specs.Cut.{pieceLen}
 use Rattle.cells.specs.Digits.{span, places}
 use Rattle.cells.proofs.Cut.{piece-next, piece-all, len-least}
 use Rattle.cells.proofs.Digits.{span-places}
-use Rattle.construction_a.specs.Figures.{maxWord, maxAlphabet, maxCount, indexValues, leastTail}
-use Rattle.construction_a.proofs.Figures.{le-of, tail-enough, tail-least}
+use Rattle.cells.specs.Figures.{maxWord, maxAlphabet, maxCount, indexValues, leastTail}
+use Rattle.cells.proofs.Figures.{tail-enough, tail-least}
 use Rattle.construction_b.specs.Figures.{LongParams, parts, headOf, partLen, partMin, partMost, inRange, isPlacement, placementCount, indexTail, fits}
 use Rattle.construction_b.specs.Writing.{startIn, rank}
 

@@ -13,7 +13,8 @@ use Rattle.combinatorics.specs.Lists.{allBelow}
 use Rattle.combinatorics.specs.Stretch.{tabulate, members}
 use Rattle.combinatorics.proofs.Cases.{by-le, eqb-true, eqb-false}
 use Rattle.combinatorics.proofs.Lists.{map-below}
-use Rattle.combinatorics.proofs.Stretch.{same, flat-map}
+use Rattle.combinatorics.proofs.Members.{flat-map}
+use Rattle.combinatorics.proofs.Stretch.{same}
 use Rattle.cells.specs.Cells.{message, pick}
 use Rattle.cells.specs.Codec.{LeadsTo, accepted, refused}
 use Rattle.cells.specs.Digits.{spell, places}
@@ -25,7 +26,7 @@ use Rattle.cells.proofs.Codec.{not-accepted}
 use Rattle.cells.proofs.Digits.{Spelled, spell-value, heads-spelled}
 use Rattle.cells.proofs.Erasures.{whole-below}
 use Rattle.cells.proofs.Plan.{neither, read-agrees}
-use Rattle.construction_a.specs.Writing.{next}
+use Rattle.cells.specs.Round.{next}
 use Rattle.construction_b.specs.Figures.{LongParams, parts, headOf, partLen, indexTail}
 use Rattle.construction_b.specs.Writing.{lastOf, burstPart, indexPart, endOffset, frame, plan, wordFrom}
 use Rattle.construction_b.specs.Reading.{looksFixed, indexFound, before, firstSymbols, written, endAt, readPart, readFrom, read}

@@ -6,27 +6,16 @@ use mathlib.Core.List.{List}
 use mathlib.Core.Option.{Option, none, some}
 use Prim.Native.Nat.{ℕ, _-_, _≤_, _<_}
 use Rattle.refusals.specs.Refusals.{noPattern, valueTooLarge, disagrees, erased}
-use Rattle.combinatorics.specs.Bursts.{inBurst}
 use Rattle.cells.specs.Cells.{message, pick}
-use Rattle.cells.specs.Codec.{Codec}
+use Rattle.cells.specs.Codec.{Codec, burstCodec}
 use Rattle.cells.specs.Codec as Any
-use Rattle.cells.specs.Erasures.{foundBound, hasErasure}
+use Rattle.cells.specs.Erasures.{hasErasure}
 use Rattle.construction_b.specs.Figures.{LongParams, inRange, fits, isPlacement, partLen, messageLen}
 use Rattle.construction_b.specs.Writing.{plan, word}
 use Rattle.construction_b.specs.Reading.{looksFixed, indexFound, before, firstSymbols, written, endAt, read}
 
 abbrev pub constructionB : LongParams → Codec
-constructionB f =
-    record {
-      wordLen = f .n;
-      alphabet = f .q;
-      foundBound = foundBound (f .q);
-      messageLen = messageLen f;
-      placed = isPlacement f;
-      spoilt = inBurst (f .b);
-      encode = word f;
-      decode = read f;
-    }
+constructionB f = burstCodec (f .n) (f .q) (f .b) (messageLen f) (isPlacement f) (word f) (read f)
 
 -- the I part that the listed patterns give
 abbrev pub found : LongParams → List ℕ → Option ℕ

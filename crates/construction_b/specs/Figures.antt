@@ -7,7 +7,7 @@ use lib.ListN.{length}
 use Rattle.combinatorics.specs.Bursts.{apart}
 use Rattle.combinatorics.specs.Stretch.{top}
 use Rattle.cells.specs.Cut.{pieceLen, pieceStart}
-use Rattle.construction_a.specs.Figures.{maxWord, maxAlphabet, leastTail}
+use Rattle.cells.specs.Figures.{maxWord, maxAlphabet, leastTail}
 
 -- the figures: n symbols of a word, each below q; one burst of b positions
 pub record LongParams : Type 0 where

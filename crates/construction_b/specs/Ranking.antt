@@ -7,8 +7,7 @@ use Prim.Native.Nat.{ℕ, suc, _+_, _≤_, _<_}
 use Rattle.combinatorics.specs.Stretch.{count}
 use Rattle.cells.specs.Cells.{message, is}
 use Rattle.cells.specs.Plan.{kindIn}
-use Rattle.cells.specs.Ranking.{RankBijection, CoversLeast}
-use Rattle.construction_a.specs.Ranking.{ServesLeast}
+use Rattle.cells.specs.Ranking.{RankBijection, CoversLeast, ServesLeast}
 use Rattle.construction_b.specs.Figures.{LongParams, inRange, parts, headOf, partLen, partMost, indexTail, fits, messageLen}
 use Rattle.construction_b.specs.Writing.{lastOf, burstPart, endOffset, frame, rank}
 use Rattle.construction_b.specs.Outcomes.{coding}

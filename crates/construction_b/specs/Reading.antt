@@ -11,7 +11,7 @@ use Rattle.cells.specs.Cells.{message, pick}
 use Rattle.cells.specs.Codec.{Reading, accepted, refused}
 use Rattle.cells.specs.Digits.{value, places}
 use Rattle.cells.specs.Erasures.{hasErasure}
-use Rattle.construction_a.specs.Reading.{later}
+use Rattle.cells.specs.Round.{later}
 use Rattle.construction_b.specs.Figures.{LongParams, parts, headOf, partLen, indexTail}
 use Rattle.construction_b.specs.Writing.{plan}
 

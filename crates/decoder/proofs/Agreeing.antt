@@ -13,7 +13,8 @@ use Rattle.combinatorics.specs.Lists.{sameList}
 use Rattle.combinatorics.specs.Stretch.{has, members}
 use Rattle.combinatorics.proofs.Cases.{by-eq, eqb-same, eqb-other}
 use Rattle.combinatorics.proofs.Stretch.{has-ext, members-ext}
-use Rattle.construction_a.specs.Figures.{Params, blocks}
+use Rattle.cells.specs.Figures.{Params}
+use Rattle.construction_a.specs.Figures.{blocks}
 use Rattle.construction_a.specs.Reading.{looksFixed, agrees}
 use Rattle.construction_a.specs.Writing.{isIndex, isBurst, isFixed, indexBlocks}
 use Rattle.blocks.specs.Blocks.{fixedKind, indexKind, blockKind, KindsOf}

@@ -14,7 +14,8 @@ use Rattle.combinatorics.specs.Stretch.{tabulate}
 use Rattle.cells.specs.Codec.{Reading, refused}
 use Rattle.cells.specs.Erasures.{foundBound, hasErasure}
 use Rattle.cells.proofs.Erasures.{erasure-is}
-use Rattle.construction_a.specs.Figures.{Params, parts, headOf}
+use Rattle.cells.specs.Figures.{Params}
+use Rattle.construction_a.specs.Figures.{parts, headOf}
 use Rattle.construction_a.specs.Reading.{looksFixed, indexFound, headsWith, written, readRank, readFrom, read}
 use Rattle.construction_b.specs.DemandTwo.{found}
 use Rattle.construction_b.specs.Figures.{LongParams, indexTail}

@@ -12,7 +12,8 @@ use Rattle.refusals.specs.Refusals.{must, served, wrongLength}
 use Rattle.combinatorics.proofs.Cases.{eqb-same, eqb-other}
 use Rattle.combinatorics.proofs.Lists.{fill-turn, fill-done}
 use Rattle.cells.specs.Bytes.{byteValues}
-use Rattle.cells.specs.Outcomes.{Coding, maxBursts, unserved, figuresUnder, rankIs, Decoded as Outcome, decodeUnder}
+use Rattle.cells.specs.Figures.{maxBursts}
+use Rattle.cells.specs.Outcomes.{Coding, unserved, figuresUnder, rankIs, Decoded as Outcome, decodeUnder}
 use Rattle.cells.proofs.Outcomes.{refused-alike}
 use Rattle.placements.specs.Bridge.{startsIn}
 use Rattle.decoder.specs.declared.Decoded.{Decoded}

@@ -18,12 +18,12 @@ use Rattle.cells.specs.Outcomes.{Coding, Held, held, unserved, figuresUnder, ra
 use Rattle.cells.proofs.Outcomes.{refused-alike}
 use Rattle.construction_a.specs.DemandTwo.{IndexRead}
 use Rattle.construction_a.specs.DemandTwo as A
-use Rattle.construction_a.specs.Figures.{Params, inRange, fits, isPlacement, placementCount, messageLen}
+use Rattle.cells.specs.Figures.{Params, inRange, isPlacement, placementCount, placementOf}
+use Rattle.construction_a.specs.Figures.{fits, messageLen}
 use Rattle.construction_a.specs.Outcomes.{coding}
 use Rattle.construction_a.specs.Reading.{written, agrees, readRank, read}
-use Rattle.construction_a.specs.Writing.{placementOf}
 use Rattle.construction_a.proofs.DemandTwo.{demand-two}
-use Rattle.construction_a.proofs.Figures.{placed-starts}
+use Rattle.cells.proofs.Figures.{placed-starts}
 use Rattle.construction_a.proofs.Ranking.{rank-bijection}
 use Rattle.construction_b.specs.DemandTwo as B
 use Rattle.construction_b.proofs.DemandTwo as B′

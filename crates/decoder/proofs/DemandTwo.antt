@@ -9,7 +9,8 @@ use lib.Seq.{take-append-seam}
 use Rattle.combinatorics.specs.Bursts.{rankOf}
 use Rattle.combinatorics.proofs.Cases.{eqb-same}
 use Rattle.cells.specs.Codec.{Reading, accepted, refused, ReadsExactly}
-use Rattle.cells.specs.Outcomes.{Coding, maxBursts, inUse, held, rankIs, refusal, answerNumber, Decoded, unread, decodedFrom, decodeUnder}
+use Rattle.cells.specs.Figures.{maxBursts}
+use Rattle.cells.specs.Outcomes.{Coding, inUse, held, rankIs, refusal, answerNumber, Decoded, unread, decodedFrom, decodeUnder}
 use Rattle.construction_a.proofs.DemandTwo as A
 use Rattle.construction_b.proofs.DemandTwo as B
 use Rattle.params.specs.Bridge.{given, givenLong, codingOf}

@@ -14,7 +14,7 @@ use Rattle.cells.specs.Cut.{blockHead}
 use Rattle.cells.specs.Erasures.{hasErasure}
 use Rattle.cells.specs.Outcomes.{Coding, Held, held}
 use Rattle.cells.proofs.Cut.{piece-next}
-use Rattle.construction_a.specs.Figures.{Params, isPlacement}
+use Rattle.cells.specs.Figures.{Params, isPlacement, maxCount}
 use Rattle.construction_a.specs.Figures as A
 use Rattle.construction_b.specs.DemandTwo.{IndexRead}
 use Rattle.construction_b.specs.Figures.{parts, headOf, partLen, placementCount}
@@ -110,7 +110,7 @@ module _ (l : Layout) (g : LongLayoutFits l) where
       rw (g .laid .m-is)
       (record { short = ok .range .n-most; few = omega arith; some = ok .range .b-least; within = omega (arith, burst-fits (longOf (figuresOf l)) ok) })
 
-  pub start-counts : (placements (l .n) (l .m) (l .b) ≤ A.maxCount) × ((s : ℕ) → s + l .b ≤ l .n → s < placements (l .n) (l .m) (l .b))
+  pub start-counts : (placements (l .n) (l .m) (l .b) ≤ maxCount) × ((s : ℕ) → s + l .b ≤ l .n → s < placements (l .n) (l .m) (l .b))
   unfolding placementCount
   start-counts =
       let f = longOf (figuresOf l) in

@@ -6,7 +6,7 @@ use lib.ListN.{length}
 use Rattle.refusals.specs.Refusals.{must, invalid, unfit, wrongLength}
 use Rattle.cells.specs.Bytes.{byteValues}
 use Rattle.cells.specs.Outcomes.{Coding, Held, inUse, FiguresOut, figured, unserved, WordAnswer, rankIs, refusal, answerNumber, Decoded, decodeUnder}
-use Rattle.construction_a.specs.Figures.{Params}
+use Rattle.cells.specs.Figures.{Params}
 use Rattle.construction_a.specs.Outcomes.{coding, figuresOut}
 
 -- "two lent byte buffers, for k message symbols and for m starts ..; the answer is 0 or the refusal"

@@ -14,7 +14,7 @@ use Rattle.cells.specs.Erasures.{foundBound, hasErasure}
 use Rattle.cells.specs.Outcomes.{held}
 use Rattle.cells.specs.Plan.{planIn}
 use Rattle.construction_a.specs.DemandTwo.{IndexRead}
-use Rattle.construction_a.specs.Figures.{maxBursts}
+use Rattle.cells.specs.Figures.{maxBursts}
 use Rattle.construction_a.specs.Reading.{written}
 use Rattle.construction_b.specs.DemandTwo as B
 use Rattle.construction_b.specs.Reading as B′

@@ -3,7 +3,7 @@ ghost use mathlib.Core.Path.{_≡_};
 ghost use mathlib.Core.List.{List};
 ghost use Prim.Native.Nat.{ℕ, _*_, _≤_};
 ghost use lib.ListN.{length};
-ghost use Rattle.construction_a.specs.Figures.{maxBursts};
+ghost use Rattle.cells.specs.Figures.{maxBursts};
 ghost use Rattle.params.specs.Given.{codingIn, Serves};
 ghost use Rattle.placements.specs.Bridge.{startsIn};
 ghost use Rattle.decoder.specs.Answer.{decodedAs};

@@ -14,8 +14,9 @@ use Rattle.cells.specs.Cells.{message, pick}
 use Rattle.cells.specs.Codec.{Reading, accepted, refused}
 use Rattle.cells.specs.Outcomes.{Coding, Encoded}
 use Rattle.cells.specs.Erasures.{hasErasure}
-use Rattle.construction_a.specs.Figures.{Params, parts, placementCount}
-use Rattle.construction_a.specs.Writing.{plan, placementOf}
+use Rattle.cells.specs.Figures.{Params, placementCount, placementOf}
+use Rattle.construction_a.specs.Figures.{parts}
+use Rattle.construction_a.specs.Writing.{plan}
 use Rattle.construction_a.specs.Reading.{looksFixed, indexFound, heads, written, agrees, readRank, readFrom, read}
 use Rattle.construction_b.specs.Figures.{LongParams, partLen}
 use Rattle.construction_b.specs.Writing.{plan as planB}
@@ -28,7 +29,9 @@ use Rattle.construction_b.specs.Outcomes.{coding as codingB}
 use Rattle.params.specs.declared.Figures.{Figures}
 use Rattle.params.specs.declared.Figures.the-variants.{Ranked, Long}
 use Rattle.params.specs.Bridge.{given, givenLong, codingOf}
+use Rattle.jobs.specs.declared.Entry.{Entry}
 use Rattle.jobs.specs.Jobs.{Status, unknown, opened, onHold, cancelled}
+use Rattle.jobs.specs.Table.{twice}
 use Rattle.payloads.specs.Payload.{carriesJob}
 use Rattle.jobcodec.specs.DemandThree.{isRefusal}
 use Rattle.jobcodec.specs.JobWrite.{whereOpen}
@@ -58,6 +61,12 @@ module _ {O : Type 0} (P : O → Type 0) where
   where-open refuse onHold p h q r = h
   where-open refuse unknown p h q r = q
   where-open refuse opened p h q r = r
+
+  -- "1 2 10" before a call on a job
+  pub job-tests : (d : Coding) (es : List Entry) {x₁ x₂ x₁₀ rest : O} → P x₁ → P x₂ → P x₁₀ → P rest
+      → P (must (d .inRange && not (twice es)) x₁ (must (d .fits) x₂ (must (carriesJob (d .codec .alphabet) (d .codec .messageLen)) x₁₀ rest)))
+  job-tests d es p₁ p₂ p₁₀ r =
+      tested (d .inRange && not (twice es)) p₁ (tested (d .fits) p₂ (tested (carriesJob (d .codec .alphabet) (d .codec .messageLen)) p₁₀ r))
 
 -- what holds of every number of an order holds of one of them
 pub in-all : (p : ℕ → Bool) (order : List ℕ) (a : ℕ) → all p order ≡ true → any (eqb a) order ≡ true → p a ≡ true

@@ -1,5 +1,9 @@
 pub mod Answering
 pub mod Moves
 pub mod Prescriptions
+pub mod Words
+pub mod Jobs
+pub mod Bytes
+pub mod Transfer
 pub mod DemandOne
 pub mod DemandThree

@@ -9,7 +9,7 @@ use Rattle.refusals.specs.Refusals.{served, invalid, unfit, wrongLength, badSym
 use Rattle.combinatorics.specs.Lists.{all, any, allBelow}
 use Rattle.cells.specs.Codec.{Codec}
 use Rattle.cells.specs.Outcomes.{unwritten}
-use Rattle.construction_a.specs.Figures.{Params, inRange}
+use Rattle.cells.specs.Figures.{Params, inRange}
 use Rattle.construction_a.specs.Figures.{fits as fitsA}
 use Rattle.construction_a.specs.DemandTwo.{constructionA}
 use Rattle.larsson.specs.Figures.{fits as fitsLarsson}

@@ -35,7 +35,7 @@ use Rattle.lent_prescriptions.specs.Prescriptions.{prescriptionReadBytesUnder}
 use Rattle.lent.specs.Table.{tableIn}
 use Rattle.demands.specs.Orders.{prescriptionAlone, prescriptionWrite, prescriptionRead, prescriptionLent}
 use Rattle.demands.specs.DemandOne.{AnswersBy, AnswersLent}
-use Rattle.demands.proofs.Answering.{keep, done, tested, where-open, Judges, by-read, with-table, one-more, Writes}
+use Rattle.demands.proofs.Answering.{keep, done, tested, where-open, job-tests, Judges, by-read, with-table, one-more, Writes}
 
 -- ---- In memory and as a text: 16, or a value
 
@@ -90,13 +90,11 @@ module _ (d : Coding) (es : List Entry) (at : Held) (n : ℕ) (out : List ℕ) w
       let c = d .codec in
       let q = c .alphabet in
       let k = c .messageLen in
-      tested P (d .inRange && not (twice es)) (keep refl refl)
-      (tested P (d .fits) (keep refl refl)
-      (tested P (carriesJob q k) (keep refl refl)
+      job-tests P d es (keep refl refl) (keep refl refl) (keep refl refl)
       (tested P (eqb (at .count) (d .bursts) && eqb (length out) (c .wordLen)) (keep refl refl)
       (tested P (apart (d .burstLen) (c .wordLen) 0 (inUse at)) (keep refl refl)
       (tested P (leb minPayload (payloadLen q k)) (keep refl refl)
-      (write-prescribed (prescribedOf p)))))))
+      (write-prescribed (prescribedOf p)))))
 
 hand-prescription : (es : List Entry) (payload : List ℕ) (o : Option Prescribed) → Answers prescriptionRead (handPrescription es payload o)
 unfolding isRefusal all any
@@ -111,15 +109,13 @@ prescription-read d judge es w =
     let c = d .codec in
     let q = c .alphabet in
     let k = c .messageLen in
-    tested P (d .inRange && not (twice es)) (keep refl refl)
-    (tested P (d .fits) (keep refl refl)
-    (tested P (carriesJob q k) (keep refl refl)
+    job-tests P d es (keep refl refl) (keep refl refl) (keep refl refl)
     (tested P (eqb (length w) (c .wordLen)) (keep refl refl)
     (tested P (allBelow (c .foundBound) w) (keep refl refl)
     (by-read (λ r. P (prescriptionIn q k es r)) (keep refl refl) (keep refl refl) (keep refl refl) (keep refl refl)
     (λ ss ms. tested P (spellsPayload q k ms) (keep refl refl)
     (hand-prescription es (payloadIn q k ms) (prescribedIn (drop numberLen (payloadIn q k ms)))))
-    (c .decode w) (judge w))))))
+    (c .decode w) (judge w))))
   where
     P : Answered HandedOut → Type 0
     P o = Answers prescriptionRead o

@@ -14,7 +14,7 @@ use Rattle.refusals.specs.Refusals.{served}
 use Rattle.combinatorics.specs.Lists.{all, any}
 use Rattle.cells.specs.Outcomes.{Held, held, figuresNumber, figuresUnder, encodeUnder, defectAt, coverUnder, answerNumber, decodeUnder}
 use Rattle.cells.specs.Ranking.{CoversLeast}
-use Rattle.construction_a.specs.Figures.{Params}
+use Rattle.cells.specs.Figures.{Params}
 use Rattle.construction_a.specs.DemandTwo.{DemandTwo}
 use Rattle.construction_b.specs.DemandTwo as B
 use Rattle.larsson.specs.Codec.{LarssonExact}

@@ -13,6 +13,7 @@ use Rattle.combinatorics.specs.Lists.{allBelow}
 use Rattle.combinatorics.proofs.Cases.{eqb-same, eqb-other, eqb-true}
 use Rattle.combinatorics.proofs.Lists.{both}
 use Rattle.cells.specs.Outcomes.{Coding, Held, inUse, Encoded, unwritten, encodeUnder}
+use Rattle.stretches.specs.declared.Walk.{Walk}
 use Rattle.encoder.specs.MayWrite.{writeNumber}
 use Rattle.encoder.proofs.Outcomes.{encode-served}
 
@@ -49,6 +50,11 @@ module _ (n m b q k : ℕ) (at : Held) (ms : List ℕ) (lent : ℕ) where
 pub number-same : {n n′ m m′ b b′ q q′ k k′ : ℕ} (at : Held) (ms : List ℕ) (lent : ℕ) → n ≡ n′ → m ≡ m′ → b ≡ b′ → q ≡ q′ → k ≡ k′
     → writeNumber n m b q k at ms lent ≡ writeNumber n′ m′ b′ q′ k′ at ms lent
 number-same at ms lent e₁ e₂ e₃ e₄ e₅ = rw (e₁, e₂, e₃, e₄, e₅)
+
+-- by either of two walks that are one
+pub number-walked : (w v : Walk) (q k : ℕ) (at : Held) (ms : List ℕ) (lent : ℕ) → w ≡ v
+    → writeNumber (w .n) (w .m) (w .b) q k at ms lent ≡ writeNumber (v .n) (v .m) (v .b) q k at ms lent
+number-walked w v q k at ms lent e = ap (λ (w : Walk). writeNumber (w .n) (w .m) (w .b) q k at ms lent) e
 
 -- ---- Where none refuses
 

@@ -14,7 +14,8 @@ use Rattle.cells.specs.Cells.{Cell, weave}
 use Rattle.cells.specs.Plan.{planIn}
 use Rattle.cells.specs.Digits.{span, spell, places}
 use Rattle.cells.proofs.Digits.{span-places, span-first, span-longer, length-places, length-spell}
-use Rattle.construction_a.specs.Figures.{isPlacement, maxBursts, maxCount, indexValues, placementCount, indexTail}
+use Rattle.cells.specs.Figures.{isPlacement, maxBursts, maxCount, indexValues, placementCount}
+use Rattle.construction_a.specs.Figures.{indexTail}
 use Rattle.construction_a.specs.Writing.{word}
 use Rattle.construction_a.proofs.Figures.{index-least, span-enough}
 use Rattle.construction_a.proofs.Ranking.{rank-bijection}

@@ -3,7 +3,7 @@ use mathlib.Core.Bool.{cond}
 use Prim.Native.Nat.{ℕ, suc, _*_, _%_, _≤_, _<_}
 use lib.Dec.{eqb}
 use Rattle.cells.specs.Digits.{Place, lead, plain, span, places}
-use Rattle.construction_a.specs.Figures.{maxAlphabet}
+use Rattle.cells.specs.Figures.{maxAlphabet}
 
 -- room for the digits of a rank; `digits-few` of proofs/Room shows that no figures need more
 abbrev pub maxDigits : ℕ

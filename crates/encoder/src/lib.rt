@@ -34,16 +34,8 @@ pub fn encode_fitting(layout: Layout, at: Placement, message: &[u8], word: &mut 
     ensures answer { λ r. ⌜ r ≡ encodeUnder (codingIn layout) (heldAs at) (now (message .entry)) (now (word .entry)) .answer ⌝ }
     ensures word { λ _. ⌜ now (word .exit) ≡ encodeUnder (codingIn layout) (heldAs at) (now (message .entry)) (now (word .entry)) .word ⌝ }
 {
-    let refusal = may_write(
-        layout.n,
-        layout.m,
-        layout.b,
-        layout.q,
-        layout.message_len,
-        at,
-        message,
-        word.len(),
-    );
+    let walk = stretches::walk_of(layout);
+    let refusal = may_write(walk, layout.q, layout.message_len, at, message, word.len());
     if refusal != Refusal::NONE {
         return refusal;
     }

@@ -6,9 +6,10 @@ use native.Mathlib.Omega.{arith}
 use lib.ListN.{length}
 use Rattle.refusals.specs.Refusals.{invalid, unfit}
 use Rattle.combinatorics.proofs.Cases.{by-eq, by-bool, eqb-same, eqb-other, leb-holds}
-use Rattle.construction_a.specs.Figures.{Params, maxBursts, inRange, fits}
+use Rattle.cells.specs.Figures.{Params, maxBursts, inRange}
+use Rattle.construction_a.specs.Figures.{fits}
 use Rattle.construction_a.specs.Outcomes.{Held, held}
-use Rattle.construction_a.proofs.Figures.{ranged}
+use Rattle.cells.proofs.Figures.{ranged}
 use Rattle.construction_a.proofs.Outcomes.{figures-invalid, figures-unfit}
 use Rattle.verifier.specs.Verify.{verifyOut}
 use Rattle.verifier.proofs.Calls.{verify-unfit, verify-count}

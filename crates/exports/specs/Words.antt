@@ -5,7 +5,8 @@ use Prim.Native.Nat.{ℕ, _*_}
 use lib.Dec.{eqb}
 use lib.ListN.{length}
 use Rattle.refusals.specs.Refusals.{must, served, invalid, unfit, wrongLength}
-use Rattle.construction_a.specs.Figures.{Params, inRange, fits}
+use Rattle.cells.specs.Figures.{Params, inRange}
+use Rattle.construction_a.specs.Figures.{fits}
 use Rattle.construction_a.specs.Outcomes.{held}
 use Rattle.verifier.specs.Verify.{Verdict, agreeing, differing, unchecked, verifyOut}
 use Rattle.lent.specs.Starts.{startsFrom}

@@ -2,7 +2,7 @@
 // Assumes nothing.
 ghost use mathlib.Core.Path.{_≡_};
 ghost use Rattle.cells.specs.Outcomes.{unwritten};
-ghost use Rattle.construction_a.specs.Figures.{params};
+ghost use Rattle.cells.specs.Figures.{params};
 ghost use Rattle.larsson.specs.Outcomes.{coding};
 ghost use Rattle.decoder.specs.Exported.{lentAs, exportedUnder};
 ghost use Rattle.lent.specs.Covering.{coverLent, coverBytesUnder};

@@ -15,6 +15,7 @@ ghost use Rattle.lent_prescriptions.specs.Prescriptions.{prescriptionFrom, pres
 use lent::job;
 use lent::starts;
 use lent::words;
+use lent_prescriptions::eyes;
 use lent_prescriptions::prescriptions;
 use params::Figures;
 use params::long::LongParams;
@@ -41,14 +42,14 @@ pub extern "C" fn burgzemi_long_encode(
     n: u32,
     q: u32,
     b: u32,
-    starts: &[u8],
+    start: &[u8],
     message: &[u8],
     word: &mut [u8],
 ) -> u8
     ensures { λ r. ⌜ unwritten (now (word .exit)) r
-        ≡ encodeBytesUnder (coding (longParams n q b)) (now (starts .entry)) (now (message .entry)) (now (word .entry)) ⌝ }
+        ≡ encodeBytesUnder (coding (longParams n q b)) (now (start .entry)) (now (message .entry)) (now (word .entry)) ⌝ }
 {
-    words::encode(Figures::Long(LongParams { n, q, b }), starts, message, word)
+    words::encode(Figures::Long(LongParams { n, q, b }), start, message, word)
 }
 
 // Word read: the message, and the start of the burst. Refusals: 1 2 3 4 7 19 8 9 19.
@@ -59,20 +60,20 @@ pub extern "C" fn burgzemi_long_decode(
     b: u32,
     word: &[u8],
     message: &mut [u8],
-    starts: &mut [u8],
+    start: &mut [u8],
 ) -> u8
-    ensures { λ r. ⌜ lentAs r (now (message .exit)) (now (starts .exit))
-        ≡ exportedUnder (coding (longParams n q b)) (now (word .entry)) (now (message .entry)) (now (starts .entry)) ⌝ }
+    ensures { λ r. ⌜ lentAs r (now (message .exit)) (now (start .exit))
+        ≡ exportedUnder (coding (longParams n q b)) (now (word .entry)) (now (message .entry)) (now (start .entry)) ⌝ }
 {
-    words::decode(Figures::Long(LongParams { n, q, b }), word, message, starts)
+    words::decode(Figures::Long(LongParams { n, q, b }), word, message, start)
 }
 
 // Covering: the start of the placement of least rank that covers the defect map. Refusals: 1 2 3 4 6.
 #[no_mangle]
-pub extern "C" fn burgzemi_long_cover(n: u32, q: u32, b: u32, map: &[u8], starts: &mut [u8]) -> u8
-    ensures { λ r. ⌜ coverLent r (now (starts .exit)) ≡ coverBytesUnder (coding (longParams n q b)) (now (map .entry)) (now (starts .entry)) ⌝ }
+pub extern "C" fn burgzemi_long_cover(n: u32, q: u32, b: u32, map: &[u8], start: &mut [u8]) -> u8
+    ensures { λ r. ⌜ coverLent r (now (start .exit)) ≡ coverBytesUnder (coding (longParams n q b)) (now (map .entry)) (now (start .entry)) ⌝ }
 {
-    starts::cover_bytes(Figures::Long(LongParams { n, q, b }), map, starts)
+    starts::cover_bytes(Figures::Long(LongParams { n, q, b }), map, start)
 }
 
 // Job write: the word of a placement and a payload whose job the table has open; number 0 is no job. Refusals: 1 2 10 3 5 17 12 23 14.
@@ -82,17 +83,17 @@ pub extern "C" fn burgzemi_long_job_write(
     q: u32,
     b: u32,
     table: &[u8],
-    starts: &[u8],
+    start: &[u8],
     payload: &[u8],
     word: &mut [u8],
 ) -> u8
     ensures { λ r. ⌜ unwritten (now (word .exit)) r
-        ≡ jobWriteBytesUnder (coding (longParams n q b)) (now (table .entry)) (now (starts .entry)) (now (payload .entry)) (now (word .entry)) ⌝ }
+        ≡ jobWriteBytesUnder (coding (longParams n q b)) (now (table .entry)) (now (start .entry)) (now (payload .entry)) (now (word .entry)) ⌝ }
 {
     job::write(
         Figures::Long(LongParams { n, q, b }),
         table,
-        starts,
+        start,
         payload,
         word,
     )
@@ -152,7 +153,7 @@ pub extern "C" fn burgzemi_long_prescription_write(
     q: u32,
     b: u32,
     table: &[u8],
-    starts: &[u8],
+    start: &[u8],
     number: u32,
     right_kind: u8,
     right_sphere: f64,
@@ -166,25 +167,17 @@ pub extern "C" fn burgzemi_long_prescription_write(
     word: &mut [u8],
 ) -> u8
     ensures { λ r. ⌜ unwritten (now (word .exit)) r
-        ≡ prescriptionWriteBytesUnder (coding (longParams n q b)) (now (table .entry)) (now (starts .entry)) number
+        ≡ prescriptionWriteBytesUnder (coding (longParams n q b)) (now (table .entry)) (now (start .entry)) number
         (prescriptionFrom (eyeFrom «right_kind» «right_sphere» «right_cylinder» «right_axis»)
         (eyeFrom «left_kind» «left_sphere» «left_cylinder» «left_axis») distance) (now (word .entry)) ⌝ }
 {
-    let prescription = prescriptions::prescription_from(
-        right_kind,
-        right_sphere,
-        right_cylinder,
-        right_axis,
-        left_kind,
-        left_sphere,
-        left_cylinder,
-        left_axis,
-        distance,
-    );
+    let right = eyes::eye_from(right_kind, right_sphere, right_cylinder, right_axis);
+    let left = eyes::eye_from(left_kind, left_sphere, left_cylinder, left_axis);
+    let prescription = prescriptions::of_eyes(right, left, distance);
     prescriptions::write(
         Figures::Long(LongParams { n, q, b }),
         table,
-        starts,
+        start,
         number,
         prescription,
         word,

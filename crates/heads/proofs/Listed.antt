@@ -11,10 +11,12 @@ use lib.Dec.{eqb}
 use lib.ListN.{length, getD, take, length-append}
 use Rattle.combinatorics.specs.Stretch.{count, has, members, consecutive}
 use Rattle.combinatorics.proofs.Cases.{by-le, eqb-same, eqb-other, leb-holds, leb-fails}
-use Rattle.combinatorics.proofs.Stretch.{count-le, members-on, members-most, none-has, length-members}
-use Rattle.construction_a.specs.Figures.{maxBursts}
+use Rattle.combinatorics.proofs.Members.{members-on, members-most, none-has, length-members}
+use Rattle.combinatorics.proofs.Stretch.{count-le}
+use Rattle.cells.specs.Figures.{maxBursts}
 use Rattle.construction_a.specs.Writing.{row}
-use Rattle.construction_a.specs.Reading.{later, bareParts, openBlocks, indexInPart, consBoth, collect, indexBy, indexFound}
+use Rattle.cells.specs.Round.{later}
+use Rattle.construction_a.specs.Reading.{bareParts, openBlocks, indexInPart, consBoth, collect, indexBy, indexFound}
 use Rattle.heads.specs.declared.pattern.Candidates.{Candidates}
 use Rattle.heads.specs.declared.pattern.IndexBlocks.{IndexBlocks}
 use Rattle.params.specs.Given.{maxBlocks}

@@ -12,7 +12,7 @@ use lib.ListN.{length, getD, take, drop, set, replicate, length-drop}
 use lib.Seq.{take-all, getD-take, getD-drop, getD-set-same, getD-set-other}
 use Rattle.combinatorics.specs.Stretch.{bit}
 use Rattle.combinatorics.proofs.Cases.{by-le, by-eq, by-bool, leb-holds, leb-fails}
-use Rattle.combinatorics.proofs.Stretch.{each-at}
+use Rattle.combinatorics.proofs.Members.{each-at}
 use Rattle.cells.specs.Cut.{blockHead}
 use Rattle.construction_a.specs.Figures.{parts, blocks, headOf}
 use Rattle.construction_a.specs.Reading.{looksFixed, indexFound}

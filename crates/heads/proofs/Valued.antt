@@ -12,7 +12,8 @@ use Rattle.combinatorics.proofs.Cases.{eqb-false}
 use Rattle.combinatorics.proofs.Loops.{left-next}
 use Rattle.cells.specs.Digits.{plain, span, value, places}
 use Rattle.cells.proofs.Digits.{horner, horner-is, horner-capped, horner-same, horner-blocks}
-use Rattle.construction_a.specs.Figures.{Params, headOf}
+use Rattle.cells.specs.Figures.{Params}
+use Rattle.construction_a.specs.Figures.{headOf}
 use Rattle.construction_a.specs.Reading.{looksFixed, headsWith, writtenWith}
 use Rattle.heads.specs.Written.{plainPlaces}
 

@@ -11,8 +11,9 @@ use Rattle.combinatorics.specs.Lists.{all, allBelow}
 use Rattle.combinatorics.specs.Stretch.{tabulate}
 use Rattle.combinatorics.proofs.Lists.{all-both}
 use Rattle.combinatorics.proofs.Loops.{left-next, left-none}
-use Rattle.combinatorics.proofs.Stretch.{take-is}
-use Rattle.construction_a.specs.Figures.{Params, headOf}
+use Rattle.combinatorics.proofs.Members.{take-is}
+use Rattle.cells.specs.Figures.{Params}
+use Rattle.construction_a.specs.Figures.{headOf}
 use Rattle.construction_a.specs.Reading.{headsWith}
 
 module _ (r : ℕ) (f : Params) (w ks : List ℕ) where

@@ -6,7 +6,7 @@ use mathlib.Core.Option.{Option, none, some}
 use Prim.Native.Nat.{ℕ, _≤_, _<_}
 use lib.Dec.{ltb}
 use lib.ListN.{length, getD, take}
-use Rattle.construction_a.specs.Figures.{maxBursts}
+use Rattle.cells.specs.Figures.{maxBursts}
 use Rattle.heads.specs.declared.pattern.Candidates.{Candidates}
 use Rattle.heads.specs.declared.pattern.IndexBlocks.{IndexBlocks}
 

@@ -13,7 +13,7 @@ use Rattle.combinatorics.specs.Bursts.{apart}
 use Rattle.combinatorics.proofs.Cases.{eqb-same, eqb-other, leb-holds, leb-fails}
 use Rattle.cells.specs.Bytes.{payloadLen}
 use Rattle.cells.specs.Outcomes.{Coding, Held, inUse, Encoded, unwritten, unserved, figuresUnder}
-use Rattle.construction_a.specs.Figures.{maxWord, maxAlphabet}
+use Rattle.cells.specs.Figures.{maxWord, maxAlphabet}
 use Rattle.params.specs.Answer.{figuredAs, LaidAs, HasNumbers}
 use Rattle.params.specs.Bridge.{codingOf}
 use Rattle.params.specs.Given.{codingIn}
@@ -52,11 +52,17 @@ module _ (d : Coding) (es : List Entry) where
 
 -- ---- Figures that fit, laid out
 
+-- the layout gives what the figures give, and serves with the table
+pub record LaidFor (f : Figures) (es : List Entry) (l : Layout) : Type 0 where
+  pub same : codingIn l ≡ codingOf f
+  pub fitting : ServesTable l es
+
 -- what a caller learns of an answer that is a layout
-pub laid : (f : Figures) (es : List Entry) (answer : LayoutAnswer) (l : Layout) → answer ≡ Fit l → figuredAs answer ≡ figuresUnder (codingOf f)
-    → LaidAs f answer
-    → twice es ≡ false → (codingIn l ≡ codingOf f) × ServesTable l es
-laid f es answer l e told layout once = let own = serves f answer l e told layout in (own .0, record { serves = own .1; once = once })
+pub laid : (f : Figures) (es : List Entry) (answer : LayoutAnswer) (l : Layout) → answer ≡ Fit l
+    → (figuredAs answer ≡ figuresUnder (codingOf f)) × LaidAs f answer → twice es ≡ false → LaidFor f es l
+laid f es answer l e told once =
+    let own = serves f answer l e (told .0) (told .1) in
+    record { same = own .0; fitting = record { serves = own .1; once = once } }
 
 module _ (l : Layout) (es : List Entry) (h : ServesTable l es) where
   abbrev d : Coding

@@ -147,10 +147,10 @@ spelled-accepted q k ms v (rankIs u) e = go (spellsPayload q k ms) (ap accepts e
     go false e = sym e
 
 -- so it can be handed out into the lent payload
-pub holding : (l : Layout) (es : List Entry) (w ms ms′ out : List ℕ) → ReadableJob l es ms out → length ms′ ≡ length ms
+pub holding : {l : Layout} {es : List Entry} {ms out : List ℕ} → ReadableJob l es ms out → (w ms′ : List ℕ) → length ms′ ≡ length ms
     → ms′ ≡ decodeUnder (codingIn l) w ms .message
     → (v : ℕ) → rankIs v ≡ spelledAnswer (l .q) (length ms) (decodeUnder (codingIn l) w ms) → SpellsJob (l .q) ms′ out
-holding l es w ms ms′ out h same lent v e =
+holding {l} {es} {ms} {out} h w ms′ same lent v e =
     let d = codingIn l in
     let is = numbers-in l (h .serves) in
     let small = small-in l (h .serves) in

@@ -14,8 +14,8 @@ use Rattle.combinatorics.specs.Bursts.{apart}
 use Rattle.combinatorics.proofs.Cases.{eqb-same, eqb-true}
 use Rattle.combinatorics.proofs.Lists.{both}
 use Rattle.cells.specs.Bytes.{byteValues, payloadLen}
-use Rattle.cells.specs.Outcomes.{Coding, maxBursts, Held, inUse, Encoded, unwritten}
-use Rattle.construction_a.specs.Figures.{Params}
+use Rattle.cells.specs.Figures.{maxBursts, Params}
+use Rattle.cells.specs.Outcomes.{Coding, Held, inUse, Encoded, unwritten}
 use Rattle.construction_a.specs.Outcomes.{coding}
 use Rattle.construction_b.specs.Figures.{LongParams}
 use Rattle.construction_b.specs.Outcomes.{coding as codingB}
@@ -24,11 +24,12 @@ use Rattle.jobs.specs.Jobs.{isJob, Status, unknown, opened, onHold, cancelled}
 use Rattle.jobs.specs.Table.{twice}
 use Rattle.payloads.specs.Payload.{carriesJob, jobNumber, messageOf}
 use Rattle.jobcodec.specs.JobWrite.{jobStatus, whereOpen, jobWriteUnder, jobWriteOut}
-use Rattle.jobcodec.specs.JobRead.{jobReading}
 use Rattle.jobcodec.specs.DemandThree.{isRefusal, Gives}
 use Rattle.jobcodec.specs.Given.{ReadyUnder}
 use Rattle.jobcodec.specs.ReadBack.{JobsReadBack}
-use Rattle.jobcodec.proofs.DemandThree.{not-served, read-pair, ReadsWhereFit, reads-a, reads-b}
+use Rattle.jobcodec.proofs.Outcomes.{read-decodes}
+use Rattle.jobcodec.proofs.Pairs.{not-served, read-pair}
+use Rattle.jobcodec.proofs.DemandThree.{ReadsWhereFit, reads-a, reads-b}
 use Rattle.payloads.proofs.Payload.{length-message, message-symbols, payload-back, payload-passes}
 
 -- ---- What an accepted writing says of its input
@@ -134,20 +135,15 @@ module _ (d : Coding) (es : List Entry) (at : Held) (payload out : List ℕ) whe
         }
 
 pub jobs-read-back : (d : Coding) → ReadsWhereFit d → JobsReadBack d
-unfolding jobReading
 jobs-read-back d reads es at payload out w buffer sized bytes e found outside lent =
     let q = d .codec .alphabet in
     let k = d .codec .messageLen in
     let wr = written-under d es at payload out e in
     let g = written-gives d es at payload out reads sized bytes w wr outside in
     let r = reads (wr .ready .range) (wr .ready .fit) in
-    rw (
-      wr .ready .range,
-      wr .ready .once,
-      wr .ready .fit,
-      wr .ready .carries,
+    read-decodes d es w buffer (wr .ready) lent
+    ∙ rw (
       eqb-same (length w) (d .codec .wordLen) (found .complete),
-      eqb-same (length buffer) (payloadLen q k) lent,
       found .symbols,
       read-pair (d .codec) (r .exactly) (r .two) w found (inUse at) payload g,
       payload-passes q k (r .two) payload (g .whole),

@@ -15,7 +15,7 @@ use Rattle.combinatorics.specs.Lists.{any}
 use Rattle.cells.specs.Bytes.{payloadLen}
 use Rattle.cells.specs.Codec.{Codec, Word, LeadsTo}
 use Rattle.cells.specs.Outcomes.{Coding}
-use Rattle.construction_a.specs.Figures.{Params}
+use Rattle.cells.specs.Figures.{Params}
 use Rattle.construction_a.specs.Outcomes.{coding}
 use Rattle.construction_b.specs.Figures.{LongParams}
 use Rattle.construction_b.specs.Outcomes.{coding as codingB}

@@ -7,7 +7,7 @@ use lib.ListN.{length}
 use Rattle.refusals.specs.Refusals.{must, badPayload}
 use Rattle.cells.specs.Bytes.{payloadLen}
 use Rattle.cells.specs.Outcomes.{Coding, WordAnswer, rankIs, refusal, Decoded}
-use Rattle.construction_a.specs.Figures.{maxAlphabet}
+use Rattle.cells.specs.Figures.{maxAlphabet}
 use Rattle.params.specs.Given.{codingIn, Serves}
 use Rattle.params.specs.declared.Layout.{Layout}
 use Rattle.jobs.specs.declared.Entry.{Entry}

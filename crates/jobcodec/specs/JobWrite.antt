@@ -9,7 +9,7 @@ use Rattle.refusals.specs.Refusals.{must, served, invalid, unfit, wrongLength, 
 use Rattle.combinatorics.specs.Bursts.{apart}
 use Rattle.cells.specs.Bytes.{payloadLen}
 use Rattle.cells.specs.Outcomes.{Coding, Held, inUse, Encoded, unwritten}
-use Rattle.construction_a.specs.Figures.{Params}
+use Rattle.cells.specs.Figures.{Params}
 use Rattle.construction_a.specs.Outcomes.{coding}
 use Rattle.jobs.specs.declared.Entry.{Entry}
 use Rattle.jobs.specs.Jobs.{isJob, Status, needsOpen}

@@ -9,7 +9,8 @@ use Rattle.refusals.specs.Refusals.{served}
 use Rattle.combinatorics.specs.Lists.{allBelow}
 use Rattle.cells.specs.Bytes.{byteValues, payloadLen}
 use Rattle.cells.specs.Codec.{Word}
-use Rattle.cells.specs.Outcomes.{Coding, maxBursts, Held, inUse}
+use Rattle.cells.specs.Figures.{maxBursts}
+use Rattle.cells.specs.Outcomes.{Coding, Held, inUse}
 use Rattle.jobs.specs.declared.Entry.{Entry}
 use Rattle.jobcodec.specs.JobWrite.{jobWriteUnder}
 use Rattle.jobcodec.specs.JobRead.{handOut, jobReadUnder}

@@ -1,13 +1,14 @@
 // The job table (document 01's book), by value. Assumes nothing.
 ghost use mathlib.Core.Path.{_≡_};
-ghost use mathlib.Core.Bool.{false};
 ghost use Prim.Native.Nat.{_+_};
-ghost use lib.ListN.{length, drop};
+ghost use lib.ListN.{drop};
 ghost use Rattle.jobs.specs.Jobs.{slotCount, isJob};
 ghost use Rattle.jobs.specs.Table.{isFree, emptyTable, openOut, cancelOut, finishOut, reinstateOut, holdOut, releaseOut, decide, turnOpenAt};
-ghost use Rattle.jobs.specs.Slots.{entries, outcome, seeks, firstThat, markCount, markOf};
-ghost use Rattle.jobs.specs.Letters.{kindOf, listKind, callBy, isLetter, isListLetter};
+ghost use Rattle.jobs.specs.Slots.{entries, outcome, seeks, firstThat};
 use refusals::Refusal;
+
+pub mod by_letter;
+mod twice;
 
 // What a number was before its cancellation.
 pub enum Before {
@@ -45,9 +46,6 @@ enum Sought {
     FreeSlot,
     Number(u32),
 }
-
-// How many places there are for marks.
-const MARKS: usize = 1024;
 
 impl JobTable {
     pub const SLOTS: usize = 64;
@@ -175,30 +173,6 @@ impl JobTable {
         }
     }
 
-    // The call of a record's letter: O opens, C cancels, F finishes. Refusals: 11 for another letter, then the call's own.
-    pub fn call(self, letter: u8, number: u32) -> TableAnswer
-        ensures { λ r. ⌜ outcome r ≡ callBy (kindOf letter) (entries self) number ⌝ }
-    {
-        match letter {
-            b'O' => self.open(number),
-            b'C' => self.cancel(number),
-            b'F' => self.finish(number),
-            _ => self.refuse(Refusal::RECORD),
-        }
-    }
-
-    // The call of a letter in a list: those of records, and I reinstates, H holds, U releases. Refusals: 11 for another letter, then the call's own.
-    pub fn list_call(self, letter: u8, number: u32) -> TableAnswer
-        ensures { λ r. ⌜ outcome r ≡ callBy (listKind letter) (entries self) number ⌝ }
-    {
-        match letter {
-            b'I' => self.reinstate(number),
-            b'H' => self.hold(number),
-            b'U' => self.release(number),
-            _ => self.call(letter, number),
-        }
-    }
-
     // The entry that holds the number, or a free one.
     pub fn lookup(self, number: u32) -> Entry
         ensures { λ r. ⌜ r ≡ Rattle.jobs.specs.Table.lookup (entries self) number ⌝ }
@@ -209,57 +183,6 @@ impl JobTable {
             return slot.entry;
         }
         Entry::Free
-    }
-
-    // Whether one number is held twice, in whatever states.
-    pub fn twice(self) -> bool
-        ensures { λ r. ⌜ r ≡ Rattle.jobs.specs.Table.twice (entries self) ⌝ }
-    {
-        let mut marks = [0u8; MARKS];
-        self.twice_by(&mut marks[..MARKS])
-    }
-
-    // The same, slot by slot from the last one back. Each leaves a mark at its number's remainder; where there is none yet, no later slot has the number.
-    // A mark too many, as one that was there before, costs a search and changes no answer.
-    fn twice_by(self, marks: &mut [u8]) -> bool
-        requires { ⌜ length (now marks) ≡ markCount ⌝ }
-        ensures { λ r. ⌜ r ≡ Rattle.jobs.specs.Table.twice (entries self) ⌝ }
-    {
-        let mut i = JobTable::SLOTS;
-        while 0 < i {
-            i -= 1;
-            let slot = self.slots[i];
-            let entry = slot.entry;
-            let mark = mark_of(entry);
-            if self.again_marked(i + 1, entry, marks[mark]) {
-                return true;
-            }
-            marks[mark] = 1;
-        }
-        false
-    }
-
-    // Whether a slot from `start` on holds the entry's number too; without a mark none does.
-    fn again_marked(self, start: usize, entry: Entry, mark: u8) -> bool
-        requires { ⌜ (mark ≡ 0 → Rattle.jobs.specs.Table.again (drop start (entries self)) entry ≡ false) ⌝ }
-        ensures { λ r. ⌜ r ≡ Rattle.jobs.specs.Table.again (drop start (entries self)) entry ⌝ }
-    {
-        if mark == 0 {
-            return false;
-        }
-        self.again(start, entry)
-    }
-
-    // Whether a slot from `start` on holds the entry's number too.
-    fn again(self, start: usize, entry: Entry) -> bool
-        ensures { λ r. ⌜ r ≡ Rattle.jobs.specs.Table.again (drop start (entries self)) entry ⌝ }
-    {
-        match entry {
-            Entry::Free => false,
-            Entry::Open(x) | Entry::OnHold(x) | Entry::Cancelled(x, _) => {
-                self.find(start, Sought::Number(x)) < JobTable::SLOTS
-            }
-        }
     }
 
     // The table as it was, beside a refusal.
@@ -316,16 +239,6 @@ fn restored(before: Before, number: u32) -> Entry
     }
 }
 
-// The place of an entry's mark.
-fn mark_of(entry: Entry) -> usize
-    ensures { λ r. ⌜ r ≡ markOf entry ⌝ }
-{
-    match entry {
-        Entry::Free => 0,
-        Entry::Open(x) | Entry::OnHold(x) | Entry::Cancelled(x, _) => x as usize % MARKS,
-    }
-}
-
 // Every number but 0 can be a job's.
 pub fn is_job(number: u32) -> bool
     ensures { λ r. ⌜ r ≡ isJob number ⌝ }
@@ -359,29 +272,5 @@ fn holds(entry: Entry, number: u32) -> bool
     match entry {
         Entry::Free => false,
         Entry::Open(x) | Entry::OnHold(x) | Entry::Cancelled(x, _) => x == number,
-    }
-}
-
-// Whether a call in a list has this letter.
-pub fn is_list_letter(letter: u8) -> bool
-    ensures { λ r. ⌜ r ≡ isListLetter letter ⌝ }
-{
-    match letter {
-        b'I' => true,
-        b'H' => true,
-        b'U' => true,
-        _ => is_letter(letter),
-    }
-}
-
-// Whether a record's call has this letter.
-pub fn is_letter(letter: u8) -> bool
-    ensures { λ r. ⌜ r ≡ isLetter letter ⌝ }
-{
-    match letter {
-        b'O' => true,
-        b'C' => true,
-        b'F' => true,
-        _ => false,
     }
 }

@@ -12,7 +12,7 @@ use lib.Seq.{getD-take, getD-drop, length-take-le, getD-append-add, ext-getD}
 use Rattle.combinatorics.specs.Lists.{all, allBelow}
 use Rattle.combinatorics.specs.Stretch.{tabulate, consecutive}
 use Rattle.combinatorics.proofs.Lists.{below-at, some-below, at-below, all-append, all-take, all-drop}
-use Rattle.combinatorics.proofs.Stretch.{length-tabulate, tabulate-at}
+use Rattle.combinatorics.proofs.Members.{length-tabulate, tabulate-at}
 use Rattle.lanes.specs.Interleaving.{source, transposedTable, interleaved, deinterleaved, lane}
 
 -- ---- A table and its columns

@@ -12,17 +12,18 @@ use Rattle.combinatorics.specs.Bursts.{apart, inBurst, placements, startsOf, co
 use Rattle.combinatorics.specs.Lists.{all, any, allBelow}
 use Rattle.combinatorics.specs.Stretch.{bit, consecutive}
 use Rattle.combinatorics.proofs.Bursts.{of-placed}
-use Rattle.combinatorics.proofs.Cases.{by-bool, eqb-same, leb-holds}
+use Rattle.combinatorics.proofs.Cases.{by-bool, eqb-same, leb-holds, le-of}
 use Rattle.combinatorics.proofs.Cover.{Cover, cover-is}
 use Rattle.combinatorics.proofs.Lists.{both, at-below}
 use Rattle.combinatorics.proofs.ShortSets.{Short, Shorts, short-covered}
-use Rattle.combinatorics.proofs.Stretch.{bit-le, length-tabulate, tabulate-at}
+use Rattle.combinatorics.proofs.Members.{length-tabulate, tabulate-at}
+use Rattle.combinatorics.proofs.Stretch.{bit-le}
 use Rattle.cells.specs.Codec.{Codec, accepted, Word, WritesWords, Exact}
 use Rattle.cells.specs.Outcomes.{Coding, defectAt}
 use Rattle.construction_a.specs.DemandTwo.{constructionA}
-use Rattle.construction_a.specs.Figures.{Params, isPlacement}
+use Rattle.cells.specs.Figures.{Params, isPlacement}
 use Rattle.construction_a.specs.Outcomes.{coding}
-use Rattle.construction_a.proofs.Figures.{Served, serve, le-of}
+use Rattle.construction_a.proofs.Figures.{Served, serve}
 use Rattle.construction_a.proofs.DemandTwo.{demand-two}
 use Rattle.construction_b.specs.Figures.{LongParams}
 use Rattle.construction_b.specs.Figures as B

@@ -49,33 +49,30 @@ passes k d bound from out filled p =
       p .symbols,
     )
 
-refused : {P : Type 0} (r : Rearranged) (a : ℕ) (out : List ℕ) → r ≡ record { answer = suc a; buffer = out } → r .answer ≡ served → P
-refused r a out e h = absurd (let z : _≡_ {A = ℕ} (suc a) 0 = sym (ap (λ (x : Rearranged). x .answer) e) ∙ h in omega arith)
-
-pub passed : (k : Coding) (d bound : ℕ) (from out filled : List ℕ) → rearranged k d bound from out filled .answer ≡ served → Passes k d bound from out
-passed k d bound from out filled h =
-    let r = rearranged k d bound from out filled in
+-- by cases: a test refuses, and the buffer is kept; or every test is passed
+by-tests : {P : Type 0} (k : Coding) (d bound : ℕ) (from out filled : List ℕ)
+    → ((a : ℕ) → rearranged k d bound from out filled ≡ unfilled out (suc a) → P) → (Passes k d bound from out → P) → P
+by-tests k d bound from out filled refused pass =
+    let n = d * k .codec .wordLen in
     by-bool (k .inRange)
     (λ i. by-bool (k .fits)
     (λ j. by-bool (inDepth d)
-    (λ t. by-bool (eqb (length from) (d * k .codec .wordLen))
-    (λ l. by-bool (eqb (length out) (d * k .codec .wordLen))
+    (λ t. by-bool (eqb (length from) n)
+    (λ l. by-bool (eqb (length out) n)
     (λ m. by-bool (allBelow bound from)
-    (λ s. record {
-      range = i;
-      fit = j;
-      depth = t;
-      lent = eqb-true (length from) (d * k .codec .wordLen) l;
-      room =
-          eqb-true (length out) (d * k .codec .wordLen) m;
-      symbols = s;
-    })
-    (λ s. refused r 3 out (rw (i, j, t, l, m, s)) h))
-    (λ m. refused r 2 out (rw (i, j, t, l, m)) h))
-    (λ l. refused r 2 out (rw (i, j, t, l)) h))
-    (λ t. refused r 17 out (rw (i, j, t)) h))
-    (λ j. refused r 1 out (rw (i, j)) h))
-    (λ i. refused r 0 out (rw i) h)
+    (λ s. pass (record { range = i; fit = j; depth = t; lent = eqb-true (length from) n l; room = eqb-true (length out) n m; symbols = s }))
+    (λ s. refused 3 (rw (i, j, t, l, m, s))))
+    (λ m. refused 2 (rw (i, j, t, l, m))))
+    (λ l. refused 2 (rw (i, j, t, l))))
+    (λ t. refused 17 (rw (i, j, t))))
+    (λ j. refused 1 (rw (i, j))))
+    (λ i. refused 0 (rw i))
+
+pub passed : (k : Coding) (d bound : ℕ) (from out filled : List ℕ) → rearranged k d bound from out filled .answer ≡ served → Passes k d bound from out
+passed k d bound from out filled h =
+    by-tests k d bound from out filled
+    (λ a e. absurd (let z : _≡_ {A = ℕ} (suc a) 0 = sym (ap (λ (x : Rearranged). x .answer) e) ∙ h in omega arith))
+    (λ p. p)
 
 -- ---- As the code goes
 
@@ -93,19 +90,9 @@ module _ (k : Coding) (d bound : ℕ) (from out filled : List ℕ) where
   refusal-keeps : rearranged k d bound from out filled .answer ≢ served
       → unfilled out (rearranged k d bound from out filled .answer) ≡ rearranged k d bound from out filled
   refusal-keeps h =
-      by-bool (k .inRange)
-      (λ i. by-bool (k .fits)
-      (λ j. by-bool (inDepth d)
-      (λ t. by-bool (eqb (length from) (d * k .codec .wordLen))
-      (λ l. by-bool (eqb (length out) (d * k .codec .wordLen))
-      (λ m. by-bool (allBelow bound from)
-      (λ s. absurd (h (rw (i, j, t, l, m, s))))
-      (λ s. rw (i, j, t, l, m, s)))
-      (λ m. rw (i, j, t, l, m)))
-      (λ l. rw (i, j, t, l)))
-      (λ t. rw (i, j, t)))
-      (λ j. rw (i, j)))
-      (λ i. rw i)
+      by-tests k d bound from out filled
+      (λ a e. ap (λ (x : Rearranged). unfilled out (x .answer)) e ∙ sym e)
+      (λ p. absurd (h (ap (λ (x : Rearranged). x .answer) (passes k d bound from out filled p))))
 
   -- what a judgement says: the outcome of a refusal, or that every test is passed
   module _ (r : ℕ) (judged : r ≡ rearranged k d bound from out filled .answer) where

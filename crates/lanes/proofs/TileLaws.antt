@@ -11,11 +11,10 @@ use lib.Seq.{take-all, getD-take, getD-drop, length-take-le, getD-append-add, ex
 use borrow.Rule.Slice.PartMut.{midOf, putMid, same-len-mid}
 use Rattle.combinatorics.specs.Lists.{every}
 use Rattle.combinatorics.specs.Stretch.{tabulate, consecutive}
-use Rattle.combinatorics.proofs.Cases.{by-le, eqb-true}
+use Rattle.combinatorics.proofs.Cases.{by-le, eqb-true, le-of}
 use Rattle.combinatorics.proofs.Lists.{both, fill-turn}
-use Rattle.combinatorics.proofs.Stretch.{tabulate-at, length-tabulate}
+use Rattle.combinatorics.proofs.Members.{tabulate-at, length-tabulate}
 use Rattle.combinatorics.proofs.Table.{at-each}
-use Rattle.construction_a.proofs.Figures.{le-of}
 use Rattle.lanes.specs.Interleaving.{source, transposedTable}
 use Rattle.lanes.specs.Transposing.{CellsMoved, LinesWithin, LinesCopied}
 use Rattle.lanes.proofs.Interleaving.{length-transposed, cell-at}
@@ -56,6 +55,10 @@ module _ (a k : ℕ) (xs part : List ℕ) (room : a + k ≤ length xs) (long : l
 
 -- ---- Lines
 
+-- each line ends within the buffer
+pub line-within : (at step k : ℕ) (xs : List ℕ) → LinesWithin at step xs → k < 16 → at + k * step + 16 ≤ length xs
+line-within at step k xs h l = omega (arith, h .within, mul-le-mul-right {m = k} {n = 15} step (omega arith))
+
 module _ (at step : ℕ) (from : List ℕ) (onto stride : ℕ) where
   pub lines-none : (before : List ℕ) → LinesCopied at step from onto stride 0 before before
   lines-none before = record { size = refl; inside = λ k x l m. absurd (omega arith); outside = λ t out. refl }
@@ -66,7 +69,7 @@ module _ (at step : ℕ) (from : List ℕ) (onto stride : ℕ) where
       → LinesCopied at step from onto stride (k + 1) before (putMid (onto + k * stride) 16 between part)
   lines-turn k before between part source room hk long copied so =
       let a = onto + k * stride in
-      let fit : a + 16 ≤ length between = omega (arith, so .size, room .within, mul-le-mul-right {m = k} {n = 15} stride (omega arith)) in
+      let fit : a + 16 ≤ length between = omega (arith, so .size, line-within onto stride k before room hk) in
       record {
         size = same-len-mid a 16 between part (long ∙ sym (length-take-le 16 (drop a between) (omega (arith, length-drop a between)))) ∙ so .size;
         inside = λ l x hl hx.
@@ -97,8 +100,8 @@ module _ (at step : ℕ) (from : List ℕ) (onto stride : ℕ) where
       let s = at + k * step in
       let here : a + 16 - a ≡ 16 = omega arith in
       let there : s + 16 - s ≡ 16 = omega arith in
-      let fit : a + 16 ≤ length between = omega (arith, so .size, room .within, mul-le-mul-right {m = k} {n = 15} stride (omega arith)) in
-      let given : s + 16 ≤ length from = omega (arith, source .within, mul-le-mul-right {m = k} {n = 15} step (omega arith)) in
+      let fit : a + 16 ≤ length between = omega (arith, so .size, line-within onto stride k before room hk) in
+      let given : s + 16 ≤ length from = line-within at step k from source hk in
       let size : length (take 16 (drop a between)) ≡ 16 = length-take-le 16 (drop a between) (omega (arith, length-drop a between)) in
       let now : part ≡ take 16 (take 16 (drop s from)) = rw (here, there, size) at copied in
       let long : length part ≡ 16 =

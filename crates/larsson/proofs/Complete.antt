@@ -13,7 +13,8 @@ use Rattle.combinatorics.specs.Stretch.{count}
 use Rattle.combinatorics.proofs.Bursts.{Placed, rank-lt, starts-of-rank}
 use Rattle.combinatorics.proofs.Cases.{by-bool, leb-holds}
 use Rattle.combinatorics.proofs.Majority.{is-value, majority-is}
-use Rattle.combinatorics.proofs.Stretch.{each-member, same-flat, has-none, count-mono, length-flat}
+use Rattle.combinatorics.proofs.Members.{each-member, same-flat, length-flat}
+use Rattle.combinatorics.proofs.Stretch.{has-none, count-mono}
 use Rattle.cells.specs.Cells.{digit, message, pick}
 use Rattle.cells.specs.Codec.{accepted}
 use Rattle.cells.specs.Digits.{span}
@@ -21,8 +22,7 @@ use Rattle.cells.proofs.Cells.{pick-agrees, length-pick, digits-woven, message-
 use Rattle.cells.specs.Erasures.{hasErasure}
 use Rattle.cells.proofs.Erasures.{below-whole}
 use Rattle.cells.proofs.Digits.{length-spell}
-use Rattle.construction_a.specs.Figures.{Params, placementCount}
-use Rattle.construction_a.specs.Writing.{rank}
+use Rattle.cells.specs.Figures.{Params, placementCount, rank}
 use Rattle.larsson.specs.Figures.{subLen, subBlocks}
 use Rattle.larsson.specs.Writing.{bears, bearers, kindAt, plan, rankPlaces, rankDigits, digits, word}
 use Rattle.larsson.specs.Reading.{subSymbols, subValue, found, agrees, readValue, read}

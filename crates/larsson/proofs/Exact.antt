@@ -12,7 +12,7 @@ use Rattle.combinatorics.specs.Lists.{all, allBelow}
 use Rattle.combinatorics.proofs.Cases.{by-le, leb-holds, leb-fails}
 use Rattle.combinatorics.proofs.Lists.{below-at, all-flat}
 use Rattle.combinatorics.proofs.Majority.{majority-is, majority-common, majority-none, none-majority}
-use Rattle.combinatorics.proofs.Stretch.{length-tabulate}
+use Rattle.combinatorics.proofs.Members.{length-tabulate}
 use Rattle.cells.specs.Cells.{message, pick}
 use Rattle.cells.specs.Codec.{accepted, refused, WritesWords, Exact}
 use Rattle.cells.specs.Erasures.{foundBound, hasErasure}
@@ -20,9 +20,8 @@ use Rattle.cells.proofs.Cells.{length-woven, woven-below}
 use Rattle.cells.proofs.Codec.{not-accepted, same-number, reads-exactly}
 use Rattle.cells.proofs.Erasures.{found-least}
 use Rattle.cells.proofs.Digits.{spell-spelled, spelled-plain}
-use Rattle.construction_a.specs.Figures.{Params, placementCount}
-use Rattle.construction_a.specs.Writing.{rank, placementOf}
-use Rattle.construction_a.proofs.Figures.{placed-starts, starts-placed}
+use Rattle.cells.specs.Figures.{Params, placementCount, rank, placementOf}
+use Rattle.cells.proofs.Figures.{placed-starts, starts-placed}
 use Rattle.larsson.specs.Figures.{subLen, subBlocks, messageLen}
 use Rattle.larsson.specs.Writing.{bearers, kindAt, plan, rankPlaces, rankDigits, digits, word}
 use Rattle.larsson.specs.Reading.{subValue, isFound, found, agrees, readValue, readFrom, read}

@@ -12,7 +12,7 @@ use Rattle.cells.specs.Cut.{pieceLen, pieceStart}
 use Rattle.cells.specs.Cells.{weave, pick}
 use Rattle.cells.specs.Digits.{span, spell, value}
 use Rattle.cells.specs.Erasures.{hasErasure}
-use Rattle.construction_a.specs.Figures.{inRange}
+use Rattle.cells.specs.Figures.{inRange}
 use Rattle.larsson.specs.Figures.{subLen, gapTotal, gapLen, subStart, fits, messageLen}
 use Rattle.larsson.specs.Writing.{untouched, bears, bearers, inSub, isBorne, kindAt, plan, rankDigits, digits, word}
 use Rattle.larsson.specs.Reading.{subSymbols, subValue, found, agrees, readValue, read}

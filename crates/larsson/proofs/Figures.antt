@@ -8,7 +8,7 @@ use native.Mathlib.Omega.{arith}
 use lib.Dec.{leb}
 use Rattle.combinatorics.specs.Bursts.{contracted, placements}
 use Rattle.combinatorics.specs.Choose.{choose}
-use Rattle.combinatorics.proofs.Cases.{by-le, by-bool, leb-holds}
+use Rattle.combinatorics.proofs.Cases.{by-le, by-bool, leb-holds, le-of}
 use Rattle.combinatorics.proofs.Choose.{pascal, choose-zero, choose-none}
 use Rattle.combinatorics.proofs.Lists.{both}
 use Rattle.combinatorics.proofs.Stretch.{first-true, first-false, first-within}
@@ -16,8 +16,8 @@ use Rattle.cells.specs.Cut.{pieceLen}
 use Rattle.cells.specs.Digits.{span}
 use Rattle.cells.proofs.Cut.{piece-zero, piece-next, piece-all, len-grows, len-least, len-most}
 use Rattle.cells.proofs.Digits.{span-plain}
-use Rattle.construction_a.specs.Figures.{Params, inRange, placementCount, maxCount}
-use Rattle.construction_a.proofs.Figures.{Ranged, ranged, le-of}
+use Rattle.cells.specs.Figures.{Params, inRange, placementCount, maxCount}
+use Rattle.cells.proofs.Figures.{Ranged, ranged}
 use Rattle.larsson.specs.Figures.{subLen, subBlocks, gaps, gapTotal, gapLen, subStart, fits}
 use Rattle.larsson.specs.Writing.{rankPlaces}
 

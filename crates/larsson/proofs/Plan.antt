@@ -12,11 +12,12 @@ use Rattle.combinatorics.specs.Stretch.{count, firsts, has, members, tabulate}
 use Rattle.combinatorics.proofs.Bursts.{Placed, burst-count}
 use Rattle.combinatorics.proofs.Cases.{by-le, by-eq, by-bool, leb-holds, leb-fails}
 use Rattle.combinatorics.proofs.Lists.{both}
-use Rattle.combinatorics.proofs.Stretch.{same, has-none, has-some, has-at, has-or, count-none, count-ext, count-or, count-one, count-not, count-firsts}
-use Rattle.combinatorics.proofs.Stretch.{members-none, members-append, members-blocks, members-firsts, length-members, length-tabulate, length-flat}
+use Rattle.combinatorics.proofs.Members.{count-firsts, members-append, members-blocks, members-firsts, length-members, length-tabulate, length-flat}
+use Rattle.combinatorics.proofs.Stretch.{same, has-none, has-some, has-at, has-or, count-none, count-ext, count-or, count-one, count-not}
+use Rattle.combinatorics.proofs.Stretch.{members-none}
 use Rattle.cells.specs.Cells.{burst, fixed, digit, message, is}
 use Rattle.cells.proofs.Cells.{kinds}
-use Rattle.construction_a.specs.Figures.{Params}
+use Rattle.cells.specs.Figures.{Params}
 use Rattle.larsson.specs.Figures.{subLen, subBlocks, subStart, messageLen}
 use Rattle.larsson.specs.Writing.{untouched, bears, bearers, inSub, isBorne, cellOf, kindAt}
 use Rattle.larsson.proofs.Figures.{Served, gap-least, sub-first, sub-next, sub-rises, sub-last, sub-within}

@@ -6,8 +6,8 @@ use Prim.Native.Nat.{ℕ}
 use Rattle.cells.specs.Ranking.{CoversLeast}
 use Rattle.cells.proofs.Ranking.{Placeable}
 use Rattle.cells.proofs.Ranking as Any
-use Rattle.construction_a.specs.Figures.{Params}
-use Rattle.construction_a.proofs.Figures.{placed-starts, starts-placed}
+use Rattle.cells.specs.Figures.{Params}
+use Rattle.cells.proofs.Figures.{placed-starts, starts-placed}
 use Rattle.larsson.specs.Outcomes.{coding}
 use Rattle.larsson.specs.Ranking.{AllFaithful}
 use Rattle.larsson.proofs.Figures.{Served, serve, rank-room, rank-least, gap-rises, gap-equal, sub-first, sub-next, sub-last}

@@ -13,7 +13,8 @@ use Rattle.combinatorics.specs.Majority.{isValue}
 use Rattle.combinatorics.proofs.Bursts.{Placed, rank-of-starts}
 use Rattle.combinatorics.proofs.Cases.{by-le, by-bool}
 use Rattle.combinatorics.proofs.Majority.{value-is}
-use Rattle.combinatorics.proofs.Stretch.{has-some, member-each, flat-same}
+use Rattle.combinatorics.proofs.Members.{member-each, flat-same}
+use Rattle.combinatorics.proofs.Stretch.{has-some}
 use Rattle.cells.specs.Cells.{digit, message, weave, pick}
 use Rattle.cells.specs.Codec.{accepted, refused}
 use Rattle.cells.specs.Digits.{spell}
@@ -21,21 +22,14 @@ use Rattle.cells.specs.Erasures.{foundBound, hasErasure}
 use Rattle.cells.proofs.Cells.{length-pick, pick-below, Clean, at-clean, clean-agrees, agree-at}
 use Rattle.cells.proofs.Codec.{not-accepted}
 use Rattle.cells.proofs.Erasures.{whole-below}
-use Rattle.construction_a.specs.Figures.{Params, placementCount}
-use Rattle.construction_a.specs.Writing.{rank, placementOf}
+use Rattle.cells.proofs.Figures.{Accepted}
+use Rattle.cells.specs.Figures.{Params, placementCount, rank, placementOf}
 use Rattle.larsson.specs.Figures.{subBlocks, messageLen}
 use Rattle.larsson.specs.Writing.{bears, bearers, kindAt, plan, rankPlaces, rankDigits, digits, word}
 use Rattle.larsson.specs.Reading.{subSymbols, subValue, found, agrees, readValue, readFrom, read}
 use Rattle.larsson.proofs.Figures.{Served}
 use Rattle.larsson.proofs.Plan.{kind-burst, kind-fixed, messages-count}
 use Rattle.larsson.proofs.SubBlocks.{found-value, digits-are}
-
-pub record Accepted (f : Params) (w ss ms : List ℕ) : Type 0 where
-  pub placed : Placed (f .b) (f .n) 0 ss
-  pub count : length ss ≡ f .m
-  pub message : length ms ≡ messageLen f
-  pub symbols : allBelow (f .q) ms ≡ true
-  pub outside : (x : ℕ) → x < f .n → inBurst (f .b) ss x ≡ false → getD w x 0 ≡ getD (word f ss ms) x 0
 
 module _ (f : Params) (ok : Served f) (w : List ℕ) (small : (x : ℕ) → getD w x 0 < foundBound (f .q)) where
   -- each bearer has the value, where the sub-blocks agree
@@ -49,7 +43,7 @@ module _ (f : Params) (ok : Served f) (w : List ℕ) (small : (x : ℕ) → getD
 
   -- the placement of the value found, where that is below T, the sub-blocks agree and the message is heard
   kernel : (v : ℕ) → v < placementCount f → agrees f w v (placementOf f v) ≡ true → hasErasure (f .q) (pick message (plan f (placementOf f v)) w) ≡ false
-      → Accepted f w (placementOf f v) (pick message (plan f (placementOf f v)) w)
+      → Accepted f (messageLen f) (word f) w (placementOf f v) (pick message (plan f (placementOf f v)) w)
   unfolding word plan messageLen digits rankDigits bearers
   kernel v l a heard =
       let ss = placementOf f v in
@@ -71,14 +65,14 @@ module _ (f : Params) (ok : Served f) (w : List ℕ) (small : (x : ℕ) → getD
             (omega arith) (omega arith) (kind-burst f ss x ∙ out));
       }
 
-  pub sound : (ss ms : List ℕ) → read f w ≡ accepted ss ms → Accepted f w ss ms
+  pub sound : (ss ms : List ℕ) → read f w ≡ accepted ss ms → Accepted f (messageLen f) (word f) w ss ms
   unfolding read readValue
   sound ss ms = go (found f w)
     where
       in-full : (v : ℕ) (a b : Bool) → v < placementCount f → agrees f w v (placementOf f v) ≡ a
           → hasErasure (f .q) (pick message (plan f (placementOf f v)) w) ≡ b
           → must a (refused disagrees) (must (not b) (refused erased) (accepted (placementOf f v) (pick message (plan f (placementOf f v)) w))) ≡ accepted ss ms
-          → Accepted f w ss ms
+          → Accepted f (messageLen f) (word f) w ss ms
       in-full v false b l c d e = not-accepted e
       in-full v true true l c d e = not-accepted e
       in-full v true false l c d e =
@@ -86,12 +80,12 @@ module _ (f : Params) (ok : Served f) (w : List ℕ) (small : (x : ℕ) → getD
           let e₂ : pick message (plan f (placementOf f v)) w ≡ ms = cc in
           rw (e₂, e₁) at (kernel v l c d)
 
-      go : (o : Option ℕ) → readFrom f w o ≡ accepted ss ms → Accepted f w ss ms
+      go : (o : Option ℕ) → readFrom f w o ≡ accepted ss ms → Accepted f (messageLen f) (word f) w ss ms
       go none = λ e. not-accepted e
       go (some v) =
           let ms′ = pick message (plan f (placementOf f v)) w in
           by-le (suc v) (placementCount f)
           (λ t. must t (refused valueTooLarge) (must (agrees f w v (placementOf f v)) (refused disagrees)
           (must (not (hasErasure (f .q) ms′)) (refused erased) (accepted (placementOf f v) ms′)))
-          ≡ accepted ss ms → Accepted f w ss ms)
+          ≡ accepted ss ms → Accepted f (messageLen f) (word f) w ss ms)
           (λ l. in-full v (agrees f w v (placementOf f v)) (hasErasure (f .q) ms′) l refl refl) (λ _ e. not-accepted e)

@@ -9,14 +9,14 @@ use lib.ListN.{length, getD}
 use Rattle.combinatorics.specs.Lists.{allBelow}
 use Rattle.combinatorics.proofs.Cases.{by-bool}
 use Rattle.combinatorics.proofs.Lists.{at-below}
-use Rattle.combinatorics.proofs.Stretch.{flat-map, length-tabulate, tabulate-at}
+use Rattle.combinatorics.proofs.Members.{flat-map, length-tabulate, tabulate-at}
 use Rattle.cells.specs.Cells.{digit, pick}
 use Rattle.cells.specs.Digits.{span, spell, value}
 use Rattle.cells.specs.Erasures.{foundBound, hasErasure}
 use Rattle.cells.proofs.Cells.{pick-at}
 use Rattle.cells.proofs.Digits.{spell-spelled, value-spell, spell-value, plain-spelled, spelled-plain}
 use Rattle.cells.proofs.Erasures.{below-whole, whole-below}
-use Rattle.construction_a.specs.Figures.{Params}
+use Rattle.cells.specs.Figures.{Params}
 use Rattle.larsson.specs.Figures.{subLen, subStart}
 use Rattle.larsson.specs.Writing.{bearers, kindAt, plan, rankPlaces}
 use Rattle.larsson.specs.Reading.{subSymbols, subValue}

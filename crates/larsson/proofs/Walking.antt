@@ -26,8 +26,7 @@ use Rattle.cells.specs.Codec.{accepted}
 use Rattle.cells.specs.Digits.{span, spell, places}
 use Rattle.cells.specs.Erasures.{foundBound}
 use Rattle.cells.proofs.Walk.{tabulate-same, weave-replicate}
-use Rattle.construction_a.specs.Figures.{Params, placementCount}
-use Rattle.construction_a.specs.Writing.{rank, placementOf}
+use Rattle.cells.specs.Figures.{Params, placementCount, rank, placementOf}
 use Rattle.larsson.specs.Figures.{subLen, subBlocks, subStart}
 use Rattle.larsson.specs.Writing.{untouched, bears, bearers, isBorne, cellOf, kindAt, plan, rankPlaces, rankDigits, digits, word}
 use Rattle.larsson.specs.Reading.{subSymbols, subValue, found, read}

@@ -5,28 +5,16 @@ use mathlib.Core.Bool.{true, false}
 use mathlib.Core.List.{List}
 use Prim.Native.Nat.{ℕ, _≤_, _<_}
 use Rattle.refusals.specs.Refusals.{valueTooLarge, disagrees, erased, noMajority}
-use Rattle.combinatorics.specs.Bursts.{inBurst}
 use Rattle.cells.specs.Cells.{message, pick}
-use Rattle.cells.specs.Codec.{Codec, ReadsExactly}
-use Rattle.cells.specs.Erasures.{foundBound, hasErasure}
-use Rattle.construction_a.specs.Figures.{Params, inRange, isPlacement, placementCount}
-use Rattle.construction_a.specs.Writing.{placementOf}
+use Rattle.cells.specs.Codec.{Codec, burstCodec, ReadsExactly}
+use Rattle.cells.specs.Erasures.{hasErasure}
+use Rattle.cells.specs.Figures.{Params, inRange, isPlacement, placementCount, placementOf}
 use Rattle.larsson.specs.Figures.{fits, messageLen}
 use Rattle.larsson.specs.Writing.{plan, word}
 use Rattle.larsson.specs.Reading.{isFound, agrees, read}
 
 abbrev pub larsson : Params → Codec
-larsson f =
-    record {
-      wordLen = f .n;
-      alphabet = f .q;
-      foundBound = foundBound (f .q);
-      messageLen = messageLen f;
-      placed = isPlacement f;
-      spoilt = inBurst (f .b);
-      encode = word f;
-      decode = read f;
-    }
+larsson f = burstCodec (f .n) (f .q) (f .b) (messageLen f) (isPlacement f) (word f) (read f)
 
 -- the listed condition of each refusal of a word
 pub data Listed (f : Params) (w : List ℕ) : ℕ → Type 0 where

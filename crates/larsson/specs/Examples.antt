@@ -9,7 +9,7 @@ use Rattle.combinatorics.specs.Lists.{all, sameList}
 use Rattle.combinatorics.specs.Stretch.{bit, tabulate}
 use Rattle.cells.specs.Codec.{Reading, accepted, refused}
 use Rattle.cells.specs.Digits.{plain, spell}
-use Rattle.construction_a.specs.Figures.{Params, params}
+use Rattle.cells.specs.Figures.{Params, params}
 use Rattle.cells.specs.Outcomes.{FiguresOut, figured, unserved, figuresNumber}
 use Rattle.larsson.specs.Figures.{subStart}
 use Rattle.larsson.specs.Writing.{bearers, word}

@@ -5,7 +5,7 @@ use Prim.Native.Nat.{ℕ, suc, _+_, _-_, _*_, _^_}
 use lib.Dec.{leb}
 use Rattle.combinatorics.specs.Stretch.{first}
 use Rattle.cells.specs.Cut.{pieceLen, pieceStart}
-use Rattle.construction_a.specs.Figures.{Params, placementCount, maxCount}
+use Rattle.cells.specs.Figures.{Params, placementCount, maxCount}
 
 -- "R is the least number of symbols that spell at least T values": sought below n, which serves where none below does (`rank-room`)
 unfoldable pub subLen : Params → ℕ

@@ -1,7 +1,7 @@
 -- The Larsson code's figures as a coding: the orders of cells/specs/Outcomes under it are what its calls answer, and what the lent buffers hold afterwards,
 -- for every input. Assumes nothing.
 use Rattle.cells.specs.Outcomes.{Coding, FiguresOut, figuresUnder}
-use Rattle.construction_a.specs.Figures.{Params, inRange, placementCount}
+use Rattle.cells.specs.Figures.{Params, inRange, placementCount}
 use Rattle.larsson.specs.Figures.{subLen, fits}
 use Rattle.larsson.specs.Codec.{larsson}
 

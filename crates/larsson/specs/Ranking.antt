@@ -8,7 +8,7 @@ use lib.ListN.{take}
 use Rattle.combinatorics.specs.Stretch.{count, members}
 use Rattle.cells.specs.Cells.{message, is}
 use Rattle.cells.specs.Ranking.{RankBijection, CoversLeast}
-use Rattle.construction_a.specs.Figures.{Params, inRange, isPlacement, placementCount}
+use Rattle.cells.specs.Figures.{Params, inRange, isPlacement, placementCount}
 use Rattle.larsson.specs.Figures.{subLen, subBlocks, gaps, gapLen, subStart, fits, messageLen}
 use Rattle.larsson.specs.Writing.{untouched, bears, bearers, kindAt}
 use Rattle.larsson.specs.Outcomes.{coding}

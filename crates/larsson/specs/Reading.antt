@@ -12,8 +12,7 @@ use Rattle.cells.specs.Cells.{message, pick}
 use Rattle.cells.specs.Codec.{Reading, accepted, refused}
 use Rattle.cells.specs.Digits.{value}
 use Rattle.cells.specs.Erasures.{hasErasure}
-use Rattle.construction_a.specs.Figures.{Params, placementCount}
-use Rattle.construction_a.specs.Writing.{placementOf}
+use Rattle.cells.specs.Figures.{Params, placementCount, placementOf}
 use Rattle.larsson.specs.Figures.{subLen, subBlocks, subStart}
 use Rattle.larsson.specs.Writing.{bears, plan, rankPlaces}
 

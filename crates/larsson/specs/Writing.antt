@@ -8,8 +8,7 @@ use Rattle.combinatorics.specs.Bursts.{inBurst}
 use Rattle.combinatorics.specs.Stretch.{firsts, has, members, tabulate}
 use Rattle.cells.specs.Cells.{Cell, burst, digit, message, weave}
 use Rattle.cells.specs.Digits.{Place, plain, spell}
-use Rattle.construction_a.specs.Figures.{Params}
-use Rattle.construction_a.specs.Writing.{rank}
+use Rattle.cells.specs.Figures.{Params, rank}
 use Rattle.larsson.specs.Figures.{subLen, subBlocks, subStart}
 
 -- sub-blocks "that no run touches"

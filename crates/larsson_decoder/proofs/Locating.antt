@@ -11,9 +11,8 @@ use Rattle.combinatorics.proofs.Bursts.{RankedAs, rank-of-starts}
 use Rattle.combinatorics.proofs.Cases.{leb-holds, leb-fails}
 use Rattle.cells.specs.Codec.{refused}
 use Rattle.cells.specs.Outcomes.{Held, held}
-use Rattle.construction_a.specs.Figures.{Params, isPlacement, placementCount}
-use Rattle.construction_a.specs.Writing.{placementOf}
-use Rattle.construction_a.proofs.Figures.{starts-placed}
+use Rattle.cells.specs.Figures.{Params, isPlacement, placementCount, placementOf}
+use Rattle.cells.proofs.Figures.{starts-placed}
 use Rattle.larsson.specs.Reading.{found, agrees, readValue, read}
 use Rattle.larsson.proofs.Figures.{Served}
 use Rattle.placements.specs.declared.Placement.{Placement}

@@ -18,7 +18,7 @@ use Rattle.cells.specs.Erasures.{foundBound, erasedAt}
 use Rattle.cells.specs.Outcomes.{Held, held, rankIs, Decoded, decodedFrom}
 use Rattle.cells.proofs.Cells.{pick-below}
 use Rattle.cells.proofs.Erasures.{found-above, found-all, below-whole, erasure-is}
-use Rattle.construction_a.specs.Writing.{placementOf}
+use Rattle.cells.specs.Figures.{placementOf}
 use Rattle.larsson.specs.Codec.{larsson, Listed}
 use Rattle.larsson.specs.Figures.{subLen, messageLen}
 use Rattle.larsson.specs.Reading.{read}

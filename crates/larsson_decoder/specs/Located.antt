@@ -11,7 +11,7 @@ use Rattle.cells.specs.Cells.{message, pick}
 use Rattle.cells.specs.Codec.{Reading, accepted, refused}
 use Rattle.cells.specs.Erasures.{hasErasure}
 use Rattle.cells.specs.Outcomes.{held}
-use Rattle.construction_a.specs.Figures.{Params, isPlacement, placementCount}
+use Rattle.cells.specs.Figures.{Params, isPlacement, placementCount}
 use Rattle.larsson.specs.Reading.{found, read}
 use Rattle.larsson.specs.Writing.{plan}
 use Rattle.placements.specs.declared.Placement.{Placement}

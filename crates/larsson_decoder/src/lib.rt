@@ -4,7 +4,7 @@ ghost use mathlib.Core.List.{List, []};
 ghost use Prim.Native.Nat.{ℕ};
 ghost use Rattle.cells.specs.Codec.{accepted};
 ghost use Rattle.cells.specs.Outcomes.{answerNumber, decodedFrom, decodeUnder};
-ghost use Rattle.construction_a.specs.Writing.{placementOf};
+ghost use Rattle.cells.specs.Figures.{placementOf};
 ghost use Rattle.larsson.specs.Codec.{Listed};
 ghost use Rattle.larsson.specs.Outcomes.{coding};
 ghost use Rattle.larsson.specs.Reading.{read};

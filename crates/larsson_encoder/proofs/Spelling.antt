@@ -9,9 +9,8 @@ use lib.Seq.{length-take-le}
 use Rattle.combinatorics.specs.Bursts.{apart}
 use Rattle.combinatorics.proofs.Bursts.{of-placed, placed-of}
 use Rattle.cells.specs.Digits.{spell, places}
-use Rattle.construction_a.specs.Figures.{maxBursts, isPlacement}
-use Rattle.construction_a.specs.Writing.{rank}
-use Rattle.construction_a.proofs.Figures.{placed-starts, starts-placed}
+use Rattle.cells.specs.Figures.{maxBursts, isPlacement, rank}
+use Rattle.cells.proofs.Figures.{placed-starts, starts-placed}
 use Rattle.larsson.specs.Figures.{subLen}
 use Rattle.larsson.specs.Writing.{rankDigits, word}
 use Rattle.larsson.proofs.Complete.{rank-below}

@@ -4,7 +4,7 @@ use mathlib.Core.Bool.{true}
 use mathlib.Core.List.{List}
 use Prim.Native.Nat.{ℕ}
 use lib.ListN.{length}
-use Rattle.construction_a.specs.Figures.{isPlacement}
+use Rattle.cells.specs.Figures.{isPlacement}
 use Rattle.placements.specs.declared.Placement.{Placement}
 use Rattle.placements.specs.Bridge.{startsIn}
 use Rattle.larsson_params.specs.declared.LarssonLayout.{LarssonLayout}

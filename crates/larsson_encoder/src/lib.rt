@@ -33,16 +33,8 @@ pub fn encode_fitting(layout: LarssonLayout, at: Placement, message: &[u8], word
     ensures answer { λ r. ⌜ r ≡ encodeUnder (coding (larssonFiguresOf layout)) (heldAs at) (now (message .entry)) (now (word .entry)) .answer ⌝ }
     ensures word { λ _. ⌜ now (word .exit) ≡ encodeUnder (coding (larssonFiguresOf layout)) (heldAs at) (now (message .entry)) (now (word .entry)) .word ⌝ }
 {
-    let refusal = may_write(
-        layout.n,
-        layout.m,
-        layout.b,
-        layout.q,
-        layout.message_len,
-        at,
-        message,
-        word.len(),
-    );
+    let walk = larsson_words::walk_of(layout.n, layout.m, layout.b, layout.sub_len);
+    let refusal = may_write(walk, layout.q, layout.message_len, at, message, word.len());
     if refusal != Refusal::NONE {
         return refusal;
     }

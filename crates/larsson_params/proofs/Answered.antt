@@ -4,7 +4,7 @@ use mathlib.Core.Bool.{true}
 use Prim.Native.Nat.{ℕ}
 use Rattle.cells.specs.Outcomes.{figuresUnder}
 use Rattle.cells.proofs.Outcomes.{figured-fits}
-use Rattle.construction_a.specs.Figures.{Params, inRange}
+use Rattle.cells.specs.Figures.{Params, inRange}
 use Rattle.larsson.specs.Figures.{fits}
 use Rattle.larsson.specs.Outcomes.{coding}
 use Rattle.larsson_params.specs.declared.LarssonLayout.{LarssonLayout}

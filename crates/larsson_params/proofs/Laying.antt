@@ -11,8 +11,8 @@ use Rattle.combinatorics.specs.Stretch.{first}
 use Rattle.cells.specs.Cut.{pieceLen}
 use Rattle.cells.specs.Outcomes.{figured, unserved, figuresUnder}
 use Rattle.cells.proofs.Outcomes.{figures-unfit, figures-served}
-use Rattle.construction_a.specs.Figures.{Params, maxCount, inRange, placementCount}
-use Rattle.construction_a.proofs.Figures.{Ranged, ranged}
+use Rattle.cells.specs.Figures.{Params, maxCount, inRange, placementCount}
+use Rattle.cells.proofs.Figures.{Ranged, ranged}
 use Rattle.larsson.specs.Figures.{subLen, subBlocks, gaps, gapTotal, gapLen, fits, messageLen}
 use Rattle.larsson.specs.Outcomes.{coding}
 use Rattle.larsson.proofs.Figures.{Served, serve, fitting, unfitting}

@@ -6,8 +6,8 @@ use native.Mathlib.Nat.{mul-comm, le-mul-of-pos-right}
 use native.Mathlib.Omega.{arith}
 use lib.ListN.{getD}
 use Rattle.cells.specs.Cut.{pieceStart}
-use Rattle.construction_a.specs.Figures.{maxWord}
-use Rattle.construction_a.proofs.Figures.{Ranged}
+use Rattle.cells.specs.Figures.{maxWord}
+use Rattle.cells.proofs.Figures.{Ranged}
 use Rattle.larsson.specs.Figures.{subLen, subBlocks, subStart}
 use Rattle.larsson.proofs.Figures.{Served, serve, sub-within}
 use Rattle.larsson_params.specs.declared.LarssonLayout.{LarssonLayout}

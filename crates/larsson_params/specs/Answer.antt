@@ -1,7 +1,7 @@
 -- What an answer of the Larsson code's "figures alone" says: its values case by case, and what each field of a layout is. Assumes nothing.
 use mathlib.Core.Path.{_≡_}
 use Rattle.cells.specs.Outcomes.{FiguresOut, figured, unserved}
-use Rattle.construction_a.specs.Figures.{Params, placementCount}
+use Rattle.cells.specs.Figures.{Params, placementCount}
 use Rattle.larsson.specs.Figures.{subLen, gapTotal, messageLen}
 use Rattle.larsson_params.specs.declared.LarssonLayout.{LarssonLayout}
 use Rattle.larsson_params.specs.declared.LarssonAnswer.{LarssonAnswer}

@@ -4,7 +4,7 @@ use mathlib.Core.Bool.{true}
 use mathlib.Core.List.{List}
 use Prim.Native.Nat.{ℕ, _<_}
 use lib.ListN.{getD}
-use Rattle.construction_a.specs.Figures.{Params, params, inRange}
+use Rattle.cells.specs.Figures.{Params, params, inRange}
 use Rattle.larsson.specs.Figures.{subBlocks, subStart, fits}
 use Rattle.larsson_params.specs.declared.LarssonLayout.{LarssonLayout}
 use Rattle.larsson_params.specs.Answer.{LarssonLaidOut}

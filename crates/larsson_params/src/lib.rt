@@ -3,7 +3,7 @@ ghost use mathlib.Core.Path.{_≡_};
 ghost use mathlib.Core.Bool.{true};
 ghost use Prim.Native.Nat.{_*_, _≤_};
 ghost use Rattle.cells.specs.Outcomes.{figuresUnder};
-ghost use Rattle.construction_a.specs.Figures.{params, inRange, maxCount, placementCount};
+ghost use Rattle.cells.specs.Figures.{params, inRange, maxCount, placementCount};
 ghost use Rattle.larsson.specs.Outcomes.{coding};
 ghost use Rattle.params.specs.Bridge.{given as figuresOf};
 ghost use Rattle.larsson_params.specs.Answer.{larssonFiguredAs, LarssonLaidIn};

@@ -13,8 +13,8 @@ use Rattle.combinatorics.proofs.Stretch.{count-ext}
 use Rattle.cells.specs.Cells.{message}
 use Rattle.cells.specs.Plan.{cellOf, planIn}
 use Rattle.cells.proofs.Walk.{tally, tally-count}
-use Rattle.construction_a.specs.Figures.{Params}
-use Rattle.construction_a.proofs.Figures.{placed-starts}
+use Rattle.cells.specs.Figures.{Params}
+use Rattle.cells.proofs.Figures.{placed-starts}
 use Rattle.larsson.specs.Figures.{subLen, subBlocks, subStart, messageLen}
 use Rattle.larsson.specs.Writing.{bears, bearers, kindAt, plan, rankDigits, digits}
 use Rattle.larsson.specs.Writing as L

@@ -4,7 +4,7 @@ use mathlib.Core.Bool.{true}
 use mathlib.Core.List.{List}
 use Prim.Native.Nat.{ℕ, suc, _*_, _<_}
 use lib.ListN.{length}
-use Rattle.construction_a.specs.Figures.{Params, params, inRange, isPlacement}
+use Rattle.cells.specs.Figures.{Params, params, inRange, isPlacement}
 use Rattle.larsson.specs.Figures.{subLen, fits, messageLen}
 use Rattle.larsson.specs.Writing.{rankDigits}
 use Rattle.placements.specs.declared.Placement.{Placement}

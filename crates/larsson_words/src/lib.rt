@@ -4,7 +4,7 @@ ghost use mathlib.Core.Path.{_≡_};
 ghost use Prim.Native.Nat.{_≤_};
 ghost use Rattle.cells.specs.Cells;
 ghost use Rattle.cells.specs.Cells.{pick};
-ghost use Rattle.construction_a.specs.Figures.{maxBursts};
+ghost use Rattle.cells.specs.Figures.{maxBursts};
 ghost use Rattle.larsson.specs.Writing;
 ghost use Rattle.larsson.specs.Writing.{plan};
 ghost use Rattle.placements.specs.Bridge.{startsIn};

@@ -40,7 +40,7 @@ fn all_letters(letters: &[u8]) -> bool
 {
     let mut i: usize = 0;
     while i < letters.len() {
-        if !jobs::is_list_letter(letters[i]) {
+        if !jobs::by_letter::is_list_letter(letters[i]) {
             return false;
         }
         i += 1;

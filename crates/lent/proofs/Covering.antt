@@ -15,7 +15,7 @@ use Rattle.combinatorics.proofs.Cases.{by-eq, by-bool, eqb-same, eqb-other, leb
 use Rattle.combinatorics.proofs.Bursts.{rank-of-starts}
 use Rattle.cells.specs.Outcomes.{Coding, held, inUse, defectAt, unserved, figuresUnder, Covered, unplaced, coverUnder}
 use Rattle.cells.proofs.Outcomes.{refused-alike}
-use Rattle.construction_a.specs.Figures.{maxBursts}
+use Rattle.cells.specs.Figures.{maxBursts}
 use Rattle.placements.specs.declared.CoverAnswer.{CoverAnswer}
 use Rattle.placements.specs.Bridge.{coverable, coverWithin, coveredAs as foundAs, Room}
 use Rattle.placements.proofs.Calls.{cover-length, cover-symbol, cover-none, cover-some}

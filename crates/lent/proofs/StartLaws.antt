@@ -10,10 +10,10 @@ use lib.ListN.{length, getD}
 use lib.Seq.{take-all}
 use Rattle.combinatorics.specs.Lists.{all, allBelow}
 use Rattle.combinatorics.proofs.Lists.{both}
-use Rattle.combinatorics.proofs.Stretch.{take-is}
+use Rattle.combinatorics.proofs.Members.{take-is}
 use Rattle.cells.specs.Bytes.{byteValues}
-use Rattle.construction_a.specs.Figures.{Params, maxBursts, inRange}
-use Rattle.construction_a.proofs.Figures.{ranged}
+use Rattle.cells.specs.Figures.{Params, maxBursts, inRange}
+use Rattle.cells.proofs.Figures.{ranged}
 use Rattle.params.specs.declared.Figures.{Figures}
 use Rattle.params.specs.declared.Figures.the-variants.{Ranked, Long}
 use Rattle.params.specs.Bridge.{given, codingOf}

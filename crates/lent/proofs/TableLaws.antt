@@ -14,7 +14,7 @@ use Rattle.combinatorics.specs.Lists.{allBelow}
 use Rattle.combinatorics.specs.Stretch.{tabulate}
 use Rattle.combinatorics.proofs.Cases.{eqb-same, eqb-other, leb-holds, leb-fails}
 use Rattle.combinatorics.proofs.Lists.{all-fails, all-later, all-over}
-use Rattle.combinatorics.proofs.Stretch.{length-tabulate, tabulate-at}
+use Rattle.combinatorics.proofs.Members.{length-tabulate, tabulate-at}
 use Rattle.cells.specs.Bytes.{byteValues}
 use Rattle.cells.specs.Digits.{plain, spell}
 use Rattle.cells.proofs.Walk.{rest-is}

@@ -10,7 +10,8 @@ use lib.ListN.{length}
 use Rattle.refusals.specs.Refusals.{must, invalid, unfit, wrongLength, badPayload}
 use Rattle.combinatorics.proofs.Cases.{by-bool, eqb-same, eqb-other, leb-holds, leb-fails}
 use Rattle.cells.specs.Bytes.{payloadLen}
-use Rattle.cells.specs.Outcomes.{Coding, maxBursts, Held, held, unserved, figuresUnder, Encoded, unwritten}
+use Rattle.cells.specs.Figures.{maxBursts}
+use Rattle.cells.specs.Outcomes.{Coding, Held, held, unserved, figuresUnder, Encoded, unwritten}
 use Rattle.cells.proofs.Outcomes.{refused-alike}
 use Rattle.params.specs.declared.Figures.{Figures}
 use Rattle.params.specs.Bridge.{codingOf}

@@ -8,7 +8,8 @@ use native.Mathlib.Omega.{arith}
 use lib.ListN.{length}
 use Rattle.combinatorics.proofs.Cases.{by-eq, by-bool, eqb-same, eqb-other, leb-holds}
 use Rattle.cells.specs.Bytes.{byteWidth, payloadLen}
-use Rattle.cells.specs.Outcomes.{Coding, maxBursts, Held, encodeUnder}
+use Rattle.cells.specs.Figures.{maxBursts}
+use Rattle.cells.specs.Outcomes.{Coding, Held, encodeUnder}
 use Rattle.lent.specs.Starts.{placementFrom}
 use Rattle.lent.specs.Words.{encodeBytesUnder}
 

@@ -5,8 +5,8 @@ use Prim.Native.Nat.{ℕ, _*_, _≤_}
 use lib.Dec.{eqb}
 use lib.ListN.{length}
 use Rattle.refusals.specs.Refusals.{must, served, invalid, unfit, wrongLength}
-use Rattle.cells.specs.Outcomes.{Coding, maxBursts, inUse, Covered, coverUnder}
-use Rattle.construction_a.specs.Figures.{Params}
+use Rattle.cells.specs.Figures.{maxBursts, Params}
+use Rattle.cells.specs.Outcomes.{Coding, inUse, Covered, coverUnder}
 use Rattle.construction_a.specs.Outcomes.{coding}
 use Rattle.placements.specs.declared.CoverAnswer.{CoverAnswer}
 use Rattle.decoder.specs.Exported.{startBytes}

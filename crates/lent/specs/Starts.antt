@@ -6,7 +6,7 @@ use lib.Dec.{leb, eqb}
 use lib.ListN.{length}
 use Rattle.refusals.specs.Refusals.{must}
 use Rattle.cells.specs.Bytes.{byteValues}
-use Rattle.construction_a.specs.Figures.{maxBursts}
+use Rattle.cells.specs.Figures.{maxBursts}
 use Rattle.construction_a.specs.Outcomes.{Held, held}
 
 -- "starts of 2 bytes each, high byte first", read; `startBytes` of the decoder is how they are written

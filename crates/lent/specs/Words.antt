@@ -7,7 +7,7 @@ use lib.ListN.{length}
 use Rattle.refusals.specs.Refusals.{must, invalid, unfit, wrongLength}
 use Rattle.cells.specs.Bytes.{payloadLen}
 use Rattle.cells.specs.Outcomes.{Coding, held, FiguresOut, figured, unserved, figuresUnder, Encoded, unwritten, encodeUnder}
-use Rattle.construction_a.specs.Figures.{Params}
+use Rattle.cells.specs.Figures.{Params}
 use Rattle.construction_a.specs.Outcomes.{coding}
 use Rattle.decoder.specs.Exported.{noLength, lengthIn}
 use Rattle.lent.specs.Starts.{startsFrom}

@@ -1,7 +1,7 @@
 -- A message is no longer than its word. Assumes nothing.
 use Prim.Native.Nat.{_≤_}
 use native.Mathlib.Omega.{arith}
-use Rattle.construction_a.specs.Figures.{maxWord}
+use Rattle.cells.specs.Figures.{maxWord}
 use Rattle.larsson.specs.Figures.{messageLen}
 use Rattle.larsson_params.specs.declared.LarssonLayout.{LarssonLayout}
 use Rattle.larsson_params.specs.Given.{LarssonLayoutFits}

@@ -11,7 +11,7 @@ use Rattle.refusals.specs.Refusals.{must, served, invalid, unfit, wrongLength, 
 use Rattle.combinatorics.proofs.Cases.{by-bool, by-eq, eqb-same, eqb-other}
 use Rattle.cells.specs.Codec.{Codec}
 use Rattle.cells.specs.Outcomes.{Encoded, unwritten}
-use Rattle.construction_a.specs.Figures.{Params, inRange}
+use Rattle.cells.specs.Figures.{Params, inRange}
 use Rattle.construction_a.specs.Figures.{fits as fitsA, messageLen as messageLenA}
 use Rattle.larsson.specs.Figures.{fits as fitsLarsson, messageLen as messageLenLarsson}
 use Rattle.params.specs.declared.Layout.{Layout}

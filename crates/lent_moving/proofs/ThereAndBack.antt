@@ -6,7 +6,7 @@ use Rattle.refusals.specs.Refusals.{served}
 use Rattle.combinatorics.proofs.Cases.{by-eq}
 use Rattle.cells.specs.Codec.{Codec}
 use Rattle.cells.specs.Outcomes.{Encoded}
-use Rattle.construction_a.specs.Figures.{Params}
+use Rattle.cells.specs.Figures.{Params}
 use Rattle.construction_a.specs.Figures.{messageLen as messageLenA}
 use Rattle.construction_a.specs.DemandTwo.{constructionA}
 use Rattle.larsson.specs.Figures.{messageLen as messageLenLarsson}

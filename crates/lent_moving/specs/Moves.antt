@@ -6,7 +6,7 @@ use Prim.Native.Nat.{ℕ}
 use Rattle.refusals.specs.Refusals.{must, invalid, unfit, wrongLength, badPayload}
 use Rattle.cells.specs.Codec.{Codec}
 use Rattle.cells.specs.Outcomes.{Encoded, unwritten}
-use Rattle.construction_a.specs.Figures.{Params, inRange}
+use Rattle.cells.specs.Figures.{Params, inRange}
 use Rattle.construction_a.specs.Figures.{fits as fitsA}
 use Rattle.construction_a.specs.DemandTwo.{constructionA}
 use Rattle.larsson.specs.Figures.{fits as fitsLarsson}

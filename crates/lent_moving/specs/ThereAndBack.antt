@@ -4,7 +4,7 @@ use mathlib.Core.Path.{_≡_}
 use mathlib.Core.List.{List}
 use Prim.Native.Nat.{ℕ}
 use Rattle.refusals.specs.Refusals.{served}
-use Rattle.construction_a.specs.Figures.{Params}
+use Rattle.cells.specs.Figures.{Params}
 use Rattle.construction_a.specs.DemandTwo.{constructionA}
 use Rattle.larsson.specs.Codec.{larsson}
 use Rattle.moving.specs.ThereAndBack.{Returned}

@@ -14,8 +14,8 @@ use Rattle.combinatorics.proofs.Cases.{eqb-true}
 use Rattle.combinatorics.proofs.Lists.{both}
 use Rattle.cells.specs.Codec.{Word}
 use Rattle.cells.specs.Outcomes.{Coding, Encoded, held, inUse, unwritten}
-use Rattle.construction_a.specs.Figures.{maxBursts}
-use Rattle.construction_a.proofs.Figures.{ranged}
+use Rattle.cells.specs.Figures.{maxBursts}
+use Rattle.cells.proofs.Figures.{ranged}
 use Rattle.params.specs.declared.Figures.the-variants.{Ranked, Long}
 use Rattle.params.specs.Bridge.{given, codingOf}
 use Rattle.jobs.specs.Table.{twice}

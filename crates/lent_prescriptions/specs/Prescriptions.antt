@@ -10,7 +10,7 @@ use lib.Ieee.{Float}
 use Rattle.refusals.specs.Refusals.{must, served, invalid, unfit, wrongLength, badPayload}
 use Rattle.cells.specs.Codec.{Word}
 use Rattle.cells.specs.Outcomes.{Coding, held, Encoded, unwritten}
-use Rattle.construction_a.specs.Figures.{Params}
+use Rattle.cells.specs.Figures.{Params}
 use Rattle.construction_a.specs.Outcomes.{coding}
 use Rattle.params.specs.declared.Figures.{Figures}
 use Rattle.params.specs.Bridge.{codingOf}

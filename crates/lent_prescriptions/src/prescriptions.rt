@@ -5,7 +5,7 @@ ghost use lib.ListN.{length};
 ghost use Rattle.cells.specs.Outcomes.{unwritten};
 ghost use Rattle.jobs.specs.Slots.{entries};
 ghost use Rattle.params.specs.Bridge.{codingOf};
-ghost use Rattle.lent_prescriptions.specs.Eyes.{eyeFrom, powersLent};
+ghost use Rattle.lent_prescriptions.specs.Eyes.{powersLent};
 ghost use Rattle.lent_prescriptions.specs.Prescriptions.{prescriptionFrom, prescriptionWriteBytesUnder, handedMarks, handedPowers};
 ghost use Rattle.lent_prescriptions.specs.Prescriptions.{prescriptionReadLent, prescriptionReadBytesUnder, withoutRoom};
 use crate::eyes;
@@ -13,6 +13,7 @@ use jobs::JobTable;
 use lent::starts;
 use lent::table;
 use params::Figures;
+use prescription::eyes::Eye;
 use prescription::texts::Prescription;
 use prescriptioncodec::ReadAnswer;
 use refusals::Refusal;
@@ -25,23 +26,10 @@ const MARKS_LEN: usize = 8;
 // Sphere and cylinder of both eyes, and the pupil distance.
 const POWERS_LEN: usize = 5;
 
-// The prescription that the values of both eyes and the pupil distance are.
-pub fn prescription_from(
-    right_kind: u8,
-    right_sphere: f64,
-    right_cylinder: f64,
-    right_axis: u8,
-    left_kind: u8,
-    left_sphere: f64,
-    left_cylinder: f64,
-    left_axis: u8,
-    distance: f64,
-) -> Prescription
-    ensures { λ r. ⌜ r ≡ prescriptionFrom (eyeFrom «right_kind» «right_sphere» «right_cylinder» «right_axis»)
-        (eyeFrom «left_kind» «left_sphere» «left_cylinder» «left_axis») distance ⌝ }
+// The prescription of both eyes and the pupil distance.
+pub fn of_eyes(right: Eye, left: Eye, distance: f64) -> Prescription
+    ensures { λ r. ⌜ r ≡ prescriptionFrom right left distance ⌝ }
 {
-    let right = eyes::eye_from(right_kind, right_sphere, right_cylinder, right_axis);
-    let left = eyes::eye_from(left_kind, left_sphere, left_cylinder, left_axis);
     Prescription {
         right,
         left,

@@ -2,7 +2,7 @@
 use mathlib.Core.List.{List, [], _∷_, _++_}
 use Prim.Native.Nat.{ℕ, _+_, _*_}
 use Rattle.refusals.specs.Refusals.{served, badRecord}
-use Rattle.construction_a.specs.Figures.{maxWord}
+use Rattle.cells.specs.Figures.{maxWord}
 use Rattle.text.specs.Text.{decimal}
 
 -- the letters S, W and R, and L (document 02, ticket 1); O, C and F are those of calls

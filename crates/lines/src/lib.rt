@@ -3,16 +3,15 @@ ghost use mathlib.Core.Path.{_≡_};
 ghost use mathlib.Core.List.{[], _∷_};
 ghost use Prim.Native.Nat.{_+_, _*_, _≤_};
 ghost use lib.ListN.{length, take, drop};
-ghost use Rattle.construction_a.specs.Figures.{maxWord};
+ghost use Rattle.cells.specs.Figures.{maxWord};
 ghost use Rattle.text.specs.Text.{decimal, hex, overwrite};
 ghost use Rattle.lines.specs.Lines.{space, refusalLine, servedLine, stopLine, endLine, maxLine, letterW, letterR};
 use refusals::Refusal;
+use symbols::numbers::NUMBER_BYTES;
 
 const SPACE: u8 = 32;
 
 const LINE_FEED: u8 = 10;
-
-const NUMBER_BYTES: usize = 4;
 
 // The letter, 0 or the refusal.
 pub fn put_refusal(line: &mut [u8], letter: u8, answer: u8) -> usize

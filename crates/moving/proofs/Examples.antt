@@ -14,11 +14,12 @@ use Rattle.cells.specs.Cells.{weave, pick}
 use Rattle.cells.specs.Digits.{span, spell, value, places}
 use Rattle.cells.specs.Erasures.{foundBound, hasErasure}
 use Rattle.cells.specs.Plan.{cellOf}
-use Rattle.construction_a.specs.Figures.{inRange}
-use Rattle.construction_a.specs.Figures.{parts, blockMin, leastTail, indexTail, fits as fitsA, messageLen as messageLenA}
-use Rattle.construction_a.specs.Writing.{becomes, withBurst, withBursts, isBurst, next, partCount, partWith, chosen, beside, isChosen, isIndexIn}
+use Rattle.cells.specs.Figures.{inRange, leastTail}
+use Rattle.construction_a.specs.Figures.{parts, blockMin, indexTail, fits as fitsA, messageLen as messageLenA}
+use Rattle.cells.specs.Round.{next, later}
+use Rattle.construction_a.specs.Writing.{becomes, withBurst, withBursts, isBurst, partCount, partWith, chosen, beside, isChosen, isIndexIn}
 use Rattle.construction_a.specs.Writing.{isIndex, indexBlocks, isFixed, kindAt as kindAtA, plan as planA, word as wordA}
-use Rattle.construction_a.specs.Reading.{looksFixed, later, bareParts, openBlocks, indexInPart, collect, indexFound, heads, written}
+use Rattle.construction_a.specs.Reading.{looksFixed, bareParts, openBlocks, indexInPart, collect, indexFound, heads, written}
 use Rattle.construction_a.specs.Reading.{agrees as agreesA, readRank, read as readA}
 use Rattle.larsson.specs.Figures.{subLen, gapTotal, gapLen, subStart, fits, messageLen}
 use Rattle.larsson.specs.Writing.{untouched, bears, bearers, inSub, isBorne, kindAt, plan, rankDigits, digits, word}

@@ -15,12 +15,12 @@ use Rattle.combinatorics.proofs.Lists.{both}
 use Rattle.cells.specs.Bytes.{payloadLen}
 use Rattle.cells.specs.Codec.{Codec}
 use Rattle.cells.proofs.Erasures.{found-least}
-use Rattle.construction_a.specs.Figures.{Params, inRange, isPlacement}
+use Rattle.cells.specs.Figures.{Params, inRange, isPlacement, maxBursts}
 use Rattle.construction_a.specs.Figures.{fits as fitsA}
-use Rattle.cells.specs.Outcomes.{Coding, Held, Encoded, maxBursts, unwritten}
+use Rattle.cells.specs.Outcomes.{Coding, Held, Encoded, unwritten}
 use Rattle.construction_a.specs.DemandTwo.{constructionA}
 use Rattle.construction_a.specs.Outcomes.{coding as codingA}
-use Rattle.construction_a.proofs.Figures.{ranged}
+use Rattle.cells.proofs.Figures.{ranged}
 use Rattle.construction_a.proofs.DemandTwo.{demand-two}
 use Rattle.larsson.specs.Figures.{fits as fitsLarsson}
 use Rattle.larsson.specs.Codec.{larsson}

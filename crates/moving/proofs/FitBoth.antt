@@ -14,11 +14,11 @@ use Rattle.cells.specs.Bytes.{payloadLen}
 use Rattle.cells.specs.Codec.{Codec}
 use Rattle.cells.specs.Outcomes.{Coding, Encoded, unwritten, unserved, figuresUnder}
 use Rattle.cells.proofs.Outcomes.{refused-alike}
-use Rattle.construction_a.specs.Figures.{Params, maxWord, maxAlphabet, inRange}
+use Rattle.cells.specs.Figures.{Params, maxWord, maxAlphabet, inRange}
 use Rattle.construction_a.specs.Figures.{fits as fitsA, messageLen as messageLenA}
 use Rattle.construction_a.specs.DemandTwo.{constructionA}
 use Rattle.construction_a.specs.Outcomes.{coding as codingA}
-use Rattle.construction_a.proofs.Figures.{Ranged, ranged}
+use Rattle.cells.proofs.Figures.{Ranged, ranged}
 use Rattle.larsson.specs.Figures.{fits as fitsLarsson, messageLen as messageLenLarsson}
 use Rattle.larsson.specs.Codec.{larsson}
 use Rattle.larsson.specs.Outcomes.{coding as codingLarsson}

@@ -14,9 +14,9 @@ use Rattle.combinatorics.specs.Bursts.{apart}
 use Rattle.combinatorics.proofs.Cases.{eqb-same, eqb-other}
 use Rattle.cells.specs.Bytes.{byteWidth, payloadLen}
 use Rattle.cells.specs.Codec.{Codec, Reading, accepted, refused, LeadsTo}
-use Rattle.cells.specs.Outcomes.{Coding, maxBursts, Held, inUse, held, unwritten, WordAnswer, rankIs, refusal, answerNumber}
+use Rattle.cells.specs.Figures.{maxBursts, Params, maxWord, isPlacement}
+use Rattle.cells.specs.Outcomes.{Coding, Held, inUse, held, unwritten, WordAnswer, rankIs, refusal, answerNumber}
 use Rattle.cells.specs.Outcomes.{Decoded, unread, decodedFrom, encodeUnder, decodeUnder}
-use Rattle.construction_a.specs.Figures.{Params, maxWord, isPlacement}
 use Rattle.placements.specs.declared.Placement.{Placement}
 use Rattle.placements.specs.Bridge.{heldAs, startsIn}
 use Rattle.jobs.specs.declared.Entry.{Entry}

@@ -14,10 +14,10 @@ use Rattle.combinatorics.proofs.Cases.{by-bool, eqb-other}
 use Rattle.cells.specs.Codec.{Codec, Reading, accepted, refused, Word}
 use Rattle.cells.specs.Outcomes.{Encoded, unwritten}
 use Rattle.cells.proofs.Erasures.{found-least}
-use Rattle.construction_a.specs.Figures.{Params, inRange}
+use Rattle.cells.specs.Figures.{Params, inRange}
 use Rattle.construction_a.specs.Figures.{fits as fitsA}
 use Rattle.construction_a.specs.DemandTwo.{constructionA}
-use Rattle.construction_a.proofs.Figures.{ranged}
+use Rattle.cells.proofs.Figures.{ranged}
 use Rattle.larsson.specs.Figures.{fits as fitsLarsson}
 use Rattle.larsson.specs.Codec.{larsson}
 use Rattle.jobs.specs.declared.Entry.{Entry}

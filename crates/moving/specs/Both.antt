@@ -5,7 +5,7 @@ use Prim.Native.Nat.{ℕ}
 use lib.Dec.{eqb}
 use Rattle.refusals.specs.Refusals.{must, invalid, unfit, wrongLength, badPayload}
 use Rattle.cells.specs.Outcomes.{Encoded}
-use Rattle.construction_a.specs.Figures.{Params, inRange}
+use Rattle.cells.specs.Figures.{Params, inRange}
 use Rattle.construction_a.specs.Figures.{fits as fitsA, messageLen as messageLenA}
 use Rattle.larsson.specs.Figures.{fits as fitsLarsson, messageLen as messageLenLarsson}
 use Rattle.larsson_params.specs.Given.{larssonFiguresOf}

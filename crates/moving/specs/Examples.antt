@@ -7,7 +7,7 @@ use Prim.Native.Nat.{ℕ}
 use lib.ListN.{replicate}
 use Rattle.combinatorics.specs.Examples.{Example, example, comesTrue}
 use Rattle.combinatorics.specs.Lists.{all}
-use Rattle.construction_a.specs.Figures.{Params, params}
+use Rattle.cells.specs.Figures.{Params, params}
 use Rattle.cells.specs.Outcomes.{Encoded}
 use Rattle.construction_a.specs.DemandTwo.{constructionA}
 use Rattle.larsson.specs.Codec.{larsson}

@@ -9,7 +9,7 @@ use Rattle.combinatorics.specs.Bursts.{apart}
 use Rattle.cells.specs.Bytes.{payloadLen}
 use Rattle.cells.specs.Codec.{Codec}
 use Rattle.cells.specs.Outcomes.{Coding, Encoded, unwritten}
-use Rattle.construction_a.specs.Figures.{maxWord, maxAlphabet}
+use Rattle.cells.specs.Figures.{maxWord, maxAlphabet}
 use Rattle.construction_a.specs.Figures.{messageLen as messageLenA}
 use Rattle.construction_a.specs.Outcomes.{coding}
 use Rattle.params.specs.declared.Layout.{Layout}

@@ -9,7 +9,7 @@ use Rattle.refusals.specs.Refusals.{must, served, invalid, unfit, wrongLength, 
 use Rattle.combinatorics.specs.Lists.{allBelow}
 use Rattle.cells.specs.Bytes.{payloadLen}
 use Rattle.cells.specs.Codec.{Codec, Reading, accepted, refused}
-use Rattle.construction_a.specs.Figures.{Params, inRange}
+use Rattle.cells.specs.Figures.{Params, inRange}
 use Rattle.construction_a.specs.Figures.{fits as fitsA}
 use Rattle.cells.specs.Outcomes.{Encoded, unwritten}
 use Rattle.construction_a.specs.DemandTwo.{constructionA}

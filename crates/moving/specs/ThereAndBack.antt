@@ -10,7 +10,7 @@ use Rattle.refusals.specs.Refusals.{served}
 use Rattle.combinatorics.specs.Bursts.{inBurst}
 use Rattle.combinatorics.specs.Lists.{allBelow}
 use Rattle.cells.specs.Codec.{Codec, accepted, Word}
-use Rattle.construction_a.specs.Figures.{Params}
+use Rattle.cells.specs.Figures.{Params}
 use Rattle.construction_a.specs.DemandTwo.{constructionA}
 use Rattle.construction_a.specs.Outcomes.{coding as codingA}
 use Rattle.cells.specs.Outcomes.{Held, held, Encoded}

@@ -2,7 +2,7 @@
 -- one that is written. Assumes nothing.
 use Rattle.cells.specs.Codec.{Codec}
 use Rattle.cells.specs.Outcomes.{Coding}
-use Rattle.construction_a.specs.Figures.{Params}
+use Rattle.cells.specs.Figures.{Params}
 use Rattle.construction_a.specs.Outcomes.{coding as codingA}
 use Rattle.larsson.specs.Outcomes.{coding as codingLarsson}
 use Rattle.moving.specs.declared.way.Way.{Way}

@@ -1,7 +1,7 @@
 -- What a caller learns of a layout that was answered. Assumes nothing.
 use mathlib.Core.Path.{_≡_, sym, ap, _∙_, subst}
 use Prim.Native.Nat.{ℕ, _*_, _≤_, _<_}
-use Rattle.construction_a.specs.Figures.{Params, maxWord, maxAlphabet, maxBursts}
+use Rattle.cells.specs.Figures.{Params, maxWord, maxAlphabet, maxBursts}
 use Rattle.construction_a.specs.Outcomes.{unserved, figuresNumber, figuresOut}
 use Rattle.construction_a.proofs.Figures.{Served}
 use Rattle.construction_a.proofs.Outcomes.{figured-served}

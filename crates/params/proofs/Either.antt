@@ -7,8 +7,10 @@ use native.Mathlib.Omega.{arith}
 use Rattle.combinatorics.specs.Bursts.{apart}
 use Rattle.cells.specs.Outcomes.{Coding, unserved, figuresUnder}
 use Rattle.cells.proofs.Outcomes.{figured-fits}
+use Rattle.cells.specs.Figures.{Params}
 use Rattle.construction_a.specs.Figures.{messageLen}
-use Rattle.construction_a.proofs.Figures.{ranged}
+use Rattle.construction_a.specs.Outcomes.{coding as codingA}
+use Rattle.cells.proofs.Figures.{ranged}
 use Rattle.construction_b.specs.Figures.{LongParams, longParams}
 use Rattle.construction_b.specs.Figures as B
 use Rattle.construction_b.specs.Outcomes.{coding as codingB}
@@ -26,30 +28,22 @@ use Rattle.params.specs.Given.{figuresOf, longOf, LongLayoutFits, coding
 use Rattle.params.proofs.Fitting.{laid-fits, shaped}
 use Rattle.params.proofs.LongFitting.{long-shaped}
 
--- the layout's numbers
+-- ---- The layout's numbers
+
+numbered : {d : Coding} {l : Layout} → l .n ≡ d .codec .wordLen → l .q ≡ d .codec .alphabet → l .m ≡ d .bursts → l .b ≡ d .burstLen
+    → l .«placement_count» ≡ d .placementCount → l .«index_tail» ≡ d .indexTail → l .«message_len» ≡ d .codec .messageLen → HasNumbers d l
+numbered n q m b count tail len =
+    record { word-is = n; alphabet-is = q; bursts-is = m; burst-is = b; count-is = count; tail-is = tail; len-is = len }
+
+ranked-numbers : (f : Params) (l : Layout) → LaidOut f l → HasNumbers (codingA f) l
+ranked-numbers f l h = numbered (h .n-is) (h .q-is) (h .m-is) (h .b-is) (h .count-is) (h .tail-is) (h .len-is)
+
+long-numbers : (f : LongParams) (l : Layout) → LongLaidOut f l → HasNumbers (codingB f) l
+long-numbers f l h = numbered (h .n-is) (h .q-is) (h .m-is) (h .b-is) (h .count-is) (h .tail-is) (h .len-is)
+
 pub has-numbers : (f : Figures) (l : Layout) → LaidAs f (Fit l) → HasNumbers (codingOf f) l
-has-numbers (Ranked p) l is =
-    record {
-      word-is = is .n-is;
-      alphabet-is = is .q-is;
-      bursts-is = is .m-is;
-      burst-is = is .b-is;
-      count-is = is .count-is;
-      tail-is = is .tail-is;
-      len-is =
-          is .len-is;
-    }
-has-numbers (Long p) l is =
-    record {
-      word-is = is .n-is;
-      alphabet-is = is .q-is;
-      bursts-is = is .m-is;
-      burst-is = is .b-is;
-      count-is = is .count-is;
-      tail-is = is .tail-is;
-      len-is =
-          is .len-is;
-    }
+has-numbers (Ranked p) l h = ranked-numbers (given p) l h
+has-numbers (Long p) l h = long-numbers (givenLong p) l h
 
 pub small : (f : Figures) → codingOf f .inRange ≡ true → Small (codingOf f)
 unfolding messageLen B.messageLen
@@ -88,26 +82,8 @@ module _ (l : Layout) where
   numbers-in g = go (l .spells) g
     where
       go : (s : Spells) → LayoutFitsWith s l → HasNumbers (codingWith s (figuresOf l)) l
-      go Rank g =
-          record {
-            word-is = refl;
-            alphabet-is = refl;
-            bursts-is = refl;
-            burst-is = refl;
-            count-is = g .laid .count-is;
-            tail-is = g .laid .tail-is;
-            len-is = g .laid .len-is;
-          }
-      go EndOffset g =
-          record {
-            word-is = refl;
-            alphabet-is = refl;
-            bursts-is = g .laid .m-is;
-            burst-is = refl;
-            count-is = g .laid .count-is;
-            tail-is = g .laid .tail-is;
-            len-is = g .laid .len-is;
-          }
+      go Rank g = ranked-numbers (figuresOf l) l (g .laid)
+      go EndOffset g = long-numbers (longOf (figuresOf l)) l (g .laid)
 
   -- the test of starts, by the layout's own numbers
   pub apart-in : Serves l → (ss : List ℕ) → apart (codingIn l .burstLen) (codingIn l .codec .wordLen) 0 ss ≡ apart (l .b) (l .n) 0 ss
@@ -116,9 +92,12 @@ module _ (l : Layout) where
 long-same : {f : LongParams} {n q b : ℕ} → n ≡ f .n → q ≡ f .q → b ≡ f .b → longParams n q b ≡ f
 long-same e₁ e₂ e₃ = rw (e₁, e₂, e₃)
 
--- of an answer that was taken apart: what the layout gives is what the caller's figures give, and they fit
-pub serves : (f : Figures) (r : LayoutAnswer) (l : Layout) → r ≡ Fit l → figuredAs r ≡ figuresUnder (codingOf f) → LaidAs f r
-    → (codingIn l ≡ codingOf f) × Serves l
+-- what the layout gives is what the caller's figures give, and they fit
+abbrev pub ServesAs : Figures → Layout → Type 0
+ServesAs f l = (codingIn l ≡ codingOf f) × Serves l
+
+-- of an answer that was taken apart
+pub serves : (f : Figures) (r : LayoutAnswer) (l : Layout) → r ≡ Fit l → figuredAs r ≡ figuresUnder (codingOf f) → LaidAs f r → ServesAs f l
 serves (Ranked p) r l e answer laid =
     let fit = laid-learnt (Ranked p) r l e answer laid in
     let is : LaidOut (given p) l = subst (LaidIn (given p)) e laid in

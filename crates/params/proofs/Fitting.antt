@@ -5,11 +5,13 @@ use mathlib.Core.List.{List}
 use Prim.Native.Nat.{ℕ, _≤_}
 use native.Mathlib.Omega.{arith}
 use Rattle.cells.specs.Plan.{planIn, Spares}
-use Rattle.construction_a.specs.Figures.{Params, params, inRange, isPlacement, fits, blockMin, messageLen}
+use Rattle.cells.specs.Figures.{Params, params, inRange, isPlacement}
+use Rattle.construction_a.specs.Figures.{fits, blockMin, messageLen}
 use Rattle.construction_a.specs.Outcomes.{figuresOut}
 use Rattle.construction_a.specs.Reading.{headsWith, heads, writtenWith, written}
 use Rattle.construction_a.specs.Writing.{frameWith, kindAt, plan}
-use Rattle.construction_a.proofs.Figures.{Served, serve, placed-starts, message-room}
+use Rattle.cells.proofs.Figures.{placed-starts}
+use Rattle.construction_a.proofs.Figures.{Served, serve, message-room}
 use Rattle.construction_a.proofs.Outcomes.{figured-fits}
 use Rattle.construction_a.proofs.Plan as Plan
 use Rattle.params.specs.declared.Layout.{Layout}

@@ -6,9 +6,11 @@ use native.Mathlib.Nat.{mul-pos, mul-le-mul, le-mul-of-pos-right, div-le-self}
 use native.Mathlib.Omega.{arith}
 use Rattle.refusals.specs.Refusals.{unfit}
 use Rattle.combinatorics.specs.Bursts.{contracted}
-use Rattle.construction_a.specs.Figures.{Params, maxWord, maxBursts, maxCount, inRange, fits, parts, blockMin, placementCount, leastTail, indexTail, messageLen}
+use Rattle.cells.specs.Figures.{Params, maxWord, maxBursts, maxCount, inRange, placementCount, leastTail}
+use Rattle.construction_a.specs.Figures.{fits, parts, blockMin, indexTail, messageLen}
 use Rattle.construction_a.specs.Outcomes.{figured, unserved, figuresOut}
-use Rattle.construction_a.proofs.Figures.{Ranged, ranged, Served, serve, three-parts, parts-few, fitting, unfitting, message-room}
+use Rattle.cells.proofs.Figures.{Ranged, ranged}
+use Rattle.construction_a.proofs.Figures.{Served, serve, three-parts, parts-few, fitting, unfitting, message-room}
 use Rattle.construction_a.proofs.Outcomes.{figures-unfit, figures-served}
 
 -- ---- Figures in range whose bursts a word can hold, and their count

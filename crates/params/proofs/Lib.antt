@@ -7,3 +7,4 @@ pub mod Fitting
 pub mod LongFitting
 pub mod Either
 mod Starting
+mod Former

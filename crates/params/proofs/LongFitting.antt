@@ -7,7 +7,8 @@ use native.Mathlib.Nat.{div-le-self}
 use native.Mathlib.Omega.{arith}
 use Rattle.cells.specs.Cells.{Cell}
 use Rattle.cells.specs.Plan.{planIn, Spares}
-use Rattle.construction_a.specs.Figures.{Params, params, inRange, isPlacement, parts, blockMin}
+use Rattle.cells.specs.Figures.{Params, params, inRange, isPlacement}
+use Rattle.construction_a.specs.Figures.{parts, blockMin}
 use Rattle.construction_a.specs.Reading.{writtenWith}
 use Rattle.construction_a.specs.Writing.{frameWith}
 use Rattle.construction_b.specs.Figures as B

@@ -8,8 +8,8 @@ use Rattle.refusals.specs.Refusals.{unfit}
 use Rattle.combinatorics.proofs.Cases.{leb-holds, leb-fails}
 use Rattle.cells.specs.Outcomes.{figured, unserved, figuresUnder}
 use Rattle.cells.proofs.Outcomes.{figures-unfit, figures-served}
-use Rattle.construction_a.specs.Figures.{maxWord, maxAlphabet, params, leastTail}
-use Rattle.construction_a.specs.Figures as Base
+use Rattle.cells.specs.Figures.{maxWord, maxAlphabet, params, leastTail}
+use Rattle.cells.specs.Figures as Base
 use Rattle.construction_b.specs.Figures.{LongParams, parts, inRange, partMin, partMost, placementCount, indexTail, fits, messageLen}
 use Rattle.construction_b.specs.Outcomes.{coding}
 

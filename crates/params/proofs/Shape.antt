@@ -7,8 +7,10 @@ use native.Mathlib.Omega.{arith}
 use lib.ListN.{getD}
 use Rattle.cells.specs.Cut.{blockHead}
 use Rattle.cells.proofs.Cut.{block-next, block-most}
-use Rattle.construction_a.specs.Figures.{maxWord, maxBursts, parts, blocks, headOf, blockMin}
-use Rattle.construction_a.proofs.Figures.{Ranged, ranged, three-parts, parts-few}
+use Rattle.cells.specs.Figures.{maxWord, maxBursts}
+use Rattle.construction_a.specs.Figures.{parts, blocks, headOf, blockMin}
+use Rattle.cells.proofs.Figures.{Ranged, ranged}
+use Rattle.construction_a.proofs.Figures.{three-parts, parts-few}
 use Rattle.params.specs.declared.Layout.{Layout}
 use Rattle.params.specs.Given.{maxBlocks, figuresOf, Shaped, HeadsOf}
 use Rattle.params.proofs.Answered.{Bounds}

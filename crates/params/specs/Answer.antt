@@ -3,7 +3,8 @@ use mathlib.Core.Path.{_≡_}
 use Prim.Native.Nat.{ℕ, _≤_}
 use Rattle.refusals.specs.Refusals.{served}
 use Rattle.cells.specs.Outcomes.{Coding}
-use Rattle.construction_a.specs.Figures.{Params, maxWord, maxAlphabet, maxBursts, parts, blockMin, placementCount, indexTail, messageLen}
+use Rattle.cells.specs.Figures.{Params, maxWord, maxAlphabet, maxBursts, placementCount}
+use Rattle.construction_a.specs.Figures.{parts, blockMin, indexTail, messageLen}
 use Rattle.construction_a.specs.Outcomes.{FiguresOut, figured, unserved}
 use Rattle.construction_b.specs.Figures.{LongParams}
 use Rattle.construction_b.specs.Figures as B

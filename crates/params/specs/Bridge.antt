@@ -1,6 +1,6 @@
 -- From the structs of the code to the records that the definitions speak of. Assumes nothing.
 use Rattle.cells.specs.Outcomes.{Coding}
-use Rattle.construction_a.specs.Figures.{Params, params}
+use Rattle.cells.specs.Figures.{Params, params}
 use Rattle.construction_a.specs.Outcomes as A
 use Rattle.construction_b.specs.Figures.{LongParams, longParams}
 use Rattle.construction_b.specs.Outcomes as B

@@ -5,8 +5,9 @@ use mathlib.Core.List.{List}
 use Prim.Native.Nat.{ℕ, _+_, _-_, _*_, _≤_, _<_}
 use lib.ListN.{getD}
 use Rattle.cells.specs.Plan.{Frame, Spares}
-use Rattle.construction_a.specs.Figures.{Params, params, maxBursts, inRange, isPlacement, parts, blocks, headOf, blockMin, fits}
-use Rattle.construction_a.specs.Writing.{rank, frameWith}
+use Rattle.cells.specs.Figures.{Params, params, maxBursts, inRange, isPlacement, rank}
+use Rattle.construction_a.specs.Figures.{parts, blocks, headOf, blockMin, fits}
+use Rattle.construction_a.specs.Writing.{frameWith}
 use Rattle.cells.specs.Outcomes.{Coding}
 use Rattle.construction_a.specs.Outcomes.{coding as codingA}
 use Rattle.construction_b.specs.Figures.{LongParams, longParams}

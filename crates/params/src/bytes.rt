@@ -2,9 +2,8 @@
 ghost use mathlib.Core.Path.{_≡_};
 ghost use Prim.Native.Nat.{_≤_};
 ghost use Rattle.cells.specs.Bytes.{byteWidth, payloadLen};
-ghost use Rattle.construction_a.specs.Figures.{maxAlphabet};
-
-pub const BYTE_VALUES: u64 = 256;
+ghost use Rattle.cells.specs.Figures.{maxAlphabet};
+use symbols::numbers::BYTE_VALUES;
 
 // What a byte takes where there are two symbols.
 const MAX_BYTE_WIDTH: usize = 8;

@@ -3,7 +3,7 @@ ghost use mathlib.Core.Path.{_≡_};
 ghost use Prim.Native.Nat.{ℕ, suc, _+_, _≤_, _<_};
 ghost use lib.ListN.{length, getD};
 ghost use Rattle.cells.specs.Cut.{pieceStart};
-ghost use Rattle.construction_a.specs.Figures.{maxWord};
+ghost use Rattle.cells.specs.Figures.{maxWord};
 ghost use Rattle.params.specs.Given.{maxBlocks, figuresOf, Shaped, HeadsOf};
 use crate::Layout;
 use crate::cut;

@@ -2,7 +2,8 @@
 ghost use mathlib.Core.Path.{_≡_};
 ghost use mathlib.Core.Bool.{true};
 ghost use Prim.Native.Nat.{_*_, _≤_};
-ghost use Rattle.construction_a.specs.Figures.{params, inRange, maxCount, placementCount, parts as partsOf};
+ghost use Rattle.cells.specs.Figures.{params, inRange, maxCount, placementCount};
+ghost use Rattle.construction_a.specs.Figures.{parts as partsOf};
 ghost use Rattle.construction_a.specs.Outcomes.{figuresNumber, figuresOut};
 ghost use Rattle.cells.specs.Cut.{blockHead, blockWith};
 ghost use Rattle.cells.specs.Erasures.{foundBound};
@@ -14,6 +15,7 @@ ghost use Rattle.params.specs.Given.{figuresOf, Shaped, HeadsOf};
 use crate::long::LongParams;
 use binomials::CountAnswer;
 use refusals::Refusal;
+use symbols::numbers::BYTE_VALUES;
 
 pub mod bytes;
 pub mod cut;
@@ -209,7 +211,7 @@ impl Layout {
     pub fn found_bound(self) -> u64
         ensures { λ r. ⌜ r ≡ foundBound (self .q) ⌝ }
     {
-        if self.q < bytes::BYTE_VALUES {
+        if self.q < BYTE_VALUES {
             self.q + 1
         } else {
             self.q

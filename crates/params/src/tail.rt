@@ -4,7 +4,7 @@ ghost use mathlib.Core.Path.{_≡_};
 ghost use Prim.Native.Nat.{_*_, _^_, _≤_, min};
 ghost use lib.Dec.{leb};
 ghost use Rattle.combinatorics.specs.Stretch.{first};
-ghost use Rattle.construction_a.specs.Figures.{leastTail};
+ghost use Rattle.cells.specs.Figures.{leastTail};
 
 // The least number of further symbols, below a limit, for which so many index blocks spell at least `count` values; the limit where none is.
 pub fn least_tail(q: u64, blocks: usize, count: u64, limit: usize) -> usize

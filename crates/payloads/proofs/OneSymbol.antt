@@ -8,7 +8,7 @@ use native.Mathlib.Omega.{arith}
 use lib.ListN.{length, getD, take, drop, replicate, drop-of-length-le}
 use lib.Seq.{take-all, getD-drop}
 use Rattle.combinatorics.specs.Lists.{all, allBelow}
-use Rattle.combinatorics.proofs.Stretch.{take-is}
+use Rattle.combinatorics.proofs.Members.{take-is}
 use Rattle.cells.specs.Bytes.{byteValues, byteWidth, payloadLen}
 use Rattle.cells.specs.Digits.{plain, span, spell, value}
 use Rattle.payloads.specs.Payload.{bytePlaces, messageOf, payloadIn, spellsPayload}

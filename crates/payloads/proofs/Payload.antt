@@ -14,7 +14,7 @@ use Rattle.combinatorics.specs.Lists.{all, allBelow}
 use Rattle.combinatorics.specs.Stretch.{tabulate}
 use Rattle.combinatorics.proofs.Cases.{leb-holds}
 use Rattle.combinatorics.proofs.Lists.{both, all-append, all-take, all-drop, all-replicate, all-flat, all-same}
-use Rattle.combinatorics.proofs.Stretch.{length-tabulate, length-flat}
+use Rattle.combinatorics.proofs.Members.{length-tabulate, length-flat}
 use Rattle.cells.specs.Bytes.{byteValues, byteWidth, payloadLen}
 use Rattle.cells.specs.Digits.{plain, span, spell, value}
 use Rattle.cells.proofs.Bytes.{width-enough}

@@ -13,7 +13,7 @@ use lib.ListN.{replicate-append-replicate}
 use lib.Seq.{take-all, take-at, take-suc, length-take-le, drop-cons, drop-set-lt, getD-set-same, lt-length-set}
 use Rattle.combinatorics.specs.Lists.{all, allBelow}
 use Rattle.combinatorics.proofs.Cases.{by-eq, leb-holds, leb-fails}
-use Rattle.combinatorics.proofs.Stretch.{tabulate-at}
+use Rattle.combinatorics.proofs.Members.{tabulate-at}
 use Rattle.cells.specs.Bytes.{byteValues, payloadLen}
 use Rattle.cells.specs.Digits.{plain, span, spell, value}
 use Rattle.cells.proofs.Bytes.{width-most, width-enough}

@@ -4,7 +4,7 @@ use mathlib.Core.List.{List}
 use Prim.Native.Nat.{ℕ, _^_, _≤_, _<_}
 use lib.ListN.{length}
 use Rattle.cells.specs.Bytes.{maxByteWidth, byteWidth, payloadLen}
-use Rattle.construction_a.specs.Figures.{maxAlphabet}
+use Rattle.cells.specs.Figures.{maxAlphabet}
 
 -- an alphabet of bytes, the symbols that a byte takes in it, and the bytes that the message holds
 pub record Measured (q width count : ℕ) (message : List ℕ) : Type 0 where

@@ -7,8 +7,8 @@ use native.Mathlib.Omega.{arith}
 use lib.ListN.{set, replicate}
 use lib.Seq.{append-snoc, set-at}
 use Rattle.combinatorics.specs.Stretch.{tabulate}
-use Rattle.combinatorics.proofs.Stretch.{length-tabulate}
-use Rattle.construction_a.specs.Figures.{maxBursts}
+use Rattle.combinatorics.proofs.Members.{length-tabulate}
+use Rattle.cells.specs.Figures.{maxBursts}
 use Rattle.construction_a.specs.Outcomes.{held}
 
 -- the first j starts, and 0 in the other places

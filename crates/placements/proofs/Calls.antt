@@ -15,8 +15,9 @@ use Rattle.combinatorics.proofs.Cases.{by-bool, eqb-same, eqb-other}
 use Rattle.combinatorics.proofs.Loops.{apart-longer}
 use Rattle.cells.specs.Outcomes.{Coding, inUse, held, defectAt, unserved, figuresUnder, unplaced, coverUnder}
 use Rattle.cells.proofs.Outcomes.{refused-alike}
-use Rattle.construction_a.specs.Figures.{Params, maxWord, maxBursts, maxCount}
-use Rattle.construction_a.proofs.Figures.{Served, ranged}
+use Rattle.cells.specs.Figures.{Params, maxWord, maxBursts, maxCount}
+use Rattle.cells.proofs.Figures.{ranged}
+use Rattle.construction_a.proofs.Figures.{Served}
 use Rattle.construction_b.proofs.Figures.{count-is}
 use Rattle.params.specs.declared.Spells.{Spells}
 use Rattle.params.specs.declared.Spells.the-variants.{Rank, EndOffset}

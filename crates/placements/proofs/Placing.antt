@@ -8,8 +8,8 @@ use lib.Seq.{getD-take, length-take-le}
 use Rattle.combinatorics.specs.Bursts.{apart}
 use Rattle.combinatorics.proofs.Bursts.{Placed, placed-at}
 use Rattle.combinatorics.proofs.Cases.{eqb-same}
-use Rattle.construction_a.specs.Figures.{maxBursts, isPlacement}
-use Rattle.construction_a.proofs.Figures.{placed-starts}
+use Rattle.cells.specs.Figures.{maxBursts, isPlacement}
+use Rattle.cells.proofs.Figures.{placed-starts}
 use Rattle.params.specs.Given.{figuresOf, Shaped}
 use Rattle.params.proofs.Shape.{in-range}
 use Rattle.params.specs.declared.Layout.{Layout}

@@ -8,7 +8,7 @@ use Rattle.combinatorics.specs.Bursts.{placements, startsOf, coverRank}
 use Rattle.combinatorics.specs.Stretch.{lastEnd}
 use Rattle.combinatorics.proofs.Cover.{greedyDown, greedy, greedy-placed, greedy-is}
 use Rattle.combinatorics.proofs.Scan.{burstStart, leftmost, leftmost-none, leftmost-next, greedy-none, greedy-next, greedy-turned, burst-room}
-use Rattle.construction_a.specs.Figures.{maxBursts}
+use Rattle.cells.specs.Figures.{maxBursts}
 use Rattle.construction_a.specs.Outcomes.{held}
 use Rattle.placements.specs.declared.Placement.{Placement}
 use Rattle.placements.specs.Bridge.{heldAs, Room}

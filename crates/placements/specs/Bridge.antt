@@ -10,7 +10,7 @@ use Rattle.combinatorics.specs.Lists.{allBelow}
 use Rattle.combinatorics.specs.Bursts.{apart, placements, rankOf, startsOf, coverRank}
 use Rattle.combinatorics.specs.Stretch.{tabulate}
 use Rattle.cells.specs.Bytes.{byteValues}
-use Rattle.construction_a.specs.Figures.{maxWord, maxBursts, maxCount, isPlacement}
+use Rattle.cells.specs.Figures.{maxWord, maxBursts, maxCount, isPlacement}
 use Rattle.construction_a.specs.Outcomes.{Held, inUse, held, defectAt, Covered, unplaced}
 use Rattle.params.specs.Given.{figuresOf, Shaped}
 use Rattle.params.specs.declared.Layout.{Layout}

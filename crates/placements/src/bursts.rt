@@ -4,7 +4,7 @@ ghost use Prim.Native.Nat.{_^_, _≤_, _<_};
 ghost use lib.ListN.{length};
 ghost use Rattle.combinatorics.specs.Bursts.{inBurst, covers};
 ghost use Rattle.cells.specs.Erasures.{erasedAt};
-ghost use Rattle.construction_a.specs.Figures.{maxBursts};
+ghost use Rattle.cells.specs.Figures.{maxBursts};
 ghost use Rattle.placements.specs.Bridge.{startsIn, burstHas, differAt, WithinWord};
 use crate::Placement;
 

@@ -6,11 +6,11 @@ ghost use Prim.Native.Nat.{_+_, _-_, _≤_, _<_, max};
 ghost use lib.ListN.{length};
 ghost use Rattle.combinatorics.specs.Bursts.{apart, placements, rankOf, startsOf};
 ghost use Rattle.combinatorics.specs.Choose.{choose};
-ghost use Rattle.combinatorics.specs.Rank.{ways};
+ghost use Rattle.combinatorics.specs.Rank.{waysFrom};
 ghost use Rattle.combinatorics.specs.Stretch.{top, lastEnd};
 ghost use Rattle.binomials.specs.Limits.{maxThings, maxChosen};
 ghost use Rattle.cells.specs.Outcomes.{held, defectAt, unplaced as unplacedAs, coverUnder};
-ghost use Rattle.construction_a.specs.Figures.{maxWord, maxBursts, maxCount};
+ghost use Rattle.cells.specs.Figures.{maxWord, maxBursts, maxCount};
 ghost use Rattle.params.specs.Bridge.{codingOf};
 ghost use Rattle.params.specs.Given.{codingIn, Serves};
 ghost use Rattle.placements.specs.Bridge.{heldAs, coveredAs, startsIn, coverable, leastCover, coverWithin, Rankable, Room};
@@ -122,7 +122,7 @@ struct LastBurst {
 // but that one thing can be chosen in as many ways as there are things.
 fn last_burst(below: u64, number: u64, rank: u64) -> LastBurst
     requires { ⌜ (below ≤ maxThings) × (1 ≤ number) × (number ≤ maxChosen) × (choose below number ≤ maxCount) × (rank < choose below number) ⌝ }
-    ensures reduced { λ r. ⌜ r .reduced ≡ top (ways number) below rank ⌝ }
+    ensures reduced { λ r. ⌜ r .reduced ≡ top (waysFrom number) below rank ⌝ }
     ensures share { λ r. ⌜ r .share ≡ choose (r .reduced) number ⌝ }
 {
     if number == 1 {

@@ -3,7 +3,7 @@ ghost use mathlib.Core.Path.{_≡_};
 ghost use Prim.Native.Nat.{_+_, _*_, _≤_};
 ghost use lib.ListN.{length};
 ghost use Rattle.cells.specs.Outcomes.{held};
-ghost use Rattle.construction_a.specs.Figures.{maxBursts};
+ghost use Rattle.cells.specs.Figures.{maxBursts};
 ghost use Rattle.placements.specs.Bridge.{heldAs, startsAt};
 use crate::Placement;
 use symbols::numbers;

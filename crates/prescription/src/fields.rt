@@ -12,12 +12,8 @@ use crate::eyes::Eye;
 use crate::eyes::EyeAnswer;
 use refusals::Refusal;
 
-// A dioptre in eighths, and the largest power and axis.
+// A dioptre in eighths.
 const EIGHTHS: u16 = 8;
-
-const MAX_EIGHTHS: u16 = 240;
-
-const MAX_AXIS: u8 = 180;
 
 // An eye's four fields; sphere and cylinder are the bits of signed counts of eighths.
 pub struct StoredEye {
@@ -25,6 +21,13 @@ pub struct StoredEye {
     pub sphere: u16,
     pub cylinder: u16,
     pub axis: u8,
+}
+
+impl StoredEye {
+    // The largest power, of either sign, and the largest axis.
+    pub const MAX_EIGHTHS: u16 = 240;
+
+    pub const MAX_AXIS: u8 = 180;
 }
 
 pub enum StoredAnswer {
@@ -117,7 +120,7 @@ fn toric_keeps(sphere: u16, sum: u16, cylinder: u16, axis: u8) -> bool
     if axis < 1 {
         return false;
     }
-    axis <= MAX_AXIS
+    axis <= StoredEye::MAX_AXIS
 }
 
 // Whether the bits are those of a count within −240 to 240.
@@ -125,9 +128,9 @@ fn in_range(bits: u16) -> bool
     ensures { λ r. ⌜ r ≡ inPowerRange (countIn bits) ⌝ }
 {
     if bits < 32768 {
-        return bits <= MAX_EIGHTHS;
+        return bits <= StoredEye::MAX_EIGHTHS;
     }
-    65536 - (bits as u32) <= MAX_EIGHTHS as u32
+    65536 - (bits as u32) <= StoredEye::MAX_EIGHTHS as u32
 }
 
 // The eye of four fields that keep the rules, otherwise 16.

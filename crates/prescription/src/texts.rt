@@ -23,12 +23,8 @@ const DISTANCE_AT: usize = 12;
 
 const STORED_LEN: usize = 13;
 
-// A millimetre in halves, and the least and the largest pupil distance in them.
+// A millimetre in halves.
 const HALVES: u16 = 2;
-
-const MIN_HALVES: u8 = 80;
-
-const MAX_HALVES: u8 = 160;
 
 // Both eyes, and the pupil distance in millimetres.
 pub struct Prescription {
@@ -44,6 +40,11 @@ pub enum PrescriptionAnswer {
 }
 
 impl Prescription {
+    // The least and the largest pupil distance, in halves of a millimetre.
+    pub const MIN_HALVES: u8 = 80;
+
+    pub const MAX_HALVES: u8 = 160;
+
     // The prescription of a text: thirteen bytes, then zeros. Refusal 16.
     pub fn read_text(text: &[u8]) -> PrescriptionAnswer
         ensures { λ r. ⌜ prescriptionAnswered r ≡ readTextOut (now (text .entry)) ⌝ }
@@ -102,10 +103,10 @@ fn read_stored(text: &[u8]) -> PrescriptionAnswer
 fn with_distance(right: Eye, left: Eye, halves: u8) -> PrescriptionAnswer
     ensures { λ r. ⌜ prescriptionAnswered r ≡ distanced right left halves ⌝ }
 {
-    if halves < MIN_HALVES {
+    if halves < Prescription::MIN_HALVES {
         return PrescriptionAnswer::Refused(Refusal::PRESCRIPTION);
     }
-    if MAX_HALVES < halves {
+    if Prescription::MAX_HALVES < halves {
         return PrescriptionAnswer::Refused(Refusal::PRESCRIPTION);
     }
     PrescriptionAnswer::Kept(Prescription {
@@ -137,10 +138,10 @@ fn write_stored(text: &mut [u8], right: StoredEye, left: StoredEye, halves: u16)
     requires { ⌜ 13 ≤ length (now text) ⌝ }
     ensures { λ r. ⌜ writtenText r (now (text .exit)) ≡ storedOut (now (text .entry)) right left halves ⌝ }
 {
-    if halves < (MIN_HALVES as u16) {
+    if halves < (Prescription::MIN_HALVES as u16) {
         return Refusal::PRESCRIPTION;
     }
-    if (MAX_HALVES as u16) < halves {
+    if (Prescription::MAX_HALVES as u16) < halves {
         return Refusal::PRESCRIPTION;
     }
     put_stored(text, right, left, halves as u8);

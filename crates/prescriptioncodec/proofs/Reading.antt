@@ -43,7 +43,7 @@ module _ (d : Coding) (es : List Entry) (w : List ℕ) where
 
   -- ---- The word, and what its message spells
 
-  word-first : ReadyUnder d es
+  pub word-first : ReadyUnder d es
       → prescriptionReadUnder d es w
       ≡ must (eqb (length w) (d .codec .wordLen)) (refused wrongLength)
       (must (allBelow (d .codec .foundBound) w) (refused badSymbol) (prescriptionIn (d .codec .alphabet) (d .codec .messageLen) es (d .codec .decode w)))

@@ -19,7 +19,8 @@ use Rattle.cells.specs.Bytes.{byteValues, payloadLen}
 use Rattle.cells.specs.Codec.{Word}
 use Rattle.cells.specs.Digits.{plain, spell, span}
 use Rattle.cells.proofs.Digits.{length-spell, value-spell, value-front, spell-spelled, spelled-plain, span-plain}
-use Rattle.cells.specs.Outcomes.{Coding, maxBursts, Held, inUse, Encoded, unwritten}
+use Rattle.cells.specs.Figures.{maxBursts}
+use Rattle.cells.specs.Outcomes.{Coding, Held, inUse, Encoded, unwritten}
 use Rattle.params.specs.declared.Figures.the-variants.{Ranked, Long}
 use Rattle.params.specs.Bridge.{given, givenLong, codingOf}
 use Rattle.jobs.specs.declared.Entry.{Entry}
@@ -27,7 +28,8 @@ use Rattle.jobs.specs.Table.{twice}
 use Rattle.payloads.specs.Payload.{carriesJob, jobNumber}
 use Rattle.payloads.proofs.Payload.{payload-back, payload-passes}
 use Rattle.jobcodec.specs.DemandThree.{isRefusal}
-use Rattle.jobcodec.proofs.DemandThree.{not-served, read-pair, ReadsWhereFit, reads-a, reads-b}
+use Rattle.jobcodec.proofs.Pairs.{not-served, read-pair}
+use Rattle.jobcodec.proofs.DemandThree.{ReadsWhereFit, reads-a, reads-b}
 use Rattle.jobcodec.proofs.RoundTrip.{passed, written-under, written-gives}
 use Rattle.prescription.specs.declared.texts.Prescription.{Prescription}
 use Rattle.prescription.specs.Lens.{Lens, plano, sphere, toric, keeps}
@@ -39,9 +41,10 @@ use Rattle.prescription.proofs.InMemory.{held-exactly}
 use Rattle.prescription.proofs.TextBack.{text-back}
 use Rattle.prescription.specs.declared.fields.StoredEye.{StoredEye}
 use Rattle.prescriptioncodec.specs.PrescriptionWrite.{numberLen, numberBytes, prescriptionPayload, minPayload, writePrescribed, prescriptionWriteUnder}
-use Rattle.prescriptioncodec.specs.PrescriptionRead.{prescriptionReading, prescriptionReadUnder}
+use Rattle.prescriptioncodec.specs.PrescriptionRead.{prescriptionReadUnder}
 use Rattle.prescriptioncodec.specs.Laws.{ReadBackUnder, PrescriptionsReadBack}
 use Rattle.prescriptioncodec.proofs.Calls.{writes-job}
+use Rattle.prescriptioncodec.proofs.Reading.{word-first}
 
 -- ---- Its bytes are bytes
 
@@ -141,7 +144,6 @@ module _ (d : Coding) (reads : ReadsWhereFit d) (es : List Entry) (at : Held) (n
   prescription-reads : (w : List ℕ) → prescriptionWriteUnder d es at n p out .answer ≡ served → Word (d .codec) w
       → ((i : ℕ) → i < d .codec .wordLen → d .codec .spoilt (inUse at) i ≡ false → getD w i 0 ≡ getD (prescriptionWriteUnder d es at n p out .word) i 0)
       → prescriptionReadUnder d es w ≡ answered (record { number = n; prescription = prescriptionOf x })
-  unfolding prescriptionReading
   prescription-reads w e found outside =
       let c = d .codec in
       let q = c .alphabet in
@@ -154,11 +156,8 @@ module _ (d : Coding) (reads : ReadsWhereFit d) (es : List Entry) (at : Held) (n
       let bytes = payload-below K n x number kept in
       let g = written-gives d es at y out reads sized bytes w wr (λ i l b. outside i l b ∙ ap (λ (r : Encoded). getD (r .word) i 0) job) in
       let r = reads (wr .ready .range) (wr .ready .fit) in
-      rw (
-        wr .ready .range,
-        wr .ready .once,
-        wr .ready .fit,
-        wr .ready .carries,
+      word-first d es w (wr .ready)
+      ∙ rw (
         eqb-same (length w) (c .wordLen) (found .complete),
         found .symbols,
         read-pair c (r .exactly) (r .two) w found (inUse at) y g,

@@ -6,7 +6,8 @@ use Prim.Native.Nat.{ℕ, _^_, _<_}
 use lib.ListN.{length, getD}
 use Rattle.refusals.specs.Refusals.{served}
 use Rattle.cells.specs.Codec.{Word}
-use Rattle.cells.specs.Outcomes.{Coding, maxBursts, Held, inUse}
+use Rattle.cells.specs.Figures.{maxBursts}
+use Rattle.cells.specs.Outcomes.{Coding, Held, inUse}
 use Rattle.params.specs.declared.Figures.{Figures}
 use Rattle.params.specs.Bridge.{codingOf}
 use Rattle.jobs.specs.declared.Entry.{Entry}

@@ -10,7 +10,7 @@ use Rattle.combinatorics.specs.Lists.{allBelow}
 use Rattle.cells.specs.Codec.{Codec, Reading, accepted}
 use Rattle.cells.specs.Codec as codec
 use Rattle.cells.specs.Outcomes.{Coding}
-use Rattle.construction_a.specs.Figures.{Params}
+use Rattle.cells.specs.Figures.{Params}
 use Rattle.construction_a.specs.Outcomes.{coding}
 use Rattle.jobs.specs.declared.Entry.{Entry}
 use Rattle.jobs.specs.Table.{twice}

@@ -4,7 +4,7 @@ use mathlib.Core.List.{List}
 use mathlib.Core.Option.{Option, none, some}
 use Prim.Native.Nat.{ℕ, _+_, _*_, _≤_}
 use lib.ListN.{length}
-use Rattle.cells.specs.Outcomes.{maxBursts}
+use Rattle.cells.specs.Figures.{maxBursts}
 use Rattle.params.specs.Answer.{LaidAs, HasNumbers, Small}
 use Rattle.params.specs.Bridge.{codingOf}
 use Rattle.params.specs.declared.Figures.{Figures}

@@ -7,8 +7,8 @@ use lib.Dec.{ltb, eqb}
 use lib.ListN.{length, getD, drop}
 use Rattle.combinatorics.specs.Stretch.{tabulate}
 use Rattle.cells.specs.Bytes.{byteValues, payloadLen}
-use Rattle.cells.specs.Outcomes.{maxBursts, Held, held, FiguresOut, figured, unserved, figuresUnder}
-use Rattle.construction_a.specs.Figures.{maxWord}
+use Rattle.cells.specs.Figures.{maxBursts, maxWord}
+use Rattle.cells.specs.Outcomes.{Held, held, FiguresOut, figured, unserved, figuresUnder}
 use Rattle.params.specs.declared.Figures.{Figures}
 use Rattle.params.specs.declared.Figures.the-variants.{Ranked, Long}
 use Rattle.params.specs.Bridge.{codingOf}

@@ -8,7 +8,7 @@ use native.Mathlib.Omega.{arith}
 use lib.ListN.{length, getD, set, take, length-set}
 use lib.Seq.{getD-set-same, getD-set-other, take-length}
 use Rattle.combinatorics.proofs.Cases.{by-eq}
-use Rattle.combinatorics.proofs.Stretch.{take-is}
+use Rattle.combinatorics.proofs.Members.{take-is}
 use Rattle.roundtrip.specs.Damage.{damaged}
 
 -- ---- A word that is damaged before position x, and as it was from there on

@@ -11,11 +11,12 @@ use Rattle.combinatorics.specs.Bursts.{apart, inBurst}
 use Rattle.combinatorics.specs.Lists.{allBelow}
 use Rattle.combinatorics.proofs.Cases.{by-bool}
 use Rattle.combinatorics.proofs.Lists.{both, below-at, at-below}
-use Rattle.combinatorics.proofs.Stretch.{length-tabulate, tabulate-at}
+use Rattle.combinatorics.proofs.Members.{length-tabulate, tabulate-at}
 use Rattle.cells.specs.Codec.{LeadsTo, ReadsExactly}
-use Rattle.cells.specs.Outcomes.{Coding, maxBursts, Held, inUse, Encoded, encodeUnder, decodedFrom, decodeUnder}
+use Rattle.cells.specs.Figures.{maxBursts}
+use Rattle.cells.specs.Outcomes.{Coding, Held, inUse, Encoded, encodeUnder, decodedFrom, decodeUnder}
 use Rattle.cells.proofs.Erasures.{found-least}
-use Rattle.construction_a.specs.Figures as AFigures
+use Rattle.cells.specs.Figures as Figures
 use Rattle.construction_a.proofs.DemandTwo as A
 use Rattle.construction_b.specs.Figures as BFigures
 use Rattle.construction_b.proofs.DemandTwo as B
@@ -56,7 +57,7 @@ reads (Long p) = B.demand-two (givenLong p)
 
 -- starts of a placement are apart
 apart-of : (f : Figures) (ss : List ℕ) → codingOf f .codec .placed ss ≡ true → apart (codingOf f .burstLen) (codingOf f .codec .wordLen) 0 ss ≡ true
-unfolding AFigures.isPlacement BFigures.isPlacement
+unfolding Figures.isPlacement BFigures.isPlacement
 apart-of (Ranked p) ss e = both (eqb (length ss) (p .m)) (apart (p .b) (p .n) 0 ss) e .1
 apart-of (Long p) ss e = both (eqb (length ss) 1) (apart (p .b) (p .n) 0 ss) e .1
 

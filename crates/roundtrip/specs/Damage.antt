@@ -5,7 +5,7 @@ use mathlib.Core.List.{List}
 use Prim.Native.Nat.{ℕ, _≤_}
 use lib.ListN.{length, getD}
 use Rattle.combinatorics.specs.Stretch.{tabulate}
-use Rattle.construction_a.specs.Figures.{maxBursts}
+use Rattle.cells.specs.Figures.{maxBursts}
 use Rattle.placements.specs.declared.Placement.{Placement}
 
 -- a word with other symbols at the positions that are spoilt

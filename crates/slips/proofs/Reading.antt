@@ -4,7 +4,7 @@ use mathlib.Core.List.{List}
 use Prim.Native.Nat.{ℕ}
 use Rattle.cells.specs.Codec.{accepted, Word}
 use Rattle.construction_a.specs.DemandTwo.{constructionA}
-use Rattle.construction_a.specs.Figures.{Params}
+use Rattle.cells.specs.Figures.{Params}
 use Rattle.construction_a.specs.Outcomes.{coding, Decoded, decodeAs, decodeOut}
 use Rattle.construction_a.specs.Reading.{read}
 use Rattle.construction_a.specs.Writing.{kindAt}

@@ -11,7 +11,8 @@ use Rattle.combinatorics.specs.Lists.{allBelow}
 use Rattle.combinatorics.specs.Stretch.{count, members, tabulate}
 use Rattle.combinatorics.proofs.Cases.{by-bool, by-eq, eqb-same}
 use Rattle.combinatorics.proofs.Lists.{below-at, some-below, at-below}
-use Rattle.combinatorics.proofs.Stretch.{members-ext, length-members}
+use Rattle.combinatorics.proofs.Members.{length-members}
+use Rattle.combinatorics.proofs.Stretch.{members-ext}
 use Rattle.cells.specs.Cells.{Cell, burst, fixed, digit, message, is, weave, pick}
 use Rattle.cells.specs.Codec.{Codec, accepted, Word, LeadsTo, Exact}
 use Rattle.cells.specs.Digits.{spell, places}
@@ -21,10 +22,12 @@ use Rattle.cells.proofs.Digits.{length-spell, length-places}
 use Rattle.cells.proofs.Erasures.{found-least}
 use Rattle.cells.proofs.Plan.{kind-burst, digit-count as digits-in}
 use Rattle.construction_a.specs.DemandTwo.{constructionA}
-use Rattle.construction_a.specs.Figures.{Params, inRange, fits, indexTail}
-use Rattle.construction_a.specs.Writing.{frame, kindAt, plan, rank, word}
+use Rattle.cells.specs.Figures.{Params, inRange, rank}
+use Rattle.construction_a.specs.Figures.{fits, indexTail}
+use Rattle.construction_a.specs.Writing.{frame, kindAt, plan, word}
 use Rattle.construction_a.proofs.DemandTwo.{demand-two}
-use Rattle.construction_a.proofs.Figures.{serve, placed-starts}
+use Rattle.cells.proofs.Figures.{placed-starts}
+use Rattle.construction_a.proofs.Figures.{serve}
 use Rattle.construction_a.proofs.Plan.{digit-count, message-cells}
 use Rattle.construction_b.specs.DemandTwo.{constructionB}
 use Rattle.construction_b.specs.Figures.{LongParams, inRange as inRangeB, fits as fitsB, indexTail as indexTailB}

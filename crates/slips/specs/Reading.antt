@@ -6,7 +6,8 @@ use Prim.Native.Nat.{ℕ}
 use lib.ListN.{length}
 use Rattle.cells.specs.Codec.{accepted, Word, LeadsTo}
 use Rattle.construction_a.specs.DemandTwo.{constructionA}
-use Rattle.construction_a.specs.Figures.{Params, inRange, fits, messageLen}
+use Rattle.cells.specs.Figures.{Params, inRange}
+use Rattle.construction_a.specs.Figures.{fits, messageLen}
 use Rattle.construction_a.specs.Outcomes.{Decoded, decodeAs}
 use Rattle.construction_a.specs.Writing.{kindAt}
 use Rattle.slips.specs.Slips.{Slips, Stays}

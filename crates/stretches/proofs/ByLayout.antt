@@ -16,7 +16,8 @@ use Rattle.cells.proofs.Plan.{Framed, kind-is}
 use Rattle.cells.proofs.Walk.{tally, tally-count}
 use Rattle.construction_a.specs.Figures.{parts, blocks, headOf}
 use Rattle.construction_a.specs.Writing.{isBurst, isIndex}
-use Rattle.construction_a.proofs.Figures.{Ranged, three-parts}
+use Rattle.cells.proofs.Figures.{Ranged}
+use Rattle.construction_a.proofs.Figures.{three-parts}
 use Rattle.construction_a.proofs.Plan.{index-not-burst, index-count, framed-with, messages-with}
 use Rattle.params.specs.declared.Layout.{Layout}
 use Rattle.params.specs.Given.{figuresOf, frameOf}

@@ -7,7 +7,7 @@ use native.Mathlib.Omega.{arith}
 use lib.ListN.{length, take, drop, replicate, length-drop}
 use lib.Seq.{take-all}
 use Rattle.combinatorics.specs.Stretch.{tabulate}
-use Rattle.combinatorics.proofs.Stretch.{length-tabulate}
+use Rattle.combinatorics.proofs.Members.{length-tabulate}
 use Rattle.cells.specs.Cells.{Cell, message, is, pick}
 use Rattle.cells.proofs.Walk.{tally, tally-append, tally-same, tally-other, plan-stretch, pick-append, pick-same, pick-other}
 use Rattle.stretches.specs.Take.{Taken}

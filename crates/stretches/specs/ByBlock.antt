@@ -8,7 +8,8 @@ use lib.ListN.{length, getD}
 use Rattle.combinatorics.specs.Bursts.{apart}
 use Rattle.cells.specs.Cells.{Cell}
 use Rattle.cells.specs.Plan.{Frame, Spares, kindIn}
-use Rattle.construction_a.specs.Figures.{maxWord, maxBursts, blocks}
+use Rattle.cells.specs.Figures.{maxWord, maxBursts}
+use Rattle.construction_a.specs.Figures.{blocks}
 use Rattle.params.specs.declared.Layout.{Layout}
 use Rattle.params.specs.Given.{figuresOf, maxBlocks, HeadsOf}
 use Rattle.placements.specs.declared.Placement.{Placement}

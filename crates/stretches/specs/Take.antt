@@ -7,7 +7,7 @@ use Rattle.combinatorics.specs.Stretch.{tabulate}
 use Rattle.cells.specs.Cells.{Cell, message, pick}
 use Rattle.cells.specs.Plan.{kindIn}
 use Rattle.cells.proofs.Walk.{tally}
-use Rattle.construction_a.specs.Figures.{maxWord}
+use Rattle.cells.specs.Figures.{maxWord}
 use Rattle.placements.specs.declared.Placement.{Placement}
 use Rattle.placements.specs.Bridge.{startsIn}
 use Rattle.stretches.specs.declared.Walk.{Walk}

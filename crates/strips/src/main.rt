@@ -8,18 +8,8 @@ use placements::CoverAnswer;
 use placements::Placement;
 
 fn main() {
-    figures_row(Params {
-        n: 60,
-        q: 17,
-        m: 2,
-        b: 9,
-    });
-    figures_row(Params {
-        n: 60,
-        q: 17,
-        m: 2,
-        b: 10,
-    });
+    figures_row(strip(60, 17, 2, 9));
+    figures_row(strip(60, 17, 2, 10));
     longer_rows();
     sound_row();
     worn_row();
@@ -46,7 +36,7 @@ fn longer_rows() {
 
 // Symbols that are bytes.
 fn byte_row(n: u32, m: u32, b: u32) {
-    figures_row(Params { n, q: 256, m, b });
+    figures_row(strip(n, 256, m, b));
 }
 
 // The answer to figures alone: T, r and k, or the refusal.
@@ -85,53 +75,57 @@ fn worn_row() {
 fn first_written() {
     let message = [1u8; 20];
     let mut word = [0u8; 30];
-    let at = Placement {
-        starts: [12, 0, 0, 0, 0, 0, 0, 0],
-        count: 1,
-    };
-    let answer = encoder::encode(Figures::Ranked(first_strip()), at, &message, &mut word);
-    written_row(b"start 12, message 1: ", answer, &word);
+    let at = placement(12, 0, 0, 1);
+    write_row(
+        b"start 12, message 1: ",
+        first_strip(),
+        at,
+        &message,
+        &mut word,
+    );
 }
 
 fn second_written() {
     let message = [2u8; 44];
     let mut word = [0u8; 60];
-    let at = Placement {
-        starts: [8, 12, 0, 0, 0, 0, 0, 0],
-        count: 2,
-    };
-    let figures = Params {
-        n: 60,
-        q: 4,
-        m: 2,
-        b: 4,
-    };
-    let answer = encoder::encode(Figures::Ranked(figures), at, &message, &mut word);
-    written_row(b"starts 8 12, message 2: ", answer, &word);
+    let at = placement(8, 12, 0, 2);
+    write_row(
+        b"starts 8 12, message 2: ",
+        strip(60, 4, 2, 4),
+        at,
+        &message,
+        &mut word,
+    );
 }
 
 fn third_written() {
     let message = [2u8; 66];
     let mut word = [0u8; 90];
-    let at = Placement {
-        starts: [22, 30, 65, 0, 0, 0, 0, 0],
-        count: 3,
-    };
-    let figures = Params {
-        n: 90,
-        q: 3,
-        m: 3,
-        b: 3,
-    };
-    let answer = encoder::encode(Figures::Ranked(figures), at, &message, &mut word);
-    written_row(b"starts 22 30 65, message 2: ", answer, &word);
+    let at = placement(22, 30, 65, 3);
+    write_row(
+        b"starts 22 30 65, message 2: ",
+        strip(90, 3, 3, 3),
+        at,
+        &message,
+        &mut word,
+    );
 }
 
-fn written_row(what: &[u8], answer: u8, word: &[u8]) {
+// The answer, and what the word then holds.
+fn write_row(what: &[u8], figures: Params, at: Placement, message: &[u8], word: &mut [u8]) {
+    let answer = encoder::encode(Figures::Ranked(figures), at, message, word);
     put(what, answer as u64);
     io::write_all(libc::STDOUT_FILENO, b" ");
     put_symbols(word);
     end_row();
+}
+
+// Up to three starts.
+fn placement(first: u16, second: u16, third: u16, count: u32) -> Placement {
+    Placement {
+        starts: [first, second, third, 0, 0, 0, 0, 0],
+        count,
+    }
 }
 
 // Word read on the first strip: all 0, all 1, and its word with other symbols in the index block.
@@ -187,13 +181,13 @@ fn put_symbols(symbols: &[u8]) {
     }
 }
 
+// The figures of the first strip, and of any.
 fn first_strip() -> Params {
-    Params {
-        n: 30,
-        q: 2,
-        m: 1,
-        b: 3,
-    }
+    strip(30, 2, 1, 3)
+}
+
+fn strip(n: u32, q: u32, m: u32, b: u32) -> Params {
+    Params { n, q, m, b }
 }
 
 fn cover_row(what: &[u8], found: CoverAnswer) {

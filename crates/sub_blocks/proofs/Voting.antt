@@ -14,11 +14,12 @@ use Rattle.combinatorics.specs.Majority.{isValue, common, hasCommon}
 use Rattle.combinatorics.specs.Stretch.{count, tabulate}
 use Rattle.combinatorics.proofs.Cases.{by-bool}
 use Rattle.combinatorics.proofs.Lists.{same-list, list-same, below-at}
-use Rattle.combinatorics.proofs.Stretch.{count-ext, length-tabulate, take-is, tabulate-at}
+use Rattle.combinatorics.proofs.Members.{length-tabulate, take-is, tabulate-at}
+use Rattle.combinatorics.proofs.Stretch.{count-ext}
 use Rattle.cells.specs.Digits.{value}
 use Rattle.cells.specs.Erasures.{foundBound, hasErasure}
 use Rattle.cells.proofs.Erasures.{found-least, below-whole, whole-below}
-use Rattle.construction_a.specs.Figures.{Params}
+use Rattle.cells.specs.Figures.{Params}
 use Rattle.larsson.specs.Figures.{subLen, subBlocks, subStart}
 use Rattle.larsson.specs.Writing.{rankPlaces}
 use Rattle.larsson.specs.Reading.{subSymbols, subValue, found}

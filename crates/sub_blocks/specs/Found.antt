@@ -8,7 +8,7 @@ use lib.ListN.{length}
 use Rattle.combinatorics.specs.Lists.{allBelow}
 use Rattle.cells.specs.Digits.{value}
 use Rattle.cells.specs.Erasures.{foundBound}
-use Rattle.construction_a.specs.Figures.{Params}
+use Rattle.cells.specs.Figures.{Params}
 use Rattle.larsson.specs.Figures.{subBlocks}
 use Rattle.larsson.specs.Writing.{rankPlaces}
 use Rattle.larsson.specs.Reading.{subSymbols, subValue, found}

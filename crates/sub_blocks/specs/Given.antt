@@ -4,7 +4,7 @@ use mathlib.Core.Bool.{cond}
 use mathlib.Core.List.{List}
 use Prim.Native.Nat.{ℕ, _<_}
 use lib.ListN.{getD}
-use Rattle.construction_a.specs.Figures.{Params}
+use Rattle.cells.specs.Figures.{Params}
 use Rattle.larsson.specs.Figures.{subBlocks}
 use Rattle.larsson.specs.Writing.{bears}
 use Rattle.placements.specs.declared.Placement.{Placement}

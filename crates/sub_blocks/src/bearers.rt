@@ -4,7 +4,7 @@ ghost use mathlib.Core.Path.{_≡_};
 ghost use mathlib.Core.Bool.{cond, _&&_};
 ghost use Prim.Native.Nat.{suc, _+_, _^_, _≤_, _<_};
 ghost use lib.Dec.{ltb};
-ghost use Rattle.construction_a.specs.Figures.{maxWord};
+ghost use Rattle.cells.specs.Figures.{maxWord};
 ghost use Rattle.larsson.specs.Figures.{subBlocks};
 ghost use Rattle.larsson.specs.Writing.{untouched as untouchedIn};
 ghost use Rattle.placements.specs.Bridge.{startsIn};

@@ -10,7 +10,7 @@ use lib.Seq.{length-take-le, take-all, take-suc, take-add}
 use Rattle.combinatorics.specs.Lists.{all, allBelow}
 use Rattle.combinatorics.proofs.Cases.{leb-holds}
 use Rattle.combinatorics.proofs.Lists.{all-append}
-use Rattle.combinatorics.proofs.Stretch.{length-flat}
+use Rattle.combinatorics.proofs.Members.{length-flat}
 use Rattle.text.specs.Text.{hexDigit, hexByte, hex, overwrite}
 use Rattle.text.specs.Nibbles.{nibblesOf, nibbles}
 use Rattle.text.proofs.Line.{Put, put-none, put-then, overwrite-one, length-overwrite, line-take}

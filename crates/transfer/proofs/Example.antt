@@ -13,10 +13,12 @@ use Rattle.cells.specs.Cells.{weave, pick}
 use Rattle.cells.specs.Plan.{cellOf}
 use Rattle.cells.specs.Digits.{span, spell, value, places}
 use Rattle.cells.specs.Erasures.{foundBound, hasErasure}
-use Rattle.construction_a.specs.Figures.{inRange, parts, blockMin, leastTail, indexTail, fits, messageLen}
-use Rattle.construction_a.specs.Writing.{becomes, withBurst, withBursts, isBurst, next, partCount, partWith, chosen, beside, isChosen, isIndexIn, isIndex}
+use Rattle.cells.specs.Figures.{inRange, leastTail}
+use Rattle.construction_a.specs.Figures.{parts, blockMin, indexTail, fits, messageLen}
+use Rattle.cells.specs.Round.{next, later}
+use Rattle.construction_a.specs.Writing.{becomes, withBurst, withBursts, isBurst, partCount, partWith, chosen, beside, isChosen, isIndexIn, isIndex}
 use Rattle.construction_a.specs.Writing.{indexBlocks, isFixed, kindAt, plan, word}
-use Rattle.construction_a.specs.Reading.{looksFixed, later, bareParts, openBlocks, indexInPart, collect, indexFound, heads, written, agrees, readRank, read}
+use Rattle.construction_a.specs.Reading.{looksFixed, bareParts, openBlocks, indexInPart, collect, indexFound, heads, written, agrees, readRank, read}
 use Rattle.construction_b.specs.Figures as BFigures
 use Rattle.construction_b.specs.Writing as BWriting
 use Rattle.construction_b.specs.Reading as BReading

@@ -16,7 +16,7 @@ use Rattle.params.specs.Bridge.{codingOf}
 use Rattle.params.specs.declared.Figures.{Figures}
 use Rattle.jobs.specs.Letters.{kindOf, callBy, isLetter}
 use Rattle.payloads.specs.Payload.{jobNumber}
-use Rattle.records.proofs.Lengths.{reaches}
+use Rattle.records.proofs.Readable.{reaches}
 use Rattle.records.specs.Session.{Session, atStart, maxRecords}
 use Rattle.lines.specs.Lines.{stopLine, endLine, letterS, letterL, letterW, letterR}
 use Rattle.records.specs.Records.{recordHeadLen, letterOf, isMarked, isEmpty, current, writeLen, readLen, recordLen, isWhole, readable, figuresIn}

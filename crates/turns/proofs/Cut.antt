@@ -16,7 +16,7 @@ use Rattle.records.specs.Records.{recordHeadLen, letterOf, isMarked, recordLen,
 use Rattle.transfer.specs.Steps.{Step, stopped, stepOut}
 use Rattle.records.specs.Records.{reach, neededFor}
 use Rattle.transfer.specs.Program.{nextRecord, behind}
-use Rattle.records.proofs.Lengths.{reaches, begun-unmarked, begun-marked, needed-least}
+use Rattle.records.proofs.Readable.{reaches, begun-unmarked, begun-marked, needed-least}
 
 -- ---- How many bytes a record takes
 

@@ -4,6 +4,7 @@ pub mod Pieces
 pub mod Serving
 pub mod After
 pub mod Views
+pub mod Kept
 pub mod Printing
 pub mod Ending
 pub mod Inputs

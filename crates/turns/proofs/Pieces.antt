@@ -16,7 +16,7 @@ use Rattle.records.specs.Records.{recordHeadLen, letterOf, isMarked, recordLen,
 use Rattle.transfer.specs.Steps.{Step, stopped, stepOut}
 use Rattle.records.specs.Records.{reach, begunLen, neededFor}
 use Rattle.transfer.specs.Program.{nextRecord, behind}
-use Rattle.records.proofs.Lengths.{reaches, needed-least, needed-within, begun-readable}
+use Rattle.records.proofs.Readable.{reaches, needed-least, needed-within, begun-readable}
 use Rattle.turns.proofs.Cut.{needed-marked, unmarked}
 
 -- ---- What is still to come changes nothing

@@ -11,7 +11,7 @@ use Rattle.combinatorics.proofs.Lists.{both}
 use Rattle.records.specs.Session.{Session}
 use Rattle.transfer.specs.Steps.{stepOut}
 use Rattle.records.specs.Records.{begunLen, neededFor}
-use Rattle.records.proofs.Lengths.{needed-least}
+use Rattle.records.proofs.Readable.{needed-least}
 use Rattle.turns.specs.declared.Phase.{Phase}
 use Rattle.turns.specs.declared.Phase.the-variants.{Open, Ended, Failed, Done}
 use Rattle.turns.specs.declared.Wants.{Wants}

@@ -30,7 +30,7 @@ use Rattle.turns.specs.View.{advanceOut}
 use Rattle.turns.specs.State.{WithinBuffers, viewOf, waitingIn, Begun, WaitsInFront, Fronted, withMore, repeated, inPhase, isInterrupted, isRepeated}
 use Rattle.turns.specs.State.{afterRead, afterWrite}
 use Rattle.turns.specs.Trace.{Event, came, ended, interrupted, failed, written, unwritten, Answers, afterEvent}
-use Rattle.records.proofs.Lengths.{needed-most}
+use Rattle.records.proofs.Readable.{needed-most}
 use Rattle.turns.proofs.Cut.{drop-take, take-least, drop-least}
 use Rattle.turns.proofs.Serving.{advance-ends, reads}
 

@@ -12,15 +12,17 @@ use Rattle.combinatorics.specs.Bursts.{apart, inBurst, covers}
 use Rattle.combinatorics.specs.Lists.{allBelow}
 use Rattle.combinatorics.proofs.Cases.{eqb-other, eqb-true}
 use Rattle.combinatorics.proofs.Lists.{both}
-use Rattle.combinatorics.proofs.Stretch.{has-ext, length-tabulate}
+use Rattle.combinatorics.proofs.Members.{length-tabulate}
+use Rattle.combinatorics.proofs.Stretch.{has-ext}
 use Rattle.cells.specs.Digits.{spell, places}
 use Rattle.cells.specs.Erasures.{foundBound}
 use Rattle.cells.proofs.Cells.{length-woven}
 use Rattle.construction_a.specs.DemandTwo.{constructionA}
-use Rattle.construction_a.specs.Figures.{Params, maxBursts, inRange, fits, indexTail, messageLen}
+use Rattle.cells.specs.Figures.{Params, maxBursts, inRange, rank}
+use Rattle.construction_a.specs.Figures.{fits, indexTail, messageLen}
 use Rattle.construction_a.specs.Outcomes.{Held, inUse, unserved, figuresOut, Encoded, unwritten, encodeOut}
-use Rattle.construction_a.specs.Writing.{kindAt, plan, rank, word}
-use Rattle.construction_a.proofs.Figures.{ranged}
+use Rattle.construction_a.specs.Writing.{kindAt, plan, word}
+use Rattle.cells.proofs.Figures.{ranged}
 use Rattle.construction_a.proofs.Outcomes.{refused-alike}
 use Rattle.placements.specs.Bridge.{differAt}
 use Rattle.verifier.specs.Verify.{differsAt, agreesOutside, Verdict, agreeing, differing, unchecked, verifyOut}

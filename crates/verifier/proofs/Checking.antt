@@ -17,12 +17,13 @@ use Rattle.combinatorics.proofs.Stretch.{has-none, has-some, has-ext}
 use Rattle.cells.specs.Codec.{Codec, accepted, Word, LeadsTo, Exact}
 use Rattle.cells.specs.Erasures.{foundBound}
 use Rattle.construction_a.specs.DemandTwo.{constructionA}
-use Rattle.construction_a.specs.Figures.{Params, inRange, fits, isPlacement, messageLen}
+use Rattle.cells.specs.Figures.{Params, inRange, isPlacement}
+use Rattle.construction_a.specs.Figures.{fits, messageLen}
 use Rattle.construction_a.specs.Outcomes.{Held, inUse}
 use Rattle.construction_a.specs.Reading.{read}
 use Rattle.construction_a.specs.Writing.{word}
 use Rattle.construction_a.proofs.DemandTwo.{demand-two}
-use Rattle.construction_a.proofs.Figures.{ranged}
+use Rattle.cells.proofs.Figures.{ranged}
 use Rattle.verifier.specs.Verify.{differsAt, agreesOutside, Verdict, agreeing, differing, verifyOut, Checkable, SameOutside, Verifies, VerifiesWords}
 
 -- ---- The test, under any codec

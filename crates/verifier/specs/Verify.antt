@@ -12,10 +12,11 @@ use Rattle.combinatorics.specs.Bursts.{apart, inBurst}
 use Rattle.combinatorics.specs.Lists.{allBelow}
 use Rattle.combinatorics.specs.Stretch.{has}
 use Rattle.cells.specs.Codec.{Codec, accepted}
+use Rattle.cells.specs.Outcomes.{Coding}
 use Rattle.cells.specs.Erasures.{foundBound}
-use Rattle.construction_a.specs.DemandTwo.{constructionA}
-use Rattle.construction_a.specs.Figures.{Params, maxBursts, inRange, fits, messageLen}
-use Rattle.construction_a.specs.Outcomes.{Held, inUse}
+use Rattle.cells.specs.Figures.{Params, maxBursts, inRange}
+use Rattle.construction_a.specs.Figures.{fits, messageLen}
+use Rattle.construction_a.specs.Outcomes.{Held, inUse, coding}
 use Rattle.construction_a.specs.Reading.{read}
 use Rattle.construction_a.specs.Writing.{word}
 
@@ -38,14 +39,19 @@ verdictRefusal differing = served
 verdictRefusal (unchecked a) = a
 
 -- "Malformed lists meet the word writer's refusals in its order, and a value above q in the word is 4": 1 2 3 5 4
+abbrev pub verifyUnder : Coding → Held → List ℕ → List ℕ → Verdict
+verifyUnder d at ms w =
+    let c = d .codec in
+    must (d .inRange) (unchecked invalid)
+    (must (d .fits) (unchecked unfit)
+    (must (eqb (at .count) (d .bursts) && eqb (length ms) (c .messageLen) && eqb (length w) (c .wordLen)) (unchecked wrongLength)
+    (must (apart (d .burstLen) (c .wordLen) 0 (inUse at)) (unchecked badStarts)
+    (must (allBelow (c .alphabet) ms && allBelow (c .foundBound) w) (unchecked badSymbol)
+    (cond (agreesOutside c w (inUse at) ms) agreeing differing)))))
+
+-- under Construction A
 unfoldable pub verifyOut : Params → Held → List ℕ → List ℕ → Verdict
-verifyOut f at ms w =
-    must (inRange f) (unchecked invalid)
-    (must (fits f) (unchecked unfit)
-    (must (eqb (at .count) (f .m) && eqb (length ms) (messageLen f) && eqb (length w) (f .n)) (unchecked wrongLength)
-    (must (apart (f .b) (f .n) 0 (inUse at)) (unchecked badStarts)
-    (must (allBelow (f .q) ms && allBelow (foundBound (f .q)) w) (unchecked badSymbol)
-    (cond (agreesOutside (constructionA f) w (inUse at) ms) agreeing differing)))))
+verifyOut f = verifyUnder (coding f)
 
 -- ---- What the answer means where nothing is refused
 

@@ -1,7 +1,7 @@
 //! The prescription calls. An eye is its kind (0 plano, 1 sphere, 2 toric), its powers in dioptres and its axis in degrees, with 0 for what the kind
 //! doesn't use; what is answered stands in bytes, `marks`, and in doubles, `powers`.
 
-use super::{job_inputs, starts_of, Numbers};
+use super::{job_inputs, write_with, Numbers};
 use crate::job::{payload_len, LEAST_PAYLOAD};
 use crate::prescription::{self, Eye, Prescription};
 
@@ -91,21 +91,10 @@ pub fn prescription_write(
     prescription: PrescriptionNumbers,
     word: &mut [u8],
 ) -> u8 {
-    let (f, book) = match job_inputs(numbers, table) {
-        Ok(inputs) => inputs,
-        Err(refusal) => return refusal,
-    };
-    let wrong_starts = starts.len() != 2 * f.m;
     let prescription = prescription_of(prescription).unwrap_or(NONE);
-    let starts = starts_of(starts);
-    match book {
-        _ if payload_len(&f) < LEAST_PAYLOAD => 10,
-        Some(book) if !wrong_starts => {
-            let starts = &starts[..f.m];
-            prescription::write_prescription(&f, &book, number, &prescription, starts, word)
-        }
-        _ => 3,
-    }
+    write_with(numbers, table, starts, |f, book, starts| {
+        prescription::write_prescription(f, book, number, &prescription, starts, word)
+    })
 }
 
 /// As `marks` come the job number, high byte first, and kind and axis of the right and of the left eye; as `powers` sphere and cylinder of the right and

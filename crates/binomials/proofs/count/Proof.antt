@@ -5,8 +5,8 @@ use native.Mathlib.Omega.{arith}
 use borrow.Author.Needs.{needs}
 use Rattle.combinatorics.specs.Choose.{choose}
 use Rattle.combinatorics.proofs.Cases.{by-le}
-use Rattle.construction_a.specs.Figures.{Counted, counted, maxCount}
-use Rattle.construction_a.proofs.Figures.{count-given, count-over}
+use Rattle.cells.specs.Figures.{Counted, counted, maxCount}
+use Rattle.cells.proofs.Figures.{count-given, count-over}
 use Rattle.binomials.proofs.Bounds.{ways-fit, most-is}
 use Rattle.binomials.proofs.count.Statement.{statement}
 use Rattle.binomials.proofs.count.Tie as tie

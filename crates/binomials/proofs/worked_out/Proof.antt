@@ -5,7 +5,7 @@ use native.Mathlib.Omega.{arith}
 use borrow.Author.Needs.{needs}
 use Rattle.combinatorics.specs.Choose.{choose as waysOf}
 use Rattle.combinatorics.proofs.Choose.{choose-next}
-use Rattle.construction_a.specs.Figures.{maxCount}
+use Rattle.cells.specs.Figures.{maxCount}
 use Rattle.binomials.proofs.Bounds.{ways-fit, most-is}
 use Rattle.binomials.proofs.Orders.{choose-more}
 use Rattle.binomials.proofs.worked_out.Statement.{statement}

@@ -4,8 +4,9 @@ use Prim.Native.Nat.{_+_, _*_, _≤_, _-_}
 use native.Mathlib.Omega.{arith}
 use borrow.Author.Needs.{needs}
 use Rattle.combinatorics.specs.Stretch.{first}
-use Rattle.combinatorics.proofs.Stretch.{first-start, first-here, first-on, first-over}
-use Rattle.construction_a.specs.Writing.{row, next, beside as besideIn}
+use Rattle.combinatorics.proofs.StretchLoops.{first-start, first-here, first-on, first-over}
+use Rattle.cells.specs.Round.{next}
+use Rattle.construction_a.specs.Writing.{row, beside as besideIn}
 use Rattle.blocks.specs.Blocks.{bursts}
 use Rattle.blocks.proofs.BlockSets.{is-burst, no-burst}
 use Rattle.blocks.proofs.beside.Statement.{statement}
@@ -52,8 +53,12 @@ loop-again : tie.Need-loop-again Inv-loop μ-loop
 loop-again c =
     let s = c .before .before .before in
     let a = s .before .args in
-    let w = row (a .m) (bursts (a .kinds .now)) (a .part) in
-    (omega arith, refl, sym (first-on (a .m) (s .loop .j) w (omega arith) (no-burst (a .kinds .now) (a .part * a .m + s .loop .j) (c .if1 .left))) ∙ s .loop .inv .2)
+    let w = row (a .m) (bursts (a .kinds .now)) (a .part) in (
+      omega arith,
+      refl,
+      sym (first-on (a .m) (s .loop .j) w (omega arith) (no-burst (a .kinds .now) (a .part * a .m + s .loop .j) (c .if1 .left)))
+          ∙ s .loop .inv .2,
+    )
 
 following-requires-2 : tie.Need-following-requires-2 Inv-loop μ-loop
 following-requires-2 c κs = search needs

@@ -99,7 +99,13 @@ burst-block-requires c κs =
 array-write-kinds : tie.Need-array-write-kinds Inv-loop μ-loop
 array-write-kinds c =
     let s = c .before .before .before .before .before .before .before .before .before in
-    omega (arith, c .burst-block .ensures .1, blocks-fit (s .args .layout) (s .pre .layout), c .before .before .before .before .before .before .before .loop .inv .2 .size)
+    omega (
+      arith,
+      c .burst-block .ensures .1,
+      blocks-fit (s .args .layout)
+          (s .pre .layout),
+      c .before .before .before .before .before .before .before .loop .inv .2 .size,
+    )
 
 add-j : tie.Need-add-j Inv-loop μ-loop
 add-j c = omega arith

@@ -5,7 +5,7 @@ use Prim.Native.Nat.{_≤_, _-_}
 use native.Mathlib.Omega.{arith}
 use borrow.Author.Needs.{needs}
 use Rattle.combinatorics.specs.Stretch.{first}
-use Rattle.combinatorics.proofs.Stretch.{first-start, first-here, first-on, first-over}
+use Rattle.combinatorics.proofs.StretchLoops.{first-start, first-here, first-on, first-over}
 use Rattle.blocks.specs.Blocks.{bursts}
 use Rattle.blocks.proofs.BlockSets.{is-burst, no-burst}
 use Rattle.blocks.proofs.first_spare.Statement.{statement}

@@ -3,7 +3,7 @@ use mathlib.Core.Path.{sym, _∙_}
 use native.Mathlib.Numerals.{add-one}
 use native.Mathlib.Omega.{arith}
 use borrow.Author.Needs.{needs}
-use Rattle.construction_a.proofs.Rule.{next-inner, next-last}
+use Rattle.cells.proofs.Round.{next-inner, next-last}
 use Rattle.blocks.proofs.following.Statement.{statement}
 use Rattle.blocks.proofs.following.Tie as tie
 

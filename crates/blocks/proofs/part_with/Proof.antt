@@ -7,7 +7,7 @@ use native.Mathlib.Omega.{arith}
 use borrow.Author.Needs.{needs}
 use lib.Dec.{eqb}
 use Rattle.combinatorics.specs.Stretch.{first}
-use Rattle.combinatorics.proofs.Stretch.{first-start, first-here, first-on, first-over}
+use Rattle.combinatorics.proofs.StretchLoops.{first-start, first-here, first-on, first-over}
 use Rattle.construction_a.specs.Writing.{partCount, partWith}
 use Rattle.blocks.specs.Blocks.{bursts}
 use Rattle.blocks.proofs.part_with.Statement.{statement}

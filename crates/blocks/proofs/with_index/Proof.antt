@@ -5,8 +5,9 @@ use native.Mathlib.Nat.{mul-le-mul-right}
 use native.Mathlib.Omega.{arith}
 use borrow.Author.Needs.{needs}
 use lib.ListN.{getD}
-use Rattle.construction_a.specs.Writing.{Chosen, whole, chosen, isIndexIn, next, partWith}
-use Rattle.construction_a.proofs.Rule.{next-lt}
+use Rattle.cells.specs.Round.{next}
+use Rattle.construction_a.specs.Writing.{Chosen, whole, chosen, isIndexIn, partWith}
+use Rattle.cells.proofs.Round.{next-lt}
 use Rattle.blocks.specs.Blocks.{bursts, marked}
 use Rattle.blocks.proofs.Marks.{chosen-full, chosen-bare, chosen-each, each-some}
 use Rattle.blocks.proofs.with_index.Statement.{statement}

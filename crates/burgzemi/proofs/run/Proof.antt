@@ -93,52 +93,42 @@ write-all-requires c κs = search needs
 after-write-requires : tie.Need-after-write-requires Inv-loop μ-loop
 after-write-requires c κs = search needs
 
-advance-requires : tie.Need-advance-requires Inv-loop μ-loop
-advance-requires c κs =
-    let t = c .before .before .before .before .before .loop in
-    let w = c .before .before .before .before .wants in
-    let m = c .before .before .before .match in
-    let a : Answered (t .state) (m .state) (t .input) (m .input) (t .output) =
+-- the system has answered a reading or a writing
+answered : (c : tie.At-match-came Inv-loop μ-loop) → (let t = c .before .before .loop in let m = c .match in
+    Answered (t .state) (m .state) (t .input) (m .input) (t .output))
+answered c =
+    let t = c .before .before .loop in
+    let w = c .before .wants in
+    let m = c .match in
     ⊎-elim
     (λ x. read-answered (t .state) (t .input) (t .output) (t .inv) (w .result) (w .ensures) (x .1 .given .1) (x .3 .result) (x .6 .result)
     (x .3 .last .1 .0) (m .input) (m .state) (x .3 .ensures) (x .4 .given .0)
     (x .9 ∙ x .7 .ensures ∙ told-read (t .state) (x .3 .result) (x .6 .result) (record { sfits = x .3 .ok }) (record { sfits = x .6 .ok })) (x .8))
     (λ x. write-answered (t .state) (t .input) (t .output) (t .inv) (w .result) (w .ensures) (x .1 .given .1) (x .3 .result) (m .input) (m .state)
-    (x .6 ∙ x .4 .ensures) (x .5)) (m .came) in
-    ((a .size, t .inv .buffers .1), a .within)
+    (x .6 ∙ x .4 .ensures) (x .5)) (m .came)
+
+advance-requires : tie.Need-advance-requires Inv-loop μ-loop
+advance-requires c κs =
+    let e = c .before .before .before in
+    let a = answered e in
+    ((a .size, e .before .before .loop .inv .buffers .1), a .within)
 
 loop-less : tie.Need-loop-less Inv-loop μ-loop
 loop-less c =
-    let t = c .before .before .before .before .before .before .before .before .before .before .loop in
-    let w = c .before .before .before .before .before .before .before .before .before .wants in
-    let m = c .before .before .before .before .before .before .before .before .match in
-    let a : Answered (t .state) (m .state) (t .input) (m .input) (t .output) =
-    ⊎-elim
-    (λ x. read-answered (t .state) (t .input) (t .output) (t .inv) (w .result) (w .ensures) (x .1 .given .1) (x .3 .result) (x .6 .result)
-    (x .3 .last .1 .0) (m .input) (m .state) (x .3 .ensures) (x .4 .given .0)
-    (x .9 ∙ x .7 .ensures ∙ told-read (t .state) (x .3 .result) (x .6 .result) (record { sfits = x .3 .ok }) (record { sfits = x .6 .ok })) (x .8))
-    (λ x. write-answered (t .state) (t .input) (t .output) (t .inv) (w .result) (w .ensures) (x .1 .given .1) (x .3 .result) (m .input) (m .state)
-    (x .6 ∙ x .4 .ensures) (x .5)) (m .came) in
+    let e = c .before .before .before .before .before .before .before .before in
+    let t = e .before .before .loop in
     let v = c .before .before .before .before .advance in
-    turn-less (t .state) (t .input) (t .output) (t .inv) (m .state) (v .result) (m .input) (v .last .1 .0) (v .last .1 .1 .0) a (v .ensures .0)
-    (v .ensures .1 .1 .1)
+    turn-less (t .state) (t .input) (t .output) (t .inv) (e .match .state) (v .result) (e .match .input) (v .last .1 .0) (v .last .1 .1 .0) (answered e)
+    (v .ensures .0) (v .ensures .1 .1 .1)
 
 loop-again : tie.Need-loop-again Inv-loop μ-loop
 loop-again c =
-    let t = c .before .before .before .before .before .before .before .before .before .before .loop in
-    let w = c .before .before .before .before .before .before .before .before .before .wants in
-    let m = c .before .before .before .before .before .before .before .before .match in
-    let a : Answered (t .state) (m .state) (t .input) (m .input) (t .output) =
-    ⊎-elim
-    (λ x. read-answered (t .state) (t .input) (t .output) (t .inv) (w .result) (w .ensures) (x .1 .given .1) (x .3 .result) (x .6 .result)
-    (x .3 .last .1 .0) (m .input) (m .state) (x .3 .ensures) (x .4 .given .0)
-    (x .9 ∙ x .7 .ensures ∙ told-read (t .state) (x .3 .result) (x .6 .result) (record { sfits = x .3 .ok }) (record { sfits = x .6 .ok })) (x .8))
-    (λ x. write-answered (t .state) (t .input) (t .output) (t .inv) (w .result) (w .ensures) (x .1 .given .1) (x .3 .result) (m .input) (m .state)
-    (x .6 ∙ x .4 .ensures) (x .5)) (m .came) in
+    let e = c .before .before .before .before .before .before .before .before in
+    let t = e .before .before .loop in
     let v = c .before .before .before .before .advance in
-    turn-going (t .state) (t .input) (t .output) (t .inv) (m .state) (v .result) (m .input) (v .last .1 .0) (v .last .1 .1 .0) a (v .ensures .0)
-    (v .ensures .1 .1 .1)
-    (search needs, search needs) (v .ensures .1 .0) (v .ensures .1 .1 .0)
+    let a = answered e in
+    turn-going (t .state) (t .input) (t .output) (t .inv) (e .match .state) (v .result) (e .match .input) (v .last .1 .0) (v .last .1 .1 .0) a (v .ensures .0)
+    (v .ensures .1 .1 .1) (search needs, search needs) (v .ensures .1 .0) (v .ensures .1 .1 .0)
 
 pub run-spec : {M : Type 1} → statement M
 run-spec =

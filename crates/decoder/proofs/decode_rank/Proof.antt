@@ -8,9 +8,9 @@ use borrow.Author.Needs.{needs}
 use borrow.Author.Tests.{not-true, not-false}
 use lib.ListN.{take}
 use Rattle.cells.specs.Outcomes.{held, decodedFrom}
-use Rattle.construction_a.specs.Figures.{Params, maxWord, parts, placementCount}
+use Rattle.cells.specs.Figures.{Params, maxWord, placementCount, rank, placementOf}
+use Rattle.construction_a.specs.Figures.{parts}
 use Rattle.construction_a.specs.Reading.{written, agrees, readRank}
-use Rattle.construction_a.specs.Writing.{rank, placementOf}
 use Rattle.construction_a.proofs.Figures.{Served}
 use Rattle.construction_a.proofs.Ranking.{rank-bijection}
 use Rattle.params.specs.Given.{figuresOf}

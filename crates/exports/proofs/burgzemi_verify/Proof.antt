@@ -2,7 +2,7 @@
 use mathlib.Core.Path.{_≡_, sym, ap, _∙_}
 use Prim.Native.Nat.{ℕ}
 use borrow.Author.Needs.{needs}
-use Rattle.construction_a.specs.Figures.{params}
+use Rattle.cells.specs.Figures.{params}
 use Rattle.construction_a.specs.Outcomes.{Held}
 use Rattle.verifier.specs.Answer.{verdictAs}
 use Rattle.verifier.specs.Verify.{verifyOut}

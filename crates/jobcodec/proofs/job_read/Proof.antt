@@ -6,7 +6,7 @@ use Rattle.params.specs.Answer.{figuredAs}
 use Rattle.params.specs.Bridge.{codingOf}
 use Rattle.jobs.specs.Slots.{entries}
 use Rattle.jobcodec.specs.JobRead.{JobRead, jobReadUnder}
-use Rattle.jobcodec.proofs.Calls.{read-twice, read-unfit, laid}
+use Rattle.jobcodec.proofs.Calls.{read-twice, read-unfit, LaidFor, laid}
 use Rattle.jobcodec.proofs.job_read.Statement.{statement}
 use Rattle.jobcodec.proofs.job_read.Tie as tie
 
@@ -31,21 +31,22 @@ enum-known-answer c = search needs
 enum-known-answer-2 : tie.Need-enum-known-answer-2
 enum-known-answer-2 c = search needs
 
+-- the layout that was answered
+learnt : (c : tie.After-answer2)
+    → (let a = c .before .before .before .before .before .before .before .args in LaidFor (a .figures) (entries (a .table)) (c .answer2 .given .0 .0))
+learnt c =
+    let r = c .before .before .layout in
+    laid _ _ (r .result) _ (c .answer2 .given .1) (r .ensures) (sym (c .before .before .before .before .twice .ensures) ∙ c .before .before .before .if1 .left)
+
 read-laid-requires : tie.Need-read-laid-requires
-read-laid-requires c κs =
-    let a = c .before .before .before .before .before .before .before .before .before .args in
-    let told = c .before .before .answer2 .given in
-    let figured = c .before .before .before .before .layout in
-    laid (a .figures) (entries (a .table)) (figured .result) (told .0 .0) (told .1) (figured .ensures .0) (figured .ensures .1)
-    (sym (c .before .before .before .before .before .before .twice .ensures) ∙ c .before .before .before .before .before .if1 .left) .1
+read-laid-requires c κs = learnt (c .before .before) .fitting
 
 returns-2 : tie.Need-returns-2
 returns-2 c =
     let a = c .before .before .before .before .before .before .before .before .args in
-    let f = codingOf (a .figures) in
     let told = c .before .answer .given in
     let figured = c .before .before .before .layout in
-    each (sym (read-unfit f (entries (a .table)) (a .word .now) (a .payload .now) (told .0 .0)
+    each (sym (read-unfit (codingOf (a .figures)) (entries (a .table)) (a .word .now) (a .payload .now) (told .0 .0)
     (sym (c .before .before .before .before .before .twice .ensures) ∙ c .before .before .before .before .if1 .left)
     (sym (figured .ensures .0) ∙ ap figuredAs (told .1))))
 
@@ -55,12 +56,8 @@ same-length c = search needs
 returns-3 : tie.Need-returns-3
 returns-3 c =
     let a = c .before .before .before .before .before .before .before .before .before .before .before .before .args in
-    let told = c .before .before .before .before .before .answer2 .given in
-    let figured = c .before .before .before .before .before .before .before .layout in
-    let same = laid (a .figures) (entries (a .table)) (figured .result) (told .0 .0) (told .1) (figured .ensures .0) (figured .ensures .1)
-    (sym (c .before .before .before .before .before .before .before .before .before .twice .ensures)
-    ∙ c .before .before .before .before .before .before .before .before .if1 .left) .0 in
-    each (c .before .before .read-laid .ensures ∙ ap (λ (d : Coding). jobReadUnder d (entries (a .table)) (a .word .now) (a .payload .now)) same)
+    each (c .before .before .read-laid .ensures
+    ∙ ap (λ (d : Coding). jobReadUnder d (entries (a .table)) (a .word .now) (a .payload .now)) (learnt (c .before .before .before .before .before) .same))
 
 pub job-read-spec : {M : Type 1} → statement M
 job-read-spec =

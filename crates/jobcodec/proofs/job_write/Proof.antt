@@ -7,7 +7,7 @@ use Rattle.params.specs.Bridge.{codingOf}
 use Rattle.placements.specs.Bridge.{heldAs}
 use Rattle.jobs.specs.Slots.{entries}
 use Rattle.jobcodec.specs.JobWrite.{jobWriteUnder}
-use Rattle.jobcodec.proofs.Calls.{write-twice, write-unfit, laid}
+use Rattle.jobcodec.proofs.Calls.{write-twice, write-unfit, LaidFor, laid}
 use Rattle.jobcodec.proofs.job_write.Statement.{statement}
 use Rattle.jobcodec.proofs.job_write.Tie as tie
 
@@ -33,21 +33,22 @@ enum-known-answer c = search needs
 enum-known-answer-2 : tie.Need-enum-known-answer-2
 enum-known-answer-2 c = search needs
 
+-- the layout that was answered
+learnt : (c : tie.After-answer2)
+    → (let a = c .before .before .before .before .before .before .before .args in LaidFor (a .figures) (entries (a .table)) (c .answer2 .given .0 .0))
+learnt c =
+    let r = c .before .before .layout in
+    laid _ _ (r .result) _ (c .answer2 .given .1) (r .ensures) (sym (c .before .before .before .before .twice .ensures) ∙ c .before .before .before .if1 .left)
+
 write-laid-requires : tie.Need-write-laid-requires
-write-laid-requires c κs =
-    let a = c .before .before .before .before .before .before .before .before .before .args in
-    let told = c .before .before .answer2 .given in
-    let figured = c .before .before .before .before .layout in
-    laid (a .figures) (entries (a .table)) (figured .result) (told .0 .0) (told .1) (figured .ensures .0) (figured .ensures .1)
-    (sym (c .before .before .before .before .before .before .twice .ensures) ∙ c .before .before .before .before .before .if1 .left) .1
+write-laid-requires c κs = learnt (c .before .before) .fitting
 
 returns-2 : tie.Need-returns-2
 returns-2 c =
     let a = c .before .before .before .before .before .before .before .before .args in
-    let f = codingOf (a .figures) in
     let told = c .before .answer .given in
     let figured = c .before .before .before .layout in
-    each (sym (write-unfit f (entries (a .table)) (heldAs (a .at)) (a .payload .now) (a .word .now) (told .0 .0)
+    each (sym (write-unfit (codingOf (a .figures)) (entries (a .table)) (heldAs (a .at)) (a .payload .now) (a .word .now) (told .0 .0)
     (sym (c .before .before .before .before .before .twice .ensures) ∙ c .before .before .before .before .if1 .left)
     (sym (figured .ensures .0) ∙ ap figuredAs (told .1))))
 
@@ -57,13 +58,8 @@ same-length c = search needs
 returns-3 : tie.Need-returns-3
 returns-3 c =
     let a = c .before .before .before .before .before .before .before .before .before .before .before .before .args in
-    let told = c .before .before .before .before .before .answer2 .given in
-    let figured = c .before .before .before .before .before .before .before .layout in
-    let same = laid (a .figures) (entries (a .table)) (figured .result) (told .0 .0) (told .1) (figured .ensures .0) (figured .ensures .1)
-    (sym (c .before .before .before .before .before .before .before .before .before .twice .ensures)
-    ∙ c .before .before .before .before .before .before .before .before .if1 .left) .0 in
     each (c .before .before .write-laid .ensures ∙ ap (λ (d : Coding). jobWriteUnder d (entries (a .table)) (heldAs (a .at)) (a .payload .now)
-    (a .word .now)) same)
+    (a .word .now)) (learnt (c .before .before .before .before .before) .same))
 
 pub job-write-spec : {M : Type 1} → statement M
 job-write-spec =

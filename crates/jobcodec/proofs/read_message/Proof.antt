@@ -68,10 +68,7 @@ hand-out-requires c κs =
     let s = c .before .before .before .before .before .before .before .before .before .before .before in
     let told = c .before .before .enum-told .given in
     let d = c .before .before .before .before .before .before .read-spelled in
-    let same : length (d .last .1 .1 .0) ≡ length (s .args .message .now) = search needs in
-    holding (s .args .layout) (entries (s .args .table)) (s .args .word .now) (s .args .message .now) (d .last .1 .1 .0) (s .args .payload .now)
-    (s .pre) same (d .ensures .1)
-    (told .0 .0) (ap answerAs (sym (told .1)) ∙ d .ensures .0)
+    holding (s .pre) (s .args .word .now) (d .last .1 .1 .0) (search needs) (d .ensures .1) (told .0 .0) (ap answerAs (sym (told .1)) ∙ d .ensures .0)
 
 same-length-2 : tie.Need-same-length-2
 same-length-2 c = search needs

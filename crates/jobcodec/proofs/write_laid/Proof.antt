@@ -8,7 +8,7 @@ use lib.Seq.{length-take-le}
 use Rattle.combinatorics.proofs.Lists.{at-below}
 use Rattle.cells.specs.Bytes.{byteValues, payloadLen}
 use Rattle.cells.specs.Outcomes.{unwritten, encodeUnder}
-use Rattle.construction_a.specs.Figures.{maxWord}
+use Rattle.cells.specs.Figures.{maxWord}
 use Rattle.params.specs.Given.{shortWord, codingIn}
 use Rattle.params.proofs.Either.{numbers-in}
 use Rattle.placements.specs.Bridge.{heldAs}

@@ -4,12 +4,18 @@ use borrow.Author.Needs.{needs}
 use Rattle.cells.specs.Outcomes.{Coding}
 use Rattle.params.specs.Answer.{figuredAs}
 use Rattle.params.specs.Bridge.{codingOf}
-use Rattle.params.proofs.Either.{serves}
+use Rattle.params.proofs.Either.{ServesAs, serves}
 use Rattle.lanes.specs.Interleaving.{interleaved}
 use Rattle.lanes.specs.Outcomes.{interleaveUnder}
 use Rattle.lanes.proofs.Outcomes.{unfit-alike}
 use Rattle.lanes.proofs.interleave.Statement.{statement}
 use Rattle.lanes.proofs.interleave.Tie as tie
+
+-- the layout that was answered
+learnt : (c : tie.After-answer2) → ServesAs (c .before .before .before .before .before .args .figures) (c .answer2 .given .0 .0)
+learnt c =
+    let r = c .before .before .layout in
+    serves (c .before .before .before .before .before .args .figures) (r .result) _ (c .answer2 .given .1) (r .ensures .0) (r .ensures .1)
 
 layout-requires : tie.Need-layout-requires
 layout-requires c κs = search needs
@@ -21,11 +27,7 @@ enum-known-answer-2 : tie.Need-enum-known-answer-2
 enum-known-answer-2 c = search needs
 
 interleave-fitting-requires : tie.Need-interleave-fitting-requires
-interleave-fitting-requires c κs =
-    let s = c .before .before .before .before .before .before .before in
-    let figures = c .before .before .before .before .layout in
-    let told = c .before .before .answer2 .given in
-    serves (s .args .figures) (figures .result) (told .0 .0) (told .1) (figures .ensures .0) (figures .ensures .1) .1
+interleave-fitting-requires c κs = learnt (c .before .before) .1
 
 returns : tie.Need-returns
 returns c =
@@ -42,10 +44,8 @@ same-length c = search needs
 returns-2 : tie.Need-returns-2
 returns-2 c =
     let s = c .before .before .before .before .before .before .before .before .before .before in
-    let figures = c .before .before .before .before .before .before .before .layout in
-    let layout = c .before .before .before .before .before .answer2 .given in
-    let same = serves (s .args .figures) (figures .result) (layout .0 .0) (layout .1) (figures .ensures .0) (figures .ensures .1) .0 in
-    c .before .before .interleave-fitting .ensures ∙ ap (λ (k : Coding). interleaveUnder k (s .args .depth) (s .args .words .now) (s .args .strip .now)) same
+    c .before .before .interleave-fitting .ensures ∙ ap (λ (k : Coding). interleaveUnder k (s .args .depth) (s .args .words .now) (s .args .strip .now))
+    (learnt (c .before .before .before .before .before) .0)
 
 pub interleave-spec : {M : Type 1} → statement M
 interleave-spec =

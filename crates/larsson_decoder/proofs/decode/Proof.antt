@@ -2,7 +2,7 @@
 use mathlib.Core.Path.{_≡_, sym, ap, _∙_}
 use borrow.Author.Needs.{needs}
 use Rattle.cells.specs.Outcomes.{decodeUnder}
-use Rattle.construction_a.specs.Figures.{Params}
+use Rattle.cells.specs.Figures.{Params}
 use Rattle.larsson.specs.Codec.{Listed}
 use Rattle.larsson.specs.Outcomes.{coding}
 use Rattle.larsson.proofs.Exact.{larsson-exact}

@@ -11,7 +11,7 @@ use Rattle.cells.specs.Bytes.{byteValues}
 use Rattle.cells.specs.Codec.{accepted}
 use Rattle.cells.specs.Erasures.{foundBound}
 use Rattle.cells.specs.Outcomes.{Coding, decodedFrom, decodeUnder}
-use Rattle.construction_a.specs.Writing.{placementOf}
+use Rattle.cells.specs.Figures.{placementOf}
 use Rattle.larsson.specs.Outcomes.{coding}
 use Rattle.larsson.specs.Reading.{read}
 use Rattle.decoder.specs.Answer.{decodedAs}

@@ -12,8 +12,8 @@ use Rattle.combinatorics.proofs.Bursts.{of-placed}
 use Rattle.cells.specs.Cells.{message as messageCell, pick}
 use Rattle.cells.specs.Erasures.{erasedAt}
 use Rattle.cells.specs.Outcomes.{Held, decodedFrom}
-use Rattle.construction_a.specs.Figures.{Params}
-use Rattle.construction_a.proofs.Figures.{placed-starts}
+use Rattle.cells.specs.Figures.{Params}
+use Rattle.cells.proofs.Figures.{placed-starts}
 use Rattle.larsson.specs.Writing.{plan}
 use Rattle.stretches.specs.declared.Walk.{Walk}
 use Rattle.placements.specs.Bridge.{heldAs, startsIn}

@@ -4,7 +4,7 @@ use mathlib.Core.List.{[]}
 use native.Mathlib.Omega.{arith}
 use borrow.Author.Needs.{needs}
 use Rattle.combinatorics.proofs.Bursts.{rank-of-starts}
-use Rattle.construction_a.specs.Writing.{placementOf}
+use Rattle.cells.specs.Figures.{placementOf}
 use Rattle.larsson.proofs.Walking.{count-some}
 use Rattle.placements.specs.Bridge.{heldAs}
 use Rattle.larsson_params.specs.declared.LarssonLayout.{LarssonLayout}

@@ -2,7 +2,7 @@
 use mathlib.Core.Path.{sym, ap, _∙_}
 use borrow.Author.Needs.{needs}
 use Rattle.cells.specs.Outcomes.{Encoded, encodeUnder}
-use Rattle.construction_a.specs.Figures.{Params}
+use Rattle.cells.specs.Figures.{Params}
 use Rattle.larsson.specs.Outcomes.{coding}
 use Rattle.params.specs.Bridge.{given}
 use Rattle.larsson_params.specs.Answer.{larssonFiguredAs}

@@ -8,7 +8,7 @@ use Rattle.combinatorics.specs.Stretch.{first}
 use Rattle.cells.specs.Cut.{pieceLen}
 use Rattle.cells.specs.Outcomes.{figured}
 use Rattle.cells.proofs.Cut.{len-most}
-use Rattle.construction_a.specs.Figures.{Params}
+use Rattle.cells.specs.Figures.{Params}
 use Rattle.params.specs.Bridge.{given}
 use Rattle.larsson_params.proofs.Laying.{Searched, in-range, sub-is, blocks-unfit, blocks-fit, gaps-is, burst-unfit, taken-fits, len-is, figured-as}
 use borrow.Author.Needs.{needs}

@@ -5,8 +5,8 @@ use native.Mathlib.Nat.{mul-le-mul-right}
 use native.Mathlib.Omega.{arith}
 use borrow.Author.Needs.{needs}
 use borrow.Author.Tests.{not-true, not-false}
-use Rattle.construction_a.specs.Figures.{Params, params, inRange}
-use Rattle.construction_a.proofs.Figures.{ranged}
+use Rattle.cells.specs.Figures.{Params, params, inRange}
+use Rattle.cells.proofs.Figures.{ranged}
 use Rattle.cells.proofs.Outcomes.{figures-invalid}
 use Rattle.larsson.specs.Outcomes.{coding}
 use Rattle.larsson_params.proofs.Laying.{misfit}

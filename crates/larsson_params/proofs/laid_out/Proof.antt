@@ -4,8 +4,8 @@ use Prim.Native.Nat.{ℕ, _≤_, _<_}
 use native.Mathlib.Omega.{arith}
 use borrow.Author.Needs.{needs}
 use Rattle.combinatorics.specs.Bursts.{placements}
-use Rattle.construction_a.specs.Figures.{Params, maxCount, placementCount}
-use Rattle.construction_a.proofs.Figures.{Ranged, ranged}
+use Rattle.cells.specs.Figures.{Params, maxCount, placementCount}
+use Rattle.cells.proofs.Figures.{Ranged, ranged}
 use Rattle.binomials.proofs.Counting.{ways-learnt, many-learnt}
 use Rattle.params.specs.Bridge.{given}
 use Rattle.params.proofs.Laying.{contracted-fits}

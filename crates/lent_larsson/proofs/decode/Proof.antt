@@ -1,7 +1,7 @@
 -- `decode` meets its contract: 1, 2, or what figures that fit give. Assumes nothing.
 use mathlib.Core.Path.{_≡_, sym, ap, _∙_}
 use borrow.Author.Needs.{needs}
-use Rattle.construction_a.specs.Figures.{Params}
+use Rattle.cells.specs.Figures.{Params}
 use Rattle.larsson.specs.Outcomes.{coding}
 use Rattle.params.specs.Bridge.{given}
 use Rattle.larsson_params.specs.Answer.{larssonFiguredAs}

@@ -2,7 +2,7 @@
 use mathlib.Core.Path.{sym}
 use native.Mathlib.Omega.{arith}
 use borrow.Author.Needs.{needs}
-use Rattle.construction_a.proofs.Figures.{placed-starts}
+use Rattle.cells.proofs.Figures.{placed-starts}
 use Rattle.larsson.specs.Codec.{Listed}
 use Rattle.larsson.specs.Outcomes.{coding}
 use Rattle.larsson.proofs.Exact.{larsson-exact}

@@ -4,7 +4,7 @@ use Prim.Native.Nat.{ℕ}
 use native.Mathlib.Omega.{arith}
 use borrow.Author.Needs.{needs}
 use Rattle.cells.specs.Bytes.{payloadLen}
-use Rattle.construction_a.specs.Figures.{Params}
+use Rattle.cells.specs.Figures.{Params}
 use Rattle.params.specs.Bridge.{given}
 use Rattle.larsson_params.specs.Answer.{larssonFiguredAs}
 use Rattle.larsson_params.specs.Given.{larssonFiguresOf, LarssonLayoutFits}

@@ -25,9 +25,7 @@ returns c =
     refl (λ z. c .if1 .taken (e ∙ z))
 
 table-in-requires : tie.Need-table-in-requires
-table-in-requires c κs =
-    let a = c .before .before .before .before .before .args in
-    passed (given (a .figures)) (a .table .now) (sym (c .before .table-refusal .ensures) ∙ c .if1 .left) .0
+table-in-requires c κs = passed _ _ (sym (c .before .table-refusal .ensures) ∙ c .if1 .left) .0
 
 move-to-larsson-requires : tie.Need-move-to-larsson-requires
 move-to-larsson-requires c κs = search needs

@@ -6,7 +6,7 @@ use native.Mathlib.Omega.{arith}
 use borrow.Author.Needs.{needs}
 use lib.ListN.{length, take, drop, replicate}
 use Rattle.cells.specs.Outcomes.{Coding, rankIs, Decoded, decodeUnder}
-use Rattle.construction_a.specs.Figures.{Params, maxWord}
+use Rattle.cells.specs.Figures.{Params, maxWord}
 use Rattle.larsson_params.specs.Given.{larssonFiguresOf}
 use Rattle.placements.specs.Bridge.{heldAs}
 use Rattle.decoder.specs.declared.WordAnswer.{WordAnswer}

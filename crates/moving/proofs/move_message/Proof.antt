@@ -6,8 +6,8 @@ use borrow.Author.Needs.{needs}
 use lib.ListN.{length, take, drop, replicate}
 use Rattle.cells.specs.Bytes.{payloadLen}
 use Rattle.cells.specs.Outcomes.{Coding}
-use Rattle.construction_a.specs.Figures.{maxWord}
-use Rattle.construction_a.proofs.Figures.{Ranged, ranged}
+use Rattle.cells.specs.Figures.{maxWord}
+use Rattle.cells.proofs.Figures.{Ranged, ranged}
 use Rattle.larsson_params.specs.Given.{larssonFiguresOf}
 use Rattle.jobs.specs.Slots.{entries}
 use Rattle.moving.specs.Way.{codingTo}

@@ -3,7 +3,7 @@ use mathlib.Core.Path.{_≡_, sym, ap, subst, _∙_}
 use mathlib.Core.Bool.{false}
 use borrow.Author.Needs.{needs}
 use lib.ListN.{length}
-use Rattle.construction_a.specs.Figures.{Params}
+use Rattle.cells.specs.Figures.{Params}
 use Rattle.params.specs.Bridge.{given}
 use Rattle.larsson_params.specs.Given.{larssonFiguresOf}
 use Rattle.jobs.specs.Slots.{entries}

@@ -8,7 +8,7 @@ use borrow.Author.Needs.{needs}
 use borrow.Author.Tests.{not-true, not-false}
 use lib.ListN.{length, drop, replicate}
 use Rattle.cells.specs.Bytes.{payloadLen}
-use Rattle.construction_a.specs.Figures.{maxWord}
+use Rattle.cells.specs.Figures.{maxWord}
 use Rattle.jobs.specs.Slots.{entries}
 use Rattle.payloads.specs.Payload.{messageOf, payloadIn, spellsPayload}
 use Rattle.moving.specs.Resize.{resized}

@@ -1,8 +1,9 @@
 -- `spelled_value` meets its contract: the first i symbols are taken in. Assumes nothing.
-use Prim.Native.Nat.{_-_, _≤_}
+use Prim.Native.Nat.{_+_, _-_, _*_, _^_, _≤_, _<_}
 use native.Mathlib.Omega.{arith}
 use borrow.Author.Needs.{needs}
-use Rattle.cells.specs.Bytes.{maxByteWidth}
+use lib.ListN.{getD}
+use Rattle.cells.specs.Bytes.{byteValues, maxByteWidth}
 use Rattle.payloads.proofs.Spelling.{Taken, taken-none, taken-turn, taken-fits, taken-all}
 use Rattle.payloads.proofs.spelled_value.Statement.{statement}
 use Rattle.payloads.proofs.spelled_value.Tie as tie
@@ -22,27 +23,25 @@ shared-slice-read-digit c = search needs
 cast-digit : tie.Need-cast-digit Inv-loop μ-loop
 cast-digit c = omega (arith, c .shared-slice-known .given (c .before .before .loop .i))
 
-mul-value : tie.Need-mul-value Inv-loop μ-loop
-mul-value c =
+-- the symbol is a byte, and the value with it fits
+byte : (c : tie.After-shared-slice-known Inv-loop μ-loop)
+    → getD (c .before .before .before .args .symbols .now) (c .before .before .loop .i) 0 < byteValues
+byte c = omega (arith, c .shared-slice-known .given (c .before .before .loop .i))
+
+next-fits : (c : tie.After-shared-slice-known Inv-loop μ-loop)
+    → (let a = c .before .before .before .args in let t = c .before .before .loop in
+    t .value * a .q + getD (a .symbols .now) (t .i) 0 < byteValues ^ maxByteWidth)
+next-fits c =
     let s = c .before .before .before in
     let a = s .args in
     let t = c .before .before .loop in
-    omega (
-      arith,
-      taken-fits (a .q) (a .width) (a .symbols .now) (s .pre .bytes) (t .i) (t .value)
-          (omega (arith, c .shared-slice-known .given (t .i))) maxByteWidth (omega arith) (s .pre .short) (t .inv .1),
-    )
+    taken-fits (a .q) (a .width) (a .symbols .now) (s .pre .bytes) (t .i) (t .value) (byte c) maxByteWidth (omega arith) (s .pre .short) (t .inv .1)
+
+mul-value : tie.Need-mul-value Inv-loop μ-loop
+mul-value c = omega (arith, next-fits c)
 
 add-value : tie.Need-add-value Inv-loop μ-loop
-add-value c =
-    let s = c .before .before .before in
-    let a = s .args in
-    let t = c .before .before .loop in
-    omega (
-      arith,
-      taken-fits (a .q) (a .width) (a .symbols .now) (s .pre .bytes) (t .i) (t .value)
-          (omega (arith, c .shared-slice-known .given (t .i))) maxByteWidth (omega arith) (s .pre .short) (t .inv .1),
-    )
+add-value c = omega (arith, next-fits c)
 
 add-i : tie.Need-add-i Inv-loop μ-loop
 add-i c = search needs
@@ -56,8 +55,7 @@ loop-again c =
     let a = s .args in
     let t = c .before .before .loop in (
       omega arith,
-      taken-turn (a .q) (a .width) (a .symbols .now) (s .pre .bytes) (t .i) (t .value) (omega (arith, c .shared-slice-known .given (t .i)))
-          (omega arith) (s .pre .room) (t .inv .1),
+      taken-turn (a .q) (a .width) (a .symbols .now) (s .pre .bytes) (t .i) (t .value) (byte c) (omega arith) (s .pre .room) (t .inv .1),
     )
 
 returns : tie.Need-returns Inv-loop μ-loop

@@ -4,7 +4,7 @@ use Prim.Native.Nat.{ℕ, suc, _+_, _*_, _-_, _/_, _≤_, _<_}
 use native.Mathlib.Omega.{arith}
 use borrow.Author.Needs.{needs}
 use Rattle.combinatorics.specs.Choose.{choose}
-use Rattle.combinatorics.specs.Rank.{ways}
+use Rattle.combinatorics.specs.Rank.{waysFrom}
 use Rattle.combinatorics.proofs.Choose.{absorb, choose-zero, choose-mono, choose-of-none}
 use Rattle.combinatorics.proofs.Cases.{by-le}
 use Rattle.combinatorics.proofs.Stretch.{top-is, top-only}
@@ -27,9 +27,9 @@ returns : tie.Need-returns Inv-loop μ-loop
 returns c =
     let a = c .before .args in
     let one : (n : ℕ) → choose n (a .number) ≡ n = λ n. ap (choose n) (c .if1 .taken) ∙ choose-one n in (
-      top-only (ways (a .number)) (λ x y h. choose-mono (a .number) h)
+      top-only (waysFrom (a .number)) (λ x y h. choose-mono (a .number) h)
           (record { below = omega (arith, one (a .below), c .before .pre .4); reach = omega (arith, one (a .rank)); past = omega (arith, one (suc (a .rank))) })
-          (top-is (ways (a .number)) (a .below) (a .rank) (omega (arith, one 0)) (c .before .pre .4)),
+          (top-is (waysFrom (a .number)) (a .below) (a .rank) (omega (arith, one 0)) (c .before .pre .4)),
       sym (one (a .rank)),
     )
 
@@ -39,7 +39,7 @@ loop-holds c =
     let none = choose-of-none (a .number) (omega arith) in
     let some : 0 < a .below =
     by-le 1 (a .below) (λ _. 0 < a .below) (λ l. l)
-    (λ l. let z : a .below ≡ 0 = omega arith in absurd (omega (arith, ap (ways (a .number)) z))) in
+    (λ l. let z : a .below ≡ 0 = omega arith in absurd (omega (arith, ap (waysFrom (a .number)) z))) in
     (some, omega arith, omega arith, search needs, sym none)
 
 add-loop : tie.Need-add-loop Inv-loop μ-loop
@@ -76,9 +76,9 @@ returns-2 c =
     let l = c .before .loop in
     let e : l .high ≡ suc (l .low) = omega arith in
     let none = choose-of-none (a .number) (omega arith) in (
-      top-only (ways (a .number)) (λ x y h. choose-mono (a .number) h)
+      top-only (waysFrom (a .number)) (λ x y h. choose-mono (a .number) h)
           (record { below = omega arith; reach = l .inv .2; past = subst (λ (h : ℕ). a .rank < choose h (a .number)) e (l .inv .3) })
-          (top-is (ways (a .number)) (a .below) (a .rank) (omega arith) (search needs)),
+          (top-is (waysFrom (a .number)) (a .below) (a .rank) (omega arith) (search needs)),
       l .inv .4,
     )
 

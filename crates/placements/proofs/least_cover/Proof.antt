@@ -6,7 +6,7 @@ use borrow.Author.Needs.{needs}
 use Rattle.combinatorics.specs.Bursts.{placements, coverRank}
 use Rattle.combinatorics.proofs.Cases.{leb-holds, leb-fails}
 use Rattle.combinatorics.proofs.Scan.{burstStart, burst-room, last-stays, scan-covers, scan-fails}
-use Rattle.construction_a.specs.Figures.{maxWord}
+use Rattle.cells.specs.Figures.{maxWord}
 use Rattle.construction_a.specs.Outcomes.{defectAt}
 use Rattle.placements.proofs.Scanning.{Scanning, scan-first, start-is, scan-turn, end-is, found-is}
 use Rattle.placements.proofs.least_cover.Statement.{statement}

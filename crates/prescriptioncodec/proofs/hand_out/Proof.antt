@@ -1,7 +1,9 @@
 -- `hand_out` meets its contract: 16 before the table is asked. Assumes nothing.
-use mathlib.Core.Path.{sym, ap, _∙_}
+use mathlib.Core.Path.{_≡_, sym, ap, _∙_}
+use mathlib.Core.List.{List}
 use Prim.Native.Nat.{ℕ}
 use borrow.Author.Needs.{needs}
+use lib.ListN.{drop}
 use Rattle.cells.proofs.Walk.{rest-is}
 use Rattle.jobs.specs.Jobs.{needsOpen}
 use Rattle.jobs.specs.Slots.{entries}
@@ -40,15 +42,20 @@ enum-told c = search needs
 same-length : tie.Need-same-length
 same-length c = search needs
 
+-- the payload that the message spells, and what its text answers
+abbrev payload : tie.After-read-text → List ℕ
+payload c = c .before .before .before .before .before .unspell .last .1 .1 .1 .0
+
+text-answers : (c : tie.After-read-text) → prescriptionAnswered (c .read-text .result) ≡ readTextOut (drop numberLen (payload c))
+text-answers c = c .read-text .ensures ∙ ap readTextOut (rest-is numberLen (payload c))
+
 returns : tie.Need-returns
 returns c =
-    let s = c .before .before .before .before .before .before .before .before .before .before .before .before in
-    let es = entries (s .args .table) in
-    let y = c .before .before .before .before .before .before .before .unspell .last .1 .1 .1 .0 in
-    let text = c .before .before .read-text in
+    let t = c .before .before in
+    let es = entries (t .before .before .before .before .before .before .before .before .before .before .args .table) in
     let told = c .enum-told .given in
-    no-prescription es y (told .0 .0) (ap prescriptionAnswered (sym (told .1)) ∙ text .ensures ∙ ap readTextOut (rest-is numberLen y))
-    ∙ ap (ofPayload es) (c .before .before .before .before .before .before .before .unspell .ensures)
+    no-prescription es (payload t) (told .0 .0) (ap prescriptionAnswered (sym (told .1)) ∙ text-answers t)
+    ∙ ap (ofPayload es) (t .before .before .before .before .before .unspell .ensures)
 
 job-number-requires : tie.Need-job-number-requires
 job-number-requires c κs = search needs
@@ -61,30 +68,26 @@ same-length-2 c = search needs
 
 returns-2 : tie.Need-returns-2
 returns-2 c =
-    let s = c .before .before .before .before .before .before .before .before .before .before .before .before .before .before .before .before .before in
-    let es = entries (s .args .table) in
-    let y = c .before .before .before .before .before .before .before .before .before .before .before .before .unspell .last .1 .1 .1 .0 in
-    let text = c .before .before .before .before .before .before .before .read-text in
+    let t = c .before .before .before .before .before .before .before in
+    let es = entries (t .before .before .before .before .before .before .before .before .before .before .args .table) in
     let told = c .before .before .before .before .before .answer .given in
-    not-open es y (told .0 .0) (ap prescriptionAnswered (sym (told .1)) ∙ text .ensures ∙ ap readTextOut (rest-is numberLen y)) (c .before .needs-open .result)
+    not-open es (payload t) (told .0 .0) (ap prescriptionAnswered (sym (told .1)) ∙ text-answers t) (c .before .needs-open .result)
     (c .before .needs-open .ensures ∙ ap (λ (n : ℕ). needsOpen (standing (lookup es n))) (c .before .before .job-number .ensures)) (c .if1 .taken)
-    ∙ ap (ofPayload es) (c .before .before .before .before .before .before .before .before .before .before .before .before .unspell .ensures)
+    ∙ ap (ofPayload es) (t .before .before .before .before .before .unspell .ensures)
 
 same-length-3 : tie.Need-same-length-3
 same-length-3 c = search needs
 
 returns-3 : tie.Need-returns-3
 returns-3 c =
-    let s = c .before .before .before .before .before .before .before .before .before .before .before .before .before .before .before .before .before in
-    let es = entries (s .args .table) in
-    let y = c .before .before .before .before .before .before .before .before .before .before .before .before .unspell .last .1 .1 .1 .0 in
-    let text = c .before .before .before .before .before .before .before .read-text in
+    let t = c .before .before .before .before .before .before .before in
+    let es = entries (t .before .before .before .before .before .before .before .before .before .before .args .table) in
     let told = c .before .before .before .before .before .answer .given in
     let number = c .before .before .job-number in
     ap (λ (n : ℕ). answered (record { number = n; prescription = told .0 .0 })) (number .ensures)
-    ∙ handed es y (told .0 .0) (ap prescriptionAnswered (sym (told .1)) ∙ text .ensures ∙ ap readTextOut (rest-is numberLen y))
+    ∙ handed es (payload t) (told .0 .0) (ap prescriptionAnswered (sym (told .1)) ∙ text-answers t)
     (ap (λ (n : ℕ). needsOpen (standing (lookup es n))) (sym (number .ensures)) ∙ sym (c .before .needs-open .ensures) ∙ c .if1 .left)
-    ∙ ap (ofPayload es) (c .before .before .before .before .before .before .before .before .before .before .before .before .unspell .ensures)
+    ∙ ap (ofPayload es) (t .before .before .before .before .before .unspell .ensures)
 
 pub hand-out-spec : {M : Type 1} → statement M
 hand-out-spec =

@@ -4,7 +4,7 @@ use borrow.Author.Needs.{needs}
 use Rattle.params.specs.Bridge.{codingOf}
 use Rattle.params.specs.Answer.{figuredAs}
 use Rattle.jobs.specs.Slots.{entries}
-use Rattle.jobcodec.proofs.Calls.{laid}
+use Rattle.jobcodec.proofs.Calls.{LaidFor, laid}
 use Rattle.cells.specs.Outcomes.{Coding}
 use Rattle.prescriptioncodec.specs.PrescriptionRead.{prescriptionReadUnder}
 use Rattle.prescriptioncodec.proofs.Reading.{read-twice, read-unfit}
@@ -28,13 +28,15 @@ enum-known-answer c = search needs
 enum-known-answer-2 : tie.Need-enum-known-answer-2
 enum-known-answer-2 c = search needs
 
+-- the layout that was answered
+learnt : (c : tie.After-answer2)
+    → (let a = c .before .before .before .before .before .before .args in LaidFor (a .figures) (entries (a .table)) (c .answer2 .given .0 .0))
+learnt c =
+    let r = c .before .before .layout in
+    laid _ _ (r .result) _ (c .answer2 .given .1) (r .ensures) (sym (c .before .before .before .before .twice .ensures) ∙ c .before .before .before .if1 .left)
+
 read-laid-requires : tie.Need-read-laid-requires
-read-laid-requires c κs =
-    let a = c .before .before .before .before .before .before .before .args in
-    let told = c .before .answer2 .given in
-    let figured = c .before .before .before .layout in
-    laid (a .figures) (entries (a .table)) (figured .result) (told .0 .0) (told .1) (figured .ensures .0) (figured .ensures .1)
-    (sym (c .before .before .before .before .before .twice .ensures) ∙ c .before .before .before .before .if1 .left) .1
+read-laid-requires c κs = learnt (c .before) .fitting
 
 returns-2 : tie.Need-returns-2
 returns-2 c =
@@ -48,11 +50,7 @@ returns-2 c =
 returns-3 : tie.Need-returns-3
 returns-3 c =
     let a = c .before .before .before .before .before .before .before .before .args in
-    let told = c .before .before .answer2 .given in
-    let figured = c .before .before .before .before .layout in
-    let same = laid (a .figures) (entries (a .table)) (figured .result) (told .0 .0) (told .1) (figured .ensures .0) (figured .ensures .1)
-    (sym (c .before .before .before .before .before .before .twice .ensures) ∙ c .before .before .before .before .before .if1 .left) .0 in
-    c .read-laid .ensures ∙ ap (λ (d : Coding). prescriptionReadUnder d (entries (a .table)) (a .word .now)) same
+    c .read-laid .ensures ∙ ap (λ (d : Coding). prescriptionReadUnder d (entries (a .table)) (a .word .now)) (learnt (c .before .before) .same)
 
 pub prescription-read-spec : {M : Type 1} → statement M
 prescription-read-spec =

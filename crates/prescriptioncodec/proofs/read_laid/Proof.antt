@@ -5,7 +5,7 @@ use native.Mathlib.Omega.{arith}
 use borrow.Author.Needs.{needs}
 use lib.ListN.{take, replicate}
 use Rattle.cells.specs.Bytes.{payloadLen}
-use Rattle.construction_a.specs.Figures.{maxWord}
+use Rattle.cells.specs.Figures.{maxWord}
 use Rattle.params.specs.Given.{codingIn}
 use Rattle.params.specs.Given.{shortWord}
 use Rattle.jobs.specs.Slots.{entries}

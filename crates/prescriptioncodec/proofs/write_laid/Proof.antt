@@ -7,7 +7,7 @@ use borrow.Author.Tests.{not-true, not-false}
 use lib.ListN.{length, take, replicate}
 use Rattle.cells.specs.Bytes.{payloadLen}
 use Rattle.cells.specs.Outcomes.{Coding}
-use Rattle.construction_a.specs.Figures.{maxWord}
+use Rattle.cells.specs.Figures.{maxWord}
 use Rattle.params.specs.Answer.{HasNumbers}
 use Rattle.params.specs.Given.{shortWord, codingIn}
 use Rattle.params.specs.declared.Layout.{Layout}

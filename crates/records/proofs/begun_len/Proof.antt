@@ -4,7 +4,7 @@ use mathlib.Core.Option.{none}
 use borrow.Author.Needs.{needs}
 use Rattle.records.specs.Records.{letterOf, recordLen}
 use Rattle.records.specs.Bridge.{sessionOf}
-use Rattle.records.proofs.Lengths.{begun-short, begun-first, begun-second, begun-both, begun-measured}
+use Rattle.records.proofs.Readable.{begun-short, begun-first, begun-second, begun-both, begun-measured}
 use Rattle.records.proofs.begun_len.Statement.{statement}
 use Rattle.records.proofs.begun_len.Tie as tie
 

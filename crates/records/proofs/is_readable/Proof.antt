@@ -2,7 +2,7 @@
 use mathlib.Core.Path.{sym}
 use borrow.Author.Needs.{needs}
 use Rattle.records.specs.Bridge.{sessionOf}
-use Rattle.records.proofs.Lengths.{none-unreadable, some-readable}
+use Rattle.records.proofs.Readable.{none-unreadable, some-readable}
 use Rattle.records.proofs.is_readable.Statement.{statement}
 use Rattle.records.proofs.is_readable.Tie as tie
 

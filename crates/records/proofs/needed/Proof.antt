@@ -1,7 +1,7 @@
 -- `needed` meets its contract: mark and letter where no record begins so, or the record's length. Assumes nothing.
 use borrow.Author.Needs.{needs}
 use Rattle.records.specs.Bridge.{sessionOf}
-use Rattle.records.proofs.Lengths.{needed-none, needed-some}
+use Rattle.records.proofs.Readable.{needed-none, needed-some}
 use Rattle.records.proofs.needed.Statement.{statement}
 use Rattle.records.proofs.needed.Tie as tie
 

@@ -2,7 +2,8 @@
 use mathlib.Core.Path.{sym, ap, _∙_}
 use borrow.Author.Needs.{needs}
 use Rattle.records.specs.Bridge.{sessionOf, orZero}
-use Rattle.records.proofs.Lengths.{measured, len-S, len-L, len-O, len-C, len-F, len-W, len-R, len-other}
+use Rattle.records.proofs.Lengths.{measured, len-other}
+use Rattle.records.proofs.Readable.{len-S, len-L, len-O, len-C, len-F, len-W, len-R}
 use Rattle.records.proofs.record_len.Statement.{statement}
 use Rattle.records.proofs.record_len.Tie as tie
 

@@ -15,7 +15,7 @@ use Rattle.transfer.specs.Steps.{Step, figuresStep, callStep}
 use Rattle.records.specs.Bridge.{sessionOf}
 use Rattle.transfer.specs.Bridge.{Shown}
 use Rattle.lines.proofs.Fields.{rest-all}
-use Rattle.records.proofs.Lengths.{whole-len, whole-long, len-S, len-L, len-W, len-R, len-call}
+use Rattle.records.proofs.Readable.{whole-len, whole-long, len-S, len-L, len-W, len-R, len-call}
 use Rattle.transfer.proofs.Serving.{serve-S, serve-L, serve-W, serve-R, serve-call-is}
 use Rattle.transfer.proofs.serve.Statement.{statement}
 use Rattle.transfer.proofs.serve.Tie as tie

@@ -6,7 +6,7 @@ use borrow.Author.Needs.{needs}
 use Rattle.transfer.specs.Steps.{Step}
 use Rattle.records.specs.Bridge.{sessionOf}
 use Rattle.transfer.specs.Bridge.{Shown}
-use Rattle.records.proofs.Lengths.{readable-whole}
+use Rattle.records.proofs.Readable.{readable-whole}
 use Rattle.transfer.proofs.Serving.{step-end, step-many, step-unreadable, step-serves}
 use Rattle.transfer.proofs.step_on.Statement.{statement}
 use Rattle.transfer.proofs.step_on.Tie as tie

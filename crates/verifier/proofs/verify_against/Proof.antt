@@ -11,7 +11,7 @@ use Rattle.combinatorics.specs.Bursts.{covers}
 use Rattle.combinatorics.specs.Lists.{allBelow}
 use Rattle.cells.specs.Erasures.{foundBound}
 use Rattle.construction_a.specs.DemandTwo.{constructionA}
-use Rattle.construction_a.specs.Figures.{Params}
+use Rattle.cells.specs.Figures.{Params}
 use Rattle.construction_a.specs.Outcomes.{Held, inUse, encodeOut}
 use Rattle.construction_a.specs.Writing.{word}
 use Rattle.params.specs.Bridge.{given}

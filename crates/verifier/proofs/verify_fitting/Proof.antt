@@ -6,7 +6,8 @@ use native.Mathlib.Omega.{arith}
 use borrow.Author.Needs.{needs}
 use lib.ListN.{length, take, replicate}
 use lib.Seq.{length-take-le}
-use Rattle.construction_a.specs.Figures.{Params, maxWord, inRange, fits}
+use Rattle.cells.specs.Figures.{Params, maxWord, inRange}
+use Rattle.construction_a.specs.Figures.{fits}
 use Rattle.params.specs.Bridge.{given}
 use Rattle.params.proofs.Fitting.{bound}
 use Rattle.placements.specs.Bridge.{heldAs}

@@ -8,7 +8,7 @@ use borrow.Author.Needs.{needs}
 use borrow.Author.Tests.{not-true, not-false}
 use lib.ListN.{length}
 use Rattle.combinatorics.specs.Stretch.{has}
-use Rattle.combinatorics.proofs.Stretch.{has-start, has-here, has-on, has-over}
+use Rattle.combinatorics.proofs.StretchLoops.{has-start, has-here, has-on, has-over}
 use Rattle.cells.specs.Cut.{blockHead}
 use Rattle.construction_a.specs.Figures.{blocks as blocksOf}
 use Rattle.construction_a.specs.Reading.{looksFixed}

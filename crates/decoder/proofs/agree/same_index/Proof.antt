@@ -11,7 +11,7 @@ use lib.ListN.{length, take}
 use lib.Seq.{length-take-le, getD-take}
 use Rattle.combinatorics.specs.Lists.{sameList}
 use Rattle.combinatorics.specs.Stretch.{members}
-use Rattle.construction_a.specs.Figures.{maxBursts}
+use Rattle.cells.specs.Figures.{maxBursts}
 use Rattle.blocks.specs.Blocks.{indexKind}
 use Rattle.decoder.specs.Reader.{ofKind}
 use Rattle.decoder.proofs.Agreeing.{marked, unmarked, SameLeft, same-start, same-skip, same-more, same-other, same-next, same-over}

@@ -7,7 +7,7 @@ use mir.Syntax.{w16}
 use mir.Val.{Fits}
 use lib.ListN.{length, take, getD, length-set}
 use lib.Seq.{length-take-le, getD-take}
-use Rattle.construction_a.specs.Figures.{maxBursts}
+use Rattle.cells.specs.Figures.{maxBursts}
 use Rattle.placements.specs.Bridge.{startsIn}
 use Rattle.decoder.specs.Exported.{startBytes}
 use Rattle.decoder.proofs.Bytes.{bytes-turn, bytes-done}

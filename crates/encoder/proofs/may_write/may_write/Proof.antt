@@ -13,54 +13,57 @@ cast-if1 c = search needs
 
 returns : tie.Need-returns
 returns c =
-    let a = c .before .before .before .args in
-    sym (number-count (a .n) (a .m) (a .b) (a .q) (a .k) (heldAs (a .at)) (a .message .now) (a .lent) (λ e. c .if1 .taken e))
+    let a = c .before .before .before .before .args in
+    sym (number-count (a .walk .n) (a .walk .m) (a .walk .b) (a .q) (a .k) (heldAs (a .at)) (a .message .now) (a .lent) (λ e. c .if1 .taken e))
 
 returns-2 : tie.Need-returns-2
 returns-2 c =
-    let a = c .before .before .before .before .args in
-    sym (number-message (a .n) (a .m) (a .b) (a .q) (a .k) (heldAs (a .at)) (a .message .now) (a .lent) (c .before .if1 .left) (λ e. c .if2 .taken e))
+    let a = c .before .before .before .before .before .args in
+    sym (number-message (a .walk .n) (a .walk .m) (a .walk .b) (a .q) (a .k) (heldAs (a .at)) (a .message .now) (a .lent) (c .before .if1 .left)
+    (λ e. c .if2 .taken e))
 
 returns-3 : tie.Need-returns-3
 returns-3 c =
-    let a = c .before .before .before .before .before .args in
-    sym (number-word (a .n) (a .m) (a .b) (a .q) (a .k) (heldAs (a .at)) (a .message .now) (a .lent) (c .before .before .if1 .left) (c .before .if2 .left)
-    (λ e. c .if3 .taken e))
+    let a = c .before .before .before .before .before .before .before .args in
+    sym (number-word (a .walk .n) (a .walk .m) (a .walk .b) (a .q) (a .k) (heldAs (a .at)) (a .message .now) (a .lent) (c .before .before .before .if1 .left)
+    (c .before .before .if2 .left) (λ e. c .if3 .taken e))
 
 cast-apart : tie.Need-cast-apart
 cast-apart c = search needs
 
 cast-apart-2 : tie.Need-cast-apart-2
-cast-apart-2 c = let s = c .before .before .before .before .before in omega (arith, s .pre .0 .short, s .pre .1)
+cast-apart-2 c = let s = c .before .before .before .before .before .before .before .before .before in omega (arith, s .pre .0 .short, s .pre .1)
 
 apart-requires : tie.Need-apart-requires
 apart-requires c κs = search needs
 
 returns-4 : tie.Need-returns-4
 returns-4 c =
-    let a = c .before .before .before .before .before .before .before .args in
-    sym (number-starts (a .n) (a .m) (a .b) (a .q) (a .k) (heldAs (a .at)) (a .message .now) (a .lent) (c .before .before .before .before .if1 .left)
-    (c .before .before .before .if2 .left) (c .before .before .if3 .left)
-    (sym (c .before .apart .ensures) ∙ not-true _ (c .if4 .taken)))
+    let a = c .before .before .before .before .before .before .before .before .before .before .before .args in
+    sym (number-starts (a .walk .n) (a .walk .m) (a .walk .b) (a .q) (a .k) (heldAs (a .at)) (a .message .now) (a .lent)
+    (c .before .before .before .before .before .before .before .if1 .left) (c .before .before .before .before .before .before .if2 .left)
+    (c .before .before .before .before .if3 .left) (sym (c .before .apart .ensures) ∙ not-true _ (c .if4 .taken)))
 
 all-below-requires : tie.Need-all-below-requires
 all-below-requires c κs = search needs
 
 returns-5 : tie.Need-returns-5
 returns-5 c =
-    let a = c .before .before .before .before .before .before .before .before .before .args in
-    sym (number-symbol (a .n) (a .m) (a .b) (a .q) (a .k) (heldAs (a .at)) (a .message .now) (a .lent)
-    (c .before .before .before .before .before .before .if1 .left) (c .before .before .before .before .before .if2 .left)
-    (c .before .before .before .before .if3 .left)
+    let a = c .before .before .before .before .before .before .before .before .before .before .before .before .before .args in
+    sym (number-symbol (a .walk .n) (a .walk .m) (a .walk .b) (a .q) (a .k) (heldAs (a .at)) (a .message .now) (a .lent)
+    (c .before .before .before .before .before .before .before .before .before .if1 .left)
+    (c .before .before .before .before .before .before .before .before .if2 .left)
+    (c .before .before .before .before .before .before .if3 .left)
     (sym (c .before .before .before .apart .ensures) ∙ not-false _ (c .before .before .if4 .left))
     (sym (c .before .all-below .ensures) ∙ not-true _ (c .if5 .taken)))
 
 returns-6 : tie.Need-returns-6
 returns-6 c =
-    let a = c .before .before .before .before .before .before .before .before .before .args in
-    sym (number-none (a .n) (a .m) (a .b) (a .q) (a .k) (heldAs (a .at)) (a .message .now) (a .lent)
-    (c .before .before .before .before .before .before .if1 .left) (c .before .before .before .before .before .if2 .left)
-    (c .before .before .before .before .if3 .left)
+    let a = c .before .before .before .before .before .before .before .before .before .before .before .before .before .args in
+    sym (number-none (a .walk .n) (a .walk .m) (a .walk .b) (a .q) (a .k) (heldAs (a .at)) (a .message .now) (a .lent)
+    (c .before .before .before .before .before .before .before .before .before .if1 .left)
+    (c .before .before .before .before .before .before .before .before .if2 .left)
+    (c .before .before .before .before .before .before .if3 .left)
     (sym (c .before .before .before .apart .ensures) ∙ not-false _ (c .before .before .if4 .left))
     (sym (c .before .all-below .ensures) ∙ not-false _ (c .if5 .left)))
 

@@ -1,15 +1,22 @@
 -- `burgzemi_long_prescription_write` meets its contract: that of `write`, with the prescription that the values are. Assumes nothing.
-use mathlib.Core.Path.{ap, _∙_}
+use mathlib.Core.Path.{ap, ap₂, _∙_}
 use borrow.Author.Needs.{needs}
 use Rattle.construction_b.specs.Figures.{longParams}
 use Rattle.construction_b.specs.Outcomes.{coding}
+use Rattle.prescription.specs.declared.eyes.Eye.{Eye}
 use Rattle.prescription.specs.declared.texts.Prescription.{Prescription}
-use Rattle.lent_prescriptions.specs.Prescriptions.{prescriptionWriteBytesUnder}
+use Rattle.lent_prescriptions.specs.Prescriptions.{prescriptionFrom, prescriptionWriteBytesUnder}
 use Rattle.exports.proofs.long.burgzemi_long_prescription_write.Statement.{statement}
 use Rattle.exports.proofs.long.burgzemi_long_prescription_write.Tie as tie
 
-prescription-from-requires : tie.Need-prescription-from-requires
-prescription-from-requires c κs = search needs
+eye-from-requires : tie.Need-eye-from-requires
+eye-from-requires c κs = search needs
+
+eye-from-requires-2 : tie.Need-eye-from-requires-2
+eye-from-requires-2 c κs = search needs
+
+of-eyes-requires : tie.Need-of-eyes-requires
+of-eyes-requires c κs = search needs
 
 write-requires : tie.Need-write-requires
 write-requires c κs = search needs
@@ -19,12 +26,13 @@ same-length c = search needs
 
 returns : tie.Need-returns
 returns c =
-    let a = c .before .before .before .before .before .before .before .before .args in
+    let e = c .before .before .before .before in
+    let a = e .before .before .before .before .before .before .args in
     c .before .before .write .ensures
-    ∙ ap (λ (p : Prescription). prescriptionWriteBytesUnder (coding (longParams (a .n) (a .q) (a .b))) (a .table .now) (a .starts .now) (a .number) p
+    ∙ ap (λ (p : Prescription). prescriptionWriteBytesUnder (coding (longParams (a .n) (a .q) (a .b))) (a .table .now) (a .start .now) (a .number) p
     (a .word .now))
-    (c .before .before .before .before .prescription-from .ensures)
+    (e .of-eyes .ensures ∙ ap₂ (λ (r l : Eye). prescriptionFrom r l (a .distance)) (e .before .before .eye-from .ensures) (e .before .eye-from2 .ensures))
 
 pub burgzemi-long-prescription-write-spec : {M : Type 1} → statement M
 burgzemi-long-prescription-write-spec =
-    tie.close (tie.spec prescription-from-requires write-requires same-length returns)
+    tie.close (tie.spec eye-from-requires eye-from-requires-2 of-eyes-requires write-requires same-length returns)

@@ -9,7 +9,8 @@ use borrow.Author.Needs.{needs}
 use lib.ListN.{length}
 use Rattle.combinatorics.specs.Stretch.{has}
 use Rattle.construction_a.specs.Writing.{row}
-use Rattle.construction_a.specs.Reading.{bareParts, later}
+use Rattle.cells.specs.Round.{later}
+use Rattle.construction_a.specs.Reading.{bareParts}
 use Rattle.heads.specs.Looks.{looksIn}
 use Rattle.heads.specs.Patterns.{indexIn}
 use Rattle.heads.proofs.Listed.{part-fits, candidates-below, count-is, numbered-in, numbered-out, found-whole, found-none, found-few, found-each}

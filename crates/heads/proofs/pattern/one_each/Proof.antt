@@ -7,8 +7,8 @@ use native.Mathlib.Omega.{arith}
 use borrow.Author.Needs.{needs}
 use lib.ListN.{length, getD, length-set}
 use Rattle.combinatorics.specs.Stretch.{tabulate}
-use Rattle.combinatorics.proofs.Stretch.{take-is, filled-on}
-use Rattle.construction_a.specs.Figures.{maxBursts}
+use Rattle.combinatorics.proofs.Members.{take-is, filled-on}
+use Rattle.cells.specs.Figures.{maxBursts}
 use Rattle.construction_a.specs.Writing.{row}
 use Rattle.construction_a.specs.Reading.{openBlocks, indexInPart}
 use Rattle.construction_a.proofs.Pattern.{collect-tabulate}

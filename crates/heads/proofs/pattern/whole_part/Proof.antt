@@ -5,8 +5,8 @@ use native.Mathlib.Omega.{arith}
 use borrow.Author.Needs.{needs}
 use lib.ListN.{length, getD, length-set}
 use Rattle.combinatorics.specs.Stretch.{consecutive}
-use Rattle.combinatorics.proofs.Stretch.{take-is, filled-on}
-use Rattle.construction_a.specs.Figures.{maxBursts}
+use Rattle.combinatorics.proofs.Members.{take-is, filled-on}
+use Rattle.cells.specs.Figures.{maxBursts}
 use Rattle.heads.proofs.Listed.{index-some}
 use Rattle.heads.proofs.pattern.whole_part.Statement.{statement}
 use Rattle.heads.proofs.pattern.whole_part.Tie as tie

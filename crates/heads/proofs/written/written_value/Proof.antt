@@ -1,6 +1,6 @@
 -- `written_value` meets its contract: the digits of the first j blocks are taken in. Assumes nothing.
 use mathlib.Core.Path.{_≡_, refl, ap, _∙_}
-use Prim.Native.Nat.{ℕ, _+_, _-_, _≤_}
+use Prim.Native.Nat.{ℕ, suc, _+_, _-_, _*_, _≤_, _<_}
 use native.Mathlib.Omega.{arith}
 use borrow.Author.Needs.{needs}
 use lib.ListN.{length, getD, take, drop}
@@ -32,44 +32,33 @@ loop-holds c =
 array-read-block : tie.Need-array-read-block Inv-loop μ-loop
 array-read-block c = omega (arith, bound (c .before .before .before .before .args .layout) (c .before .before .before .before .pre .0 .finding .layout) .m-most)
 
+-- the number is a block's, and the block's head with its tail lies in the word
+block-within : (c : tie.Then1 Inv-loop μ-loop)
+    → (let a = c .before .before .before .before .args in getD (a .t4) (c .before .before .loop .j) 0 < a .layout .parts * a .layout .m)
+block-within c =
+    let s = c .before .before .before .before in
+    block-in (s .args .layout) (s .pre .0 .finding .layout) (s .pre .0 .within (c .before .before .loop .j) (omega arith))
+
+head-within : (c : tie.After-block-head Inv-loop μ-loop)
+    → (let a = c .before .before .before .before .before .args in c .block-head .result + suc (a .layout .«index_tail») ≤ a .layout .n)
+head-within c =
+    let s = c .before .before .before .before .before in
+    rw (c .block-head .ensures)
+    (head-room (s .args .layout) (s .pre .0 .finding .layout) (getD (s .args .t4) (c .before .before .before .loop .j) 0) (block-within (c .before)))
+
 cast-block : tie.Need-cast-block Inv-loop μ-loop
 cast-block c =
     let s = c .before .before .before .before in
-    let l = s .args .layout in
-    let h = s .pre .0 .finding .layout in
-    omega (arith, block-in l h (s .pre .0 .within (c .before .before .loop .j) (omega arith)), bound l h)
+    omega (arith, block-within c, bound (s .args .layout) (s .pre .0 .finding .layout))
 
 block-head-requires : tie.Need-block-head-requires Inv-loop μ-loop
-block-head-requires c κs =
-    let s = c .before .before .before .before in
-    let l = s .args .layout in
-    let h = s .pre .0 .finding .layout in
-    let k = block-in l h (s .pre .0 .within (c .before .before .loop .j) (omega arith)) in
-    (h, s .pre .1, omega arith)
+block-head-requires c κs = let p = c .before .before .before .before .pre in (p .0 .finding .layout, p .1, omega (arith, block-within c))
 
 sub-with-block : tie.Need-sub-with-block Inv-loop μ-loop
-sub-with-block c =
-    let s = c .before .before .before .before .before in
-    let l = s .args .layout in
-    let h = s .pre .0 .finding .layout in
-    omega (
-      arith,
-      c .block-head .ensures,
-      head-room l h (getD (s .args .t4) (c .before .before .before .loop .j) 0)
-          (block-in l h (s .pre .0 .within (c .before .before .before .loop .j) (omega arith))),
-    )
+sub-with-block c = omega (arith, head-within c)
 
 part-with-block-start : tie.Need-part-with-block-start Inv-loop μ-loop
-part-with-block-start c =
-    let s = c .before .before .before .before .before in
-    let l = s .args .layout in
-    let h = s .pre .0 .finding .layout in
-    omega (
-      arith,
-      c .block-head .ensures,
-      head-room l h (getD (s .args .t4) (c .before .before .before .loop .j) 0)
-          (block-in l h (s .pre .0 .within (c .before .before .before .loop .j) (omega arith))),
-    )
+part-with-block-start c = omega (arith, head-within c)
 
 part-with-block-end : tie.Need-part-with-block-end Inv-loop μ-loop
 part-with-block-end c = search needs
@@ -85,7 +74,7 @@ with-block-requires c κs =
     let at = c .before .block-head .result in
     record {
       alphabet = bound l h .q-least;
-      room = rw (part-length at w) (omega (arith, c .before .block-head .ensures, head-room l h k (block-in l h (s .pre .0 .within j (omega arith)))));
+      room = rw (part-length at w) (omega (arith, head-within (c .before)));
       lead = rw (part-head at w) (open-lead (figuresOf l) w k at (c .before .block-head .ensures ∙ head-is l h k) (s .pre .0 .open-heads j (omega arith)));
     }
 

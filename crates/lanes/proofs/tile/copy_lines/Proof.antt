@@ -1,11 +1,11 @@
 -- `copy_lines` meets its contract: the lines so far are copied. Assumes nothing.
 use mathlib.Core.Path.{_≡_, _∙_, subst}
 use Prim.Native.Nat.{ℕ, _+_, _*_, _-_, _≤_}
-use native.Mathlib.Nat.{mul-le-mul-right}
 use native.Mathlib.Omega.{arith}
 use borrow.Author.Needs.{needs}
+use lib.ListN.{length}
 use Rattle.lanes.specs.Transposing.{LinesCopied}
-use Rattle.lanes.proofs.TileLaws.{lines-none, lines-on}
+use Rattle.lanes.proofs.TileLaws.{line-within, lines-none, lines-on}
 use Rattle.lanes.proofs.tile.copy_lines.Statement.{statement}
 use Rattle.lanes.proofs.tile.copy_lines.Tie as tie
 
@@ -22,48 +22,34 @@ loop-holds c = (
       (c .before .before .args .onto) (c .before .before .args .stride) (c .before .before .args .to .now),
 )
 
+-- line k lies within what is lent to it, and within what it is copied from
+line-onto : (c : tie.In-loop Inv-loop μ-loop)
+    → (let a = c .before .before .before .before .args in a .onto + c .before .loop .k * a .stride + 16 ≤ length (c .before .loop .to))
+line-onto c =
+    let s = c .before .before .before .before in
+    let l = c .before .loop in
+    omega (arith, line-within (s .args .onto) (s .args .stride) (l .k) (s .args .to .now) (s .pre .1) (omega arith), l .inv .1 .size)
+
+line-from : (c : tie.In-loop Inv-loop μ-loop)
+    → (let a = c .before .before .before .before .args in a .at + c .before .loop .k * a .step + 16 ≤ length (a .from .now))
+line-from c =
+    let s = c .before .before .before .before in
+    line-within (s .args .at) (s .args .step) (c .before .loop .k) (s .args .from .now) (s .pre .0) (omega arith)
+
 mul-start : tie.Need-mul-start Inv-loop μ-loop
-mul-start c =
-    let p = c .before .before .before .before .pre in
-    omega (
-      arith,
-      p .1 .within,
-      c .before .loop .inv .1 .size,
-      mul-le-mul-right {m = c .before .loop .k} {n = 15}
-          (c .before .before .before .before .args .stride) (omega arith),
-    )
+mul-start c = omega (arith, line-onto c)
 
 add-start : tie.Need-add-start Inv-loop μ-loop
-add-start c =
-    let p = c .before .before .before .before .pre in
-    omega (
-      arith,
-      p .1 .within,
-      c .before .loop .inv .1 .size,
-      mul-le-mul-right {m = c .before .loop .k} {n = 15}
-          (c .before .before .before .before .args .stride) (omega arith),
-    )
+add-start c = omega (arith, line-onto c)
 
 mul-source : tie.Need-mul-source Inv-loop μ-loop
-mul-source c =
-    let p = c .before .before .before .before .pre in
-    omega (arith, p .0 .within, mul-le-mul-right {m = c .before .loop .k} {n = 15} (c .before .before .before .before .args .step) (omega arith))
+mul-source c = omega (arith, line-from c)
 
 add-source : tie.Need-add-source Inv-loop μ-loop
-add-source c =
-    let p = c .before .before .before .before .pre in
-    omega (arith, p .0 .within, mul-le-mul-right {m = c .before .loop .k} {n = 15} (c .before .before .before .before .args .step) (omega arith))
+add-source c = omega (arith, line-from c)
 
 add-copy-prefix : tie.Need-add-copy-prefix Inv-loop μ-loop
-add-copy-prefix c =
-    let p = c .before .before .before .before .pre in
-    omega (
-      arith,
-      p .1 .within,
-      c .before .loop .inv .1 .size,
-      mul-le-mul-right {m = c .before .loop .k} {n = 15}
-          (c .before .before .before .before .args .stride) (omega arith),
-    )
+add-copy-prefix c = omega (arith, line-onto c)
 
 sub-copy-prefix : tie.Need-sub-copy-prefix Inv-loop μ-loop
 sub-copy-prefix c = search needs
@@ -72,25 +58,10 @@ part-copy-prefix-start : tie.Need-part-copy-prefix-start Inv-loop μ-loop
 part-copy-prefix-start c = search needs
 
 part-copy-prefix-end : tie.Need-part-copy-prefix-end Inv-loop μ-loop
-part-copy-prefix-end c =
-    let p = c .before .before .before .before .pre in
-    omega (
-      arith,
-      p .1 .within,
-      c .before .loop .inv .1 .size,
-      mul-le-mul-right {m = c .before .loop .k} {n = 15}
-          (c .before .before .before .before .args .stride) (omega arith),
-    )
+part-copy-prefix-end c = omega (arith, line-onto c)
 
 add-copy-prefix-2 : tie.Need-add-copy-prefix-2 Inv-loop μ-loop
-add-copy-prefix-2 c =
-    let p = c .before .before .before .before .before .pre in
-    omega (
-      arith,
-      p .0 .within,
-      mul-le-mul-right {m = c .before .before .loop .k} {n = 15} (c .before .before .before .before .before .args .step)
-          (omega arith),
-    )
+add-copy-prefix-2 c = omega (arith, line-from (c .before))
 
 sub-copy-prefix-2 : tie.Need-sub-copy-prefix-2 Inv-loop μ-loop
 sub-copy-prefix-2 c = search needs
@@ -99,14 +70,7 @@ part-copy-prefix-start-2 : tie.Need-part-copy-prefix-start-2 Inv-loop μ-loop
 part-copy-prefix-start-2 c = search needs
 
 part-copy-prefix-end-2 : tie.Need-part-copy-prefix-end-2 Inv-loop μ-loop
-part-copy-prefix-end-2 c =
-    let p = c .before .before .before .before .before .pre in
-    omega (
-      arith,
-      p .0 .within,
-      mul-le-mul-right {m = c .before .before .loop .k} {n = 15} (c .before .before .before .before .before .args .step)
-          (omega arith),
-    )
+part-copy-prefix-end-2 c = omega (arith, line-from (c .before))
 
 copy-prefix-requires : tie.Need-copy-prefix-requires Inv-loop μ-loop
 copy-prefix-requires c κs = search needs

@@ -1,7 +1,7 @@
 -- `move_by` meets its contract: lines in, turned, lines out. Assumes nothing.
 use mathlib.Core.Path.{_≡_, ap, _∙_, subst}
 use mathlib.Core.List.{List}
-use Prim.Native.Nat.{ℕ, _+_, _*_}
+use Prim.Native.Nat.{ℕ, _+_, _*_, _<_}
 use native.Mathlib.Nat.{mul-comm}
 use native.Mathlib.Omega.{arith}
 use lib.ListN.{length}
@@ -13,25 +13,22 @@ use borrow.Author.Needs.{needs}
 use Rattle.lanes.proofs.tile.move_by.Statement.{statement}
 use Rattle.lanes.proofs.tile.move_by.Tie as tie
 
+-- the tile's first cell lies in both tables
+first-from : (s : tie.Start) → (let a = s .args in a .top * a .columns + a .left < length (a .from .now))
+first-from s =
+    let a = s .args in
+    omega (arith, cell-from (a .rows) (a .columns) (a .left) (a .top) (omega (arith, s .pre .1)) (omega (arith, s .pre .2)), s .pre .0 .source)
+
+first-to : (s : tie.Start) → (let a = s .args in a .left * a .rows + a .top < length (a .to .now))
+first-to s =
+    let a = s .args in
+    omega (arith, cell-to (a .rows) (a .columns) (a .left) (a .top) (omega (arith, s .pre .1)) (omega (arith, s .pre .2)), s .pre .0 .room)
+
 mul-copy-lines : tie.Need-mul-copy-lines
-mul-copy-lines c =
-    let s = c .before .before .before .before in
-    omega (
-      arith,
-      cell-from (s .args .rows) (s .args .columns) (s .args .left) (s .args .top) (omega (arith, s .pre .1))
-          (omega (arith, s .pre .2)),
-      s .pre .0 .source,
-    )
+mul-copy-lines c = omega (arith, first-from (c .before .before .before .before))
 
 add-copy-lines : tie.Need-add-copy-lines
-add-copy-lines c =
-    let s = c .before .before .before .before in
-    omega (
-      arith,
-      cell-from (s .args .rows) (s .args .columns) (s .args .left) (s .args .top) (omega (arith, s .pre .1))
-          (omega (arith, s .pre .2)),
-      s .pre .0 .source,
-    )
+add-copy-lines c = omega (arith, first-from (c .before .before .before .before))
 
 copy-lines-requires : tie.Need-copy-lines-requires
 copy-lines-requires c κs =
@@ -47,22 +44,12 @@ turn-requires c κs = search needs
 mul-copy-lines-2 : tie.Need-mul-copy-lines-2
 mul-copy-lines-2 c =
     let s = c .before .before .before .before .before .before .before .before .before .before .before .before .before .before .before .before .before in
-    omega (
-      arith,
-      cell-to (s .args .rows) (s .args .columns) (s .args .left) (s .args .top) (omega (arith, s .pre .1))
-          (omega (arith, s .pre .2)),
-      s .pre .0 .room,
-    )
+    omega (arith, first-to s)
 
 add-copy-lines-2 : tie.Need-add-copy-lines-2
 add-copy-lines-2 c =
     let s = c .before .before .before .before .before .before .before .before .before .before .before .before .before .before .before .before .before in
-    omega (
-      arith,
-      cell-to (s .args .rows) (s .args .columns) (s .args .left) (s .args .top) (omega (arith, s .pre .1))
-          (omega (arith, s .pre .2)),
-      s .pre .0 .room,
-    )
+    omega (arith, first-to s)
 
 copy-lines-requires-2 : tie.Need-copy-lines-requires-2
 copy-lines-requires-2 c κs =

@@ -1,9 +1,9 @@
 -- `move_column` meets its contract: the rows so far are moved. Assumes nothing.
 use mathlib.Core.Path.{_≡_, _∙_, subst}
-use Prim.Native.Nat.{ℕ, _+_, _*_, _-_, _≤_}
+use Prim.Native.Nat.{ℕ, _+_, _*_, _-_, _≤_, _<_}
 use native.Mathlib.Omega.{arith}
 use borrow.Author.Needs.{needs}
-use lib.ListN.{getD, set}
+use lib.ListN.{length, getD, set}
 use Rattle.lanes.specs.Transposing.{CellsMoved}
 use Rattle.lanes.proofs.Transposing.{cell-from, cell-to, moved-none, moved-cell, moved-down}
 use Rattle.lanes.proofs.transpose.move_column.Statement.{statement}
@@ -19,59 +19,62 @@ loop-holds : tie.Need-loop-holds Inv-loop μ-loop
 loop-holds c = let a = c .args in
     (omega arith, moved-none (a .rows) (a .columns) (a .from .now) (a .to .now) (a .i) (a .i + 1) 0 0 (λ i j _ _ t b. omega arith))
 
-mul-to : tie.Need-mul-to Inv-loop μ-loop
-mul-to c =
+-- the cell lies in the table
+read-within : (c : tie.In-loop Inv-loop μ-loop) → (let a = c .before .before .args in c .before .loop .j * a .columns + a .i < length (a .from .now))
+read-within c =
     let a = c .before .before .args in
     let p = c .before .before .pre in
     omega (arith, cell-from (a .rows) (a .columns) (a .i) (c .before .loop .j) (p .1) (omega arith), p .0 .source)
+
+mul-to : tie.Need-mul-to Inv-loop μ-loop
+mul-to c = omega (arith, read-within c)
 
 add-to : tie.Need-add-to Inv-loop μ-loop
-add-to c =
-    let a = c .before .before .args in
-    let p = c .before .before .pre in
-    omega (arith, cell-from (a .rows) (a .columns) (a .i) (c .before .loop .j) (p .1) (omega arith), p .0 .source)
+add-to c = omega (arith, read-within c)
 
 shared-slice-read-to : tie.Need-shared-slice-read-to Inv-loop μ-loop
-shared-slice-read-to c =
-    let a = c .before .before .before .args in
-    let p = c .before .before .before .pre in
-    omega (arith, cell-from (a .rows) (a .columns) (a .i) (c .before .before .loop .j) (p .1) (omega arith), p .0 .source)
+shared-slice-read-to c = read-within (c .before)
+
+-- and so does its place in the other
+write-within : (c : tie.In-loop Inv-loop μ-loop) → (let a = c .before .before .args in a .i * a .rows + c .before .loop .j < length (c .before .loop .to))
+write-within c =
+    let a = c .before .before .args in
+    let p = c .before .before .pre in
+    let l = c .before .loop in
+    omega (arith, cell-to (a .rows) (a .columns) (a .i) (l .j) (p .1) (omega arith), p .0 .room, l .inv .1 .size)
 
 mul-to-2 : tie.Need-mul-to-2 Inv-loop μ-loop
-mul-to-2 c =
-    let a = c .before .before .before .args in
-    let p = c .before .before .before .pre in
-    omega (arith, cell-to (a .rows) (a .columns) (a .i) (c .before .before .loop .j) (p .1) (omega arith), p .0 .room, c .before .before .loop .inv .1 .size)
+mul-to-2 c = omega (arith, write-within (c .before))
 
 add-to-2 : tie.Need-add-to-2 Inv-loop μ-loop
-add-to-2 c =
-    let a = c .before .before .before .args in
-    let p = c .before .before .before .pre in
-    omega (arith, cell-to (a .rows) (a .columns) (a .i) (c .before .before .loop .j) (p .1) (omega arith), p .0 .room, c .before .before .loop .inv .1 .size)
+add-to-2 c = omega (arith, write-within (c .before))
 
 slice-write-to : tie.Need-slice-write-to Inv-loop μ-loop
-slice-write-to c =
-    let a = c .before .before .before .args in
-    let p = c .before .before .before .pre in
-    omega (arith, cell-to (a .rows) (a .columns) (a .i) (c .before .before .loop .j) (p .1) (omega arith), p .0 .room, c .before .before .loop .inv .1 .size)
+slice-write-to c = write-within (c .before)
 
 add-j : tie.Need-add-j Inv-loop μ-loop
 add-j c = search needs
 
 loop-less : tie.Need-loop-less Inv-loop μ-loop
-loop-less c = omega arith
+loop-less c = search needs
+
+-- it is moved
+cell-moved : (c : tie.In-loop Inv-loop μ-loop) → (let a = c .before .before .args in let l = c .before .loop in
+    CellsMoved (a .rows) (a .columns) (a .from .now) (l .to) (set (l .to) (a .i * a .rows + l .j) (getD (a .from .now) (l .j * a .columns + a .i) 0))
+    (a .i) (a .i + 1) (l .j) (l .j + 1))
+cell-moved c =
+    let a = c .before .before .args in
+    let p = c .before .before .pre in
+    let l = c .before .loop in
+    moved-cell (a .rows) (a .columns) (a .from .now) (l .to) (a .i) (l .j) (l .inv .1 .size ∙ p .0 .room) (p .1) (omega arith)
 
 loop-again : tie.Need-loop-again Inv-loop μ-loop
 loop-again c =
-    let s = c .before .before in
-    let a = s .before .args in
-    let p = s .before .pre in
-    let l = s .loop in
-    let v = getD (a .from .now) (l .j * a .columns + a .i) 0 in (
+    let a = c .before .before .before .args in
+    let l = c .before .before .loop in (
       omega arith,
-      moved-down (a .rows) (a .columns) (a .from .now) (a .to .now) (l .to) (set (l .to) (a .i * a .rows + l .j) v) (a .i) (a .i + 1) 0 (l .j)
-          (l .j + 1) (omega arith) (omega arith) (omega arith) (omega arith) (l .inv .1)
-          (moved-cell (a .rows) (a .columns) (a .from .now) (l .to) (a .i) (l .j) (l .inv .1 .size ∙ p .0 .room) (p .1) (omega arith)),
+      moved-down (a .rows) (a .columns) (a .from .now) (a .to .now) (l .to) _ (a .i) (a .i + 1) 0 (l .j) (l .j + 1)
+          (omega arith) (omega arith) (omega arith) (omega arith) (l .inv .1) (cell-moved (c .before)),
     )
 
 same-length : tie.Need-same-length Inv-loop μ-loop

@@ -6,8 +6,7 @@ use native.Mathlib.Omega.{arith}
 use borrow.Author.Needs.{needs}
 use borrow.Author.Tests.{not-true, not-false}
 use Rattle.refusals.specs.Refusals.{disagrees}
-use Rattle.construction_a.specs.Figures.{Params}
-use Rattle.construction_a.specs.Writing.{placementOf}
+use Rattle.cells.specs.Figures.{Params, placementOf}
 use Rattle.larsson.specs.Reading.{agrees}
 use Rattle.larsson_params.specs.declared.LarssonLayout.{LarssonLayout}
 use Rattle.larsson_params.specs.Given.{larssonFiguresOf, LarssonLayoutFits}

@@ -6,9 +6,9 @@ use native.Mathlib.Omega.{arith}
 use borrow.Author.Needs.{needs}
 use lib.ListN.{length, getD, length-set}
 use lib.Seq.{getD-set-same, getD-set-other}
-use Rattle.combinatorics.proofs.Stretch.{filled-on}
+use Rattle.combinatorics.proofs.Members.{filled-on}
 use Rattle.larsson.specs.Figures.{subBlocks, subStart}
-use Rattle.construction_a.proofs.Figures.{Ranged}
+use Rattle.cells.proofs.Figures.{Ranged}
 use Rattle.params.specs.Given.{maxBlocks}
 use Rattle.larsson_params.specs.Given.{larssonFiguresOf}
 use Rattle.larsson_params.proofs.Shape.{bound, start-is, sub-room}

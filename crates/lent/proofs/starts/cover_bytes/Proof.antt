@@ -4,11 +4,17 @@ use borrow.Author.Needs.{needs}
 use Rattle.cells.specs.Outcomes.{Coding}
 use Rattle.params.specs.Answer.{figuredAs}
 use Rattle.params.specs.Bridge.{codingOf}
-use Rattle.params.proofs.Either.{serves}
+use Rattle.params.proofs.Either.{ServesAs, serves}
 use Rattle.lent.specs.Covering.{coverBytesUnder}
 use Rattle.lent.proofs.Covering.{cover-bytes-unfit}
 use Rattle.lent.proofs.starts.cover_bytes.Statement.{statement}
 use Rattle.lent.proofs.starts.cover_bytes.Tie as tie
+
+-- the layout that was answered
+learnt : (c : tie.After-answer2) → ServesAs (c .before .before .before .before .before .args .figures) (c .answer2 .given .0 .0)
+learnt c =
+    let r = c .before .before .layout in
+    serves (c .before .before .before .before .before .args .figures) (r .result) _ (c .answer2 .given .1) (r .ensures .0) (r .ensures .1)
 
 layout-requires : tie.Need-layout-requires
 layout-requires c κs = search needs
@@ -20,11 +26,7 @@ enum-known-answer-2 : tie.Need-enum-known-answer-2
 enum-known-answer-2 c = search needs
 
 cover-laid-requires : tie.Need-cover-laid-requires
-cover-laid-requires c κs =
-    let s = c .before .before .before .before .before .before .before in
-    let figures = c .before .before .before .before .layout in
-    let told = c .before .before .answer2 .given in
-    serves (s .args .figures) (figures .result) (told .0 .0) (told .1) (figures .ensures .0) (figures .ensures .1) .1
+cover-laid-requires c κs = learnt (c .before .before) .1
 
 returns : tie.Need-returns
 returns c =
@@ -40,10 +42,8 @@ same-length c = search needs
 returns-2 : tie.Need-returns-2
 returns-2 c =
     let s = c .before .before .before .before .before .before .before .before .before .before in
-    let figures = c .before .before .before .before .before .before .before .layout in
-    let told = c .before .before .before .before .before .answer2 .given in
-    let same = serves (s .args .figures) (figures .result) (told .0 .0) (told .1) (figures .ensures .0) (figures .ensures .1) .0 in
-    c .before .before .cover-laid .ensures ∙ ap (λ (d : Coding). coverBytesUnder d (s .args .map .now) (s .args .bytes .now)) same
+    c .before .before .cover-laid .ensures
+    ∙ ap (λ (d : Coding). coverBytesUnder d (s .args .map .now) (s .args .bytes .now)) (learnt (c .before .before .before .before .before) .0)
 
 pub cover-bytes-spec : {M : Type 1} → statement M
 cover-bytes-spec =

@@ -3,7 +3,7 @@ use mathlib.Core.Path.{_≡_, refl, sym, ap, _∙_}
 use Prim.Native.Nat.{ℕ, _+_, _-_, _*_, _/_}
 use native.Mathlib.Omega.{arith}
 use borrow.Author.Needs.{needs}
-use Rattle.construction_a.specs.Figures.{leastTail, Params}
+use Rattle.cells.specs.Figures.{leastTail, Params}
 use Rattle.construction_a.specs.Outcomes.{figured}
 use Rattle.params.specs.Bridge.{given}
 use Rattle.params.proofs.Laying.{Parted, in-range, blocks-some, blocks-few, min-is, Searched, tail-is, tail-unfit, burst-unfit, Fitted, taken-fits}

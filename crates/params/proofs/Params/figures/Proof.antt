@@ -5,9 +5,10 @@ use native.Mathlib.Nat.{mul-le-mul-right}
 use native.Mathlib.Omega.{arith}
 use borrow.Author.Needs.{needs}
 use borrow.Author.Tests.{not-true, not-false}
-use Rattle.construction_a.specs.Figures.{Params, params, inRange}
+use Rattle.cells.specs.Figures.{Params, params, inRange}
 use Rattle.construction_a.specs.Outcomes.{figuresNumber}
-use Rattle.construction_a.proofs.Figures.{ranged, unfitting}
+use Rattle.cells.proofs.Figures.{ranged}
+use Rattle.construction_a.proofs.Figures.{unfitting}
 use Rattle.construction_a.proofs.Outcomes.{figures-invalid, figures-unfit}
 use Rattle.params.proofs.Answered.{number-is}
 use Rattle.params.proofs.Params.figures.Statement.{statement}

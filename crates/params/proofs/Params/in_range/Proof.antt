@@ -1,7 +1,7 @@
 -- `Params::in_range` meets its contract: each test that fails leaves a figure out of range. Assumes nothing.
 use mathlib.Core.Path.{sym}
 use native.Mathlib.Omega.{arith}
-use Rattle.construction_a.proofs.Figures.{in-range, out-of-range}
+use Rattle.cells.proofs.Figures.{in-range, out-of-range}
 use Rattle.params.proofs.Params.in_range.Statement.{statement}
 use Rattle.params.proofs.Params.in_range.Tie as tie
 

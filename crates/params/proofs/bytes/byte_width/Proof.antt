@@ -11,7 +11,7 @@ use Rattle.combinatorics.proofs.Cases.{leb-holds, leb-fails}
 use Rattle.combinatorics.proofs.Stretch.{first-is, first-none}
 use Rattle.cells.specs.Bytes.{byteValues, maxByteWidth, byteWidth}
 use Rattle.cells.proofs.Bytes.{spellsByte}
-use Rattle.construction_a.specs.Figures.{maxAlphabet}
+use Rattle.cells.specs.Figures.{maxAlphabet}
 use Rattle.params.proofs.bytes.byte_width.Statement.{statement}
 use Rattle.params.proofs.bytes.byte_width.Tie as tie
 

@@ -8,7 +8,7 @@ use borrow.Author.Needs.{needs}
 use lib.ListN.{length, getD}
 use Rattle.cells.specs.Cut.{pieceStart, pieceLen, blockHead}
 use Rattle.cells.proofs.Cut.{piece-next, piece-most}
-use Rattle.construction_a.specs.Figures.{maxWord}
+use Rattle.cells.specs.Figures.{maxWord}
 use Rattle.params.specs.Given.{maxBlocks, figuresOf}
 use Rattle.params.proofs.Answered.{Bounds}
 use Rattle.params.proofs.Shape.{bound}

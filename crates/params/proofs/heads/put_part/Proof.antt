@@ -6,7 +6,7 @@ use borrow.Author.Needs.{needs}
 use lib.ListN.{length, getD, length-set}
 use Rattle.cells.specs.Cut.{pieceStart}
 use Rattle.cells.proofs.Cut.{piece-most}
-use Rattle.construction_a.specs.Figures.{maxWord}
+use Rattle.cells.specs.Figures.{maxWord}
 use Rattle.params.specs.Given.{maxBlocks}
 use Rattle.params.proofs.Starting.{set-stays, entry-more}
 use Rattle.params.proofs.heads.put_part.Statement.{statement}

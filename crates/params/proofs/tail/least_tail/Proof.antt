@@ -9,7 +9,7 @@ use lib.Dec.{leb}
 use Rattle.combinatorics.specs.Stretch.{first}
 use Rattle.cells.specs.Digits.{span, places}
 use Rattle.cells.proofs.Digits.{span-first, span-longer, span-places}
-use Rattle.construction_a.specs.Figures.{leastTail}
+use Rattle.cells.specs.Figures.{leastTail}
 use Rattle.params.proofs.Capped.{factors-capped, reached-alike}
 use Rattle.params.proofs.tail.least_tail.Statement.{statement}
 use Rattle.params.proofs.tail.least_tail.Tie as tie

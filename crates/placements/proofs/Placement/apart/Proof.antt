@@ -9,7 +9,7 @@ use mir.Val.{Fits}
 use lib.ListN.{length, drop, getD}
 use Rattle.combinatorics.specs.Bursts.{apart}
 use Rattle.combinatorics.proofs.Loops.{left-next, left-none, apart-next, apart-not, apart-last}
-use Rattle.construction_a.specs.Figures.{maxBursts}
+use Rattle.cells.specs.Figures.{maxBursts}
 use Rattle.placements.specs.Bridge.{startsIn}
 use Rattle.placements.proofs.Placement.apart.Statement.{statement}
 use Rattle.placements.proofs.Placement.apart.Tie as tie

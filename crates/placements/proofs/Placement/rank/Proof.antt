@@ -9,7 +9,7 @@ use Rattle.combinatorics.specs.Choose.{choose}
 use Rattle.combinatorics.specs.Bursts.{rankOf}
 use Rattle.combinatorics.proofs.Bursts.{placed-of}
 use Rattle.combinatorics.proofs.Loops.{left-next, left-none, placed-at, reduces, rankLeft, rank-first, rank-next, rank-none}
-use Rattle.construction_a.specs.Figures.{maxWord, maxBursts}
+use Rattle.cells.specs.Figures.{maxWord, maxBursts}
 use Rattle.placements.specs.Bridge.{startsIn}
 use Rattle.placements.proofs.Placement.rank.Statement.{statement}
 use Rattle.placements.proofs.Placement.rank.Tie as tie

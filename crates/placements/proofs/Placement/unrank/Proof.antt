@@ -9,7 +9,7 @@ use Rattle.combinatorics.specs.Bursts.{contracted, placements, startsOf}
 use Rattle.combinatorics.proofs.Bursts.{rank-of-starts}
 use Rattle.combinatorics.proofs.Choose.{choose-before}
 use Rattle.combinatorics.proofs.Loops.{startsDown, starts-turned, starts-none, LastStart, starts-next}
-use Rattle.construction_a.specs.Figures.{maxWord, maxCount}
+use Rattle.cells.specs.Figures.{maxWord, maxCount}
 use Rattle.placements.proofs.Filling.{Filling, fill-first, fill-turn, fill-last}
 use Rattle.placements.proofs.Placement.unrank.Statement.{statement}
 use Rattle.placements.proofs.Placement.unrank.Tie as tie

@@ -8,7 +8,7 @@ use borrow.Author.Tests.{not-true, not-false}
 use lib.ListN.{length, drop, getD}
 use Rattle.combinatorics.proofs.Bursts.{placed-end}
 use Rattle.combinatorics.proofs.Loops.{left-next, left-none}
-use Rattle.construction_a.specs.Figures.{maxBursts}
+use Rattle.cells.specs.Figures.{maxBursts}
 use Rattle.placements.specs.Bridge.{startsIn}
 use Rattle.placements.proofs.Positions.{Tested, tested-start, tested-not, tested-on, tested-end}
 use Rattle.placements.proofs.bursts.cover_erasures.Statement.{statement}

@@ -9,7 +9,7 @@ use mir.Val.{Fits}
 use lib.ListN.{length, drop, getD}
 use Rattle.combinatorics.specs.Bursts.{inBurst}
 use Rattle.combinatorics.proofs.Loops.{left-next, left-none}
-use Rattle.construction_a.specs.Figures.{maxBursts}
+use Rattle.cells.specs.Figures.{maxBursts}
 use Rattle.placements.specs.Bridge.{startsIn}
 use Rattle.placements.proofs.Positions.{burst-next, burst-found, burst-none}
 use Rattle.placements.proofs.bursts.in_burst.Statement.{statement}

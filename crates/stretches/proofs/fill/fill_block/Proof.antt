@@ -77,7 +77,8 @@ fill-head-requires : tie.Need-fill-head-requires Inv-loop μ-loop
 fill-head-requires c κs = c .before .before .before .before .before .pre
 
 loop-holds : tie.Need-loop-holds Inv-loop μ-loop
-loop-holds c = let head = c .before .before .fill-head .ensures in (edge-is (c .before .before .before .before .before .before .before .before), head .1, head .0)
+loop-holds c = let head = c .before .before .fill-head .ensures in
+    (edge-is (c .before .before .before .before .before .before .before .before), head .1, head .0)
 
 fill-message-requires : tie.Need-fill-message-requires Inv-loop μ-loop
 fill-message-requires c κs =
@@ -106,9 +107,11 @@ fill-burst-requires c κs =
 
 loop-less : tie.Need-loop-less Inv-loop μ-loop
 loop-less c =
-    let s = c .before .before .before .before .before .before .before .before .before .before .before .before .before .before .before .before .before .before .before in
+    let s = c .before .before .before .before .before .before .before .before .before .before .before .before .before .before .before .before .before
+    .before .before in
     let t = c .before .before .before .before .before .before .before .before .before .before .loop in
-    let h = hop s (t .here) (t .inv .1 .0) (omega (arith, t .inv .0, t .inv .1 .2, c .before .before .before .before .before .before .before .before .if1 .taken)) in
+    let h = hop s (t .here) (t .inv .1 .0)
+    (omega (arith, t .inv .0, t .inv .1 .2, c .before .before .before .before .before .before .before .before .if1 .taken)) in
     omega (
       arith,
       c .before .before .before .before .before .before .fill-message .ensures .passed-is,
@@ -119,12 +122,14 @@ loop-less c =
 
 loop-again : tie.Need-loop-again Inv-loop μ-loop
 loop-again c =
-    let s = c .before .before .before .before .before .before .before .before .before .before .before .before .before .before .before .before .before .before .before in
+    let s = c .before .before .before .before .before .before .before .before .before .before .before .before .before .before .before .before .before
+    .before .before in
     let t = c .before .before .before .before .before .before .before .before .before .before .loop in
     let p = t .inv .1 .0 in
     let start = t .inv .1 .2 in
     let h = hop s (t .here) p (omega (arith, t .inv .0, start, c .before .before .before .before .before .before .before .before .if1 .taken)) in
-    let cells = message-to s (t .here) p (t .here .stop) (omega (arith, start)) (omega (arith, t .inv .0, c .before .before .before .before .before .before .before .before .if1 .taken)) in
+    let cells = message-to s (t .here) p (t .here .stop) (omega (arith, start))
+    (omega (arith, t .inv .0, c .before .before .before .before .before .before .before .before .if1 .taken)) in
     let m = c .before .before .before .before .before .before .fill-message .ensures in
     let u = c .before .before .fill-burst .ensures .0 in
     let before = message-filled (t .inv .2) (t .here .stop) (omega (arith, start, h .onward)) (omega (arith, start, h .ends)) cells m in
@@ -137,7 +142,8 @@ loop-again c =
     )
 
 same-length : tie.Need-same-length Inv-loop μ-loop
-same-length c = c .before .before .before .before .loop .inv .2 .filled .size ∙ sym (c .before .before .before .before .before .before .before .before .before .before .before .before .before .pre .0 .filled .size)
+same-length c = c .before .before .before .before .loop .inv .2 .filled .size
+    ∙ sym (c .before .before .before .before .before .before .before .before .before .before .before .before .before .pre .0 .filled .size)
 
 returns : tie.Need-returns Inv-loop μ-loop
 returns c =
@@ -166,7 +172,10 @@ fill-message-requires-2 c κs =
     )
 
 same-length-2 : tie.Need-same-length-2 Inv-loop μ-loop
-same-length-2 c = c .before .before .fill-message2 .ensures .size ∙ c .before .before .before .before .before .before .before .before .loop .inv .2 .filled .size ∙ sym (c .before .before .before .before .before .before .before .before .before .before .before .before .before .before .before .before .before .pre .0 .filled .size)
+same-length-2 c = c .before .before .fill-message2 .ensures .size
+    ∙ c .before .before .before .before .before .before .before .before .loop .inv .2 .filled .size
+    ∙ sym (c .before .before .before .before .before .before .before .before .before .before .before .before .before .before .before .before .before .pre .0
+    .filled .size)
 
 returns-2 : tie.Need-returns-2 Inv-loop μ-loop
 returns-2 c =

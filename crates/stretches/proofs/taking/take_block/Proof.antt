@@ -162,8 +162,10 @@ same-length c = sym (c .before .before .before .before .loop .inv .3 .so-far .si
 returns : tie.Need-returns Inv-loop μ-loop
 returns c =
     let s = c .before .before .before .before .before .before .before .before .before .before .before in
-    let t = c .before .before .before .before .loop in
-    (t .inv .3, (rest-none (w s) (s .args .block) (t .here .at) (t .here .passed) (s .pre .1 .0) (t .inv .2) (omega (arith, t .inv .0, c .if2 .taken)), t .inv .1))
+    let t = c .before .before .before .before .loop in (
+      t .inv .3,
+      (rest-none (w s) (s .args .block) (t .here .at) (t .here .passed) (s .pre .1 .0) (t .inv .2) (omega (arith, t .inv .0, c .if2 .taken)), t .inv .1),
+    )
 
 take-cells-requires-2 : tie.Need-take-cells-requires-2 Inv-loop μ-loop
 take-cells-requires-2 c κs =
@@ -189,7 +191,11 @@ returns-2 c =
     let m = rw (t .inv .0) at (c .before .before .take-cells2 .ensures) in
     let cells = message-to s (t .here) p (edge s) before (omega arith) in (
       cells-taken (t .inv .3) (edge s) (omega arith) (edge-in (w s) (s .args .block) (s .pre .1 .0)) cells m,
-      (rw (m .at-is, m .passed-is) (rest-hop (w s) (s .args .block) (t .here .at) (t .here .passed) (s .pre .1 .0) p inside before), m .stop-is ∙ t .inv .1 ∙ ap (next s) (sym (m .passed-is))),
+      (
+        rw (m .at-is, m .passed-is) (rest-hop (w s) (s .args .block) (t .here .at) (t .here .passed) (s .pre .1 .0) p inside before),
+        m .stop-is ∙ t .inv .1
+            ∙ ap (next s) (sym (m .passed-is)),
+      ),
     )
 
 pub take-block-spec : {M : Type 1} → statement M

@@ -76,7 +76,8 @@ returns c =
     let n = s .args .walk .n in
     let word = s .args .word .now in
     let e : t .block ≡ s .args .walk .blocks = omega (arith, t .inv .0, c .if1 .left) in
-    let end : t .here .at ≡ n = omega (arith, t .inv .1 .0 .from, t .inv .1 .0 .between .within, ap (λ (k : ℕ). getD (s .args .heads .now) k 0) e, R .walks .last) in
+    let end : t .here .at ≡ n =
+    omega (arith, t .inv .1 .0 .from, t .inv .1 .0 .between .within, ap (λ (k : ℕ). getD (s .args .heads .now) k 0) e, R .walks .last) in
     taken-done n (kd s) word (t .here .taken) (t .message) (subst (λ (x : ℕ). Taken n (kd s) word x (t .message) (t .here .taken)) end (t .inv .2 .so-far))
 
 pub take-message-spec : {M : Type 1} → statement M

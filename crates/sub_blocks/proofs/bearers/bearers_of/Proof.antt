@@ -7,8 +7,10 @@ use native.Mathlib.Omega.{arith}
 use borrow.Author.Needs.{needs}
 use lib.ListN.{length, getD, set, length-set}
 use Rattle.combinatorics.specs.Stretch.{bit, sum, count}
-use Rattle.combinatorics.proofs.Stretch.{count-le, count-on, filled-on}
-use Rattle.construction_a.proofs.Figures.{Ranged}
+use Rattle.combinatorics.proofs.StretchLoops.{count-on}
+use Rattle.combinatorics.proofs.Members.{filled-on}
+use Rattle.combinatorics.proofs.Stretch.{count-le}
+use Rattle.cells.proofs.Figures.{Ranged}
 use Rattle.larsson.specs.Writing.{untouched, bears}
 use Rattle.params.specs.Given.{maxBlocks}
 use Rattle.placements.specs.Bridge.{startsIn}

@@ -10,11 +10,12 @@ use mir.Val.{Fits}
 use lib.ListN.{length, drop, getD}
 use Rattle.combinatorics.specs.Lists.{any}
 use Rattle.combinatorics.proofs.Loops.{left-next, left-none}
-use Rattle.construction_a.specs.Figures.{maxBursts}
+use Rattle.cells.specs.Figures.{maxBursts}
 use Rattle.larsson.specs.Writing.{untouched}
 use Rattle.placements.specs.Bridge.{startsIn}
 use Rattle.larsson_params.specs.Given.{larssonFiguresOf}
-use Rattle.larsson_params.proofs.Shape.{bound, long, starts-room}
+use Rattle.larsson_params.proofs.Shape.{bound, long}
+use Rattle.sub_blocks.proofs.Room.{Reached, reached}
 use Rattle.sub_blocks.proofs.Bearing.{touched, any-here, any-on, any-none, untouched-is}
 use Rattle.sub_blocks.proofs.bearers.is_untouched.Statement.{statement}
 use Rattle.sub_blocks.proofs.bearers.is_untouched.Tie as tie
@@ -29,20 +30,20 @@ abbrev μ-loop : tie.MeasureT-loop
 abbrev Start : Type 0
 Start = tie.Start Inv-loop μ-loop
 
-room : (s : Start) → getD (s .args .starts .now) (s .args .i) 0 + s .args .layout .«sub_len» ≤ s .args .layout .n
-room s = starts-room (s .args .layout) (s .pre .0 .layout) (s .args .starts .now) (s .pre .1) (s .args .i) (s .pre .2)
+there : (s : Start) → Reached (s .args .layout) (s .args .starts .now) (s .args .i)
+there s = reached (s .args .layout) (s .pre .0 .layout) (s .args .starts .now) (s .pre .1) (s .args .i) (s .pre .2)
 
 mul-from : tie.Need-mul-from Inv-loop μ-loop
-mul-from c = omega (arith, c .pre .2, bound (c .args .layout) (c .pre .0 .layout))
+mul-from c = omega (arith, there c)
 
 element-copy-out-from : tie.Need-element-copy-out-from Inv-loop μ-loop
-element-copy-out-from c = omega (arith, c .pre .2, bound (c .args .layout) (c .pre .0 .layout))
+element-copy-out-from c = omega (arith, there c)
 
 cast-from : tie.Need-cast-from Inv-loop μ-loop
-cast-from c = omega (arith, room (c .before), bound (c .before .args .layout) (c .before .pre .0 .layout))
+cast-from c = omega (arith, there (c .before))
 
 add-end : tie.Need-add-end Inv-loop μ-loop
-add-end c = omega (arith, room (c .before .before), bound (c .before .before .args .layout) (c .before .before .pre .0 .layout))
+add-end c = omega (arith, there (c .before .before))
 
 cast-count : tie.Need-cast-count Inv-loop μ-loop
 cast-count c = search needs

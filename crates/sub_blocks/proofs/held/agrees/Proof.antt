@@ -10,8 +10,8 @@ use borrow.Author.Tests.{not-true, not-false}
 use lib.ListN.{getD}
 use Rattle.combinatorics.specs.Stretch.{has}
 use Rattle.combinatorics.proofs.Cases.{eqb-same, eqb-other}
-use Rattle.combinatorics.proofs.Stretch.{has-start, has-here, has-on, has-over}
-use Rattle.construction_a.proofs.Figures.{Ranged}
+use Rattle.combinatorics.proofs.StretchLoops.{has-start, has-here, has-on, has-over}
+use Rattle.cells.proofs.Figures.{Ranged}
 use Rattle.larsson.specs.Figures.{subBlocks}
 use Rattle.blocks.specs.Blocks.{indexKind}
 use Rattle.larsson_params.specs.Given.{larssonFiguresOf}

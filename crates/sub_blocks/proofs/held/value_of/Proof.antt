@@ -1,34 +1,31 @@
 -- `value_of` meets its contract: the part of the word is the sub-block's. Assumes nothing.
 use mathlib.Core.Path.{_≡_, ap, _∙_}
-use Prim.Native.Nat.{ℕ, _+_, _-_, _≤_, min}
+use Prim.Native.Nat.{ℕ, _+_, _-_, min}
 use native.Mathlib.Omega.{arith}
 use borrow.Author.Needs.{needs}
 use lib.ListN.{getD, take, drop}
 use Rattle.larsson_params.specs.Given.{larssonFiguresOf}
-use Rattle.larsson_params.proofs.Shape.{bound, starts-room}
+use Rattle.larsson_params.proofs.Shape.{bound}
+use Rattle.sub_blocks.proofs.Room.{Reached, reached}
 use Rattle.sub_blocks.proofs.Holding.{spelled-is}
 use Rattle.sub_blocks.proofs.Voting.{part-is}
 use Rattle.sub_blocks.proofs.held.value_of.Statement.{statement}
 use Rattle.sub_blocks.proofs.held.value_of.Tie as tie
 
-room : (s : tie.Start) → getD (s .args .starts .now) (s .args .i) 0 + s .args .layout .«sub_len» ≤ s .args .layout .n
-room s = starts-room (s .args .layout) (s .pre .0 .layout) (s .args .starts .now) (s .pre .1) (s .args .i) (s .pre .2)
+there : (s : tie.Start) → Reached (s .args .layout) (s .args .starts .now) (s .args .i)
+there s = reached (s .args .layout) (s .pre .0 .layout) (s .args .starts .now) (s .pre .1) (s .args .i) (s .pre .2)
 
 mul-from : tie.Need-mul-from
-mul-from c = omega (arith, c .before .pre .2, bound (c .before .args .layout) (c .before .pre .0 .layout))
+mul-from c = omega (arith, there (c .before))
 
 element-copy-out-from : tie.Need-element-copy-out-from
-element-copy-out-from c = omega (arith, c .before .pre .2, bound (c .before .args .layout) (c .before .pre .0 .layout))
+element-copy-out-from c = omega (arith, there (c .before))
 
 cast-from : tie.Need-cast-from
-cast-from c =
-    let s = c .before .before in
-    omega (arith, room s, bound (s .args .layout) (s .pre .0 .layout))
+cast-from c = omega (arith, there (c .before .before))
 
 add-end : tie.Need-add-end
-add-end c =
-    let s = c .before .before .before in
-    omega (arith, room s, bound (s .args .layout) (s .pre .0 .layout))
+add-end c = omega (arith, there (c .before .before .before))
 
 sub-with-digits : tie.Need-sub-with-digits
 sub-with-digits c = search needs
@@ -39,7 +36,7 @@ part-with-digits-start c = search needs
 part-with-digits-end : tie.Need-part-with-digits-end
 part-with-digits-end c =
     let s = c .before .before .before in
-    omega (arith, room s, s .pre .0 .complete)
+    omega (arith, there s, s .pre .0 .complete)
 
 with-digits-requires : tie.Need-with-digits-requires
 with-digits-requires c κs =

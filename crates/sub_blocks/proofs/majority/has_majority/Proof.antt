@@ -1,7 +1,7 @@
 -- `has_majority` meets its contract: a silent cell leaves no value, and the votes are counted by symbols. Assumes nothing.
 use mathlib.Core.Path.{_≡_, sym, ap, _∙_}
 use mathlib.Core.List.{List}
-use Prim.Native.Nat.{suc, _+_, _≤_}
+use Prim.Native.Nat.{suc}
 use native.Mathlib.Omega.{arith}
 use borrow.Author.Needs.{needs}
 use borrow.Author.Tests.{not-true, not-false}
@@ -11,13 +11,13 @@ use Rattle.combinatorics.specs.Majority.{hasCommon}
 use Rattle.larsson.specs.Figures.{subBlocks}
 use Rattle.larsson.specs.Reading.{subSymbols, subValue}
 use Rattle.larsson_params.specs.Given.{larssonFiguresOf}
-use Rattle.larsson_params.proofs.Shape.{bound, starts-room}
+use Rattle.sub_blocks.proofs.Room.{Reached, reached}
 use Rattle.sub_blocks.proofs.Voting.{part-is, no-value, voted}
 use Rattle.sub_blocks.proofs.majority.has_majority.Statement.{statement}
 use Rattle.sub_blocks.proofs.majority.has_majority.Tie as tie
 
-room : (s : tie.Start) → getD (s .args .starts .now) (s .args .i) 0 + s .args .layout .«sub_len» ≤ s .args .layout .n
-room s = starts-room (s .args .layout) (s .pre .0 .layout) (s .args .starts .now) (s .pre .1) (s .args .i) (s .pre .2)
+there : (s : tie.Start) → Reached (s .args .layout) (s .args .starts .now) (s .args .i)
+there s = reached (s .args .layout) (s .pre .0 .layout) (s .args .starts .now) (s .pre .1) (s .args .i) (s .pre .2)
 
 -- what the test of the part says
 tested : (c : tie.After-all-below)
@@ -31,20 +31,16 @@ tested c =
     (s .pre .1 .0 (a .i) (s .pre .2)))
 
 mul-from : tie.Need-mul-from
-mul-from c = omega (arith, c .before .pre .2, bound (c .before .args .layout) (c .before .pre .0 .layout))
+mul-from c = omega (arith, there (c .before))
 
 element-copy-out-from : tie.Need-element-copy-out-from
-element-copy-out-from c = omega (arith, c .before .pre .2, bound (c .before .args .layout) (c .before .pre .0 .layout))
+element-copy-out-from c = omega (arith, there (c .before))
 
 cast-from : tie.Need-cast-from
-cast-from c =
-    let s = c .before .before in
-    omega (arith, room s, bound (s .args .layout) (s .pre .0 .layout))
+cast-from c = omega (arith, there (c .before .before))
 
 add-end : tie.Need-add-end
-add-end c =
-    let s = c .before .before .before in
-    omega (arith, room s, bound (s .args .layout) (s .pre .0 .layout))
+add-end c = omega (arith, there (c .before .before .before))
 
 sub-all-below : tie.Need-sub-all-below
 sub-all-below c = search needs
@@ -55,7 +51,7 @@ part-all-below-start c = search needs
 part-all-below-end : tie.Need-part-all-below-end
 part-all-below-end c =
     let s = c .before .before .before in
-    omega (arith, room s, s .pre .0 .complete)
+    omega (arith, there s, s .pre .0 .complete)
 
 all-below-requires : tie.Need-all-below-requires
 all-below-requires c κs = search needs

@@ -1,46 +1,41 @@
 -- `same_symbols` meets its contract: the stretches are the sub-blocks'. Assumes nothing.
 use mathlib.Core.Path.{_≡_, sym, ap₂, _∙_}
-use Prim.Native.Nat.{ℕ, _+_, _≤_, _<_}
+use Prim.Native.Nat.{ℕ, _<_}
 use native.Mathlib.Omega.{arith}
 use lib.ListN.{length, getD}
 use Rattle.combinatorics.specs.Lists.{sameList}
 use Rattle.larsson.specs.Figures.{subBlocks}
 use Rattle.larsson_params.specs.Given.{larssonFiguresOf}
-use Rattle.larsson_params.proofs.Shape.{bound, starts-room}
+use Rattle.sub_blocks.proofs.Room.{Reached, reached}
 use Rattle.sub_blocks.proofs.Voting.{symbols-from}
 use Rattle.sub_blocks.proofs.majority.same_symbols.Statement.{statement}
 use Rattle.sub_blocks.proofs.majority.same_symbols.Tie as tie
 
-room : (s : tie.Start) (k : ℕ) → k < subBlocks (larssonFiguresOf (s .args .layout))
-    → getD (s .args .starts .now) k 0 + s .args .layout .«sub_len» ≤ s .args .layout .n
-room s = starts-room (s .args .layout) (s .pre .0 .layout) (s .args .starts .now) (s .pre .1)
+there : (s : tie.Start) (k : ℕ) → k < subBlocks (larssonFiguresOf (s .args .layout)) → Reached (s .args .layout) (s .args .starts .now) k
+there s = reached (s .args .layout) (s .pre .0 .layout) (s .args .starts .now) (s .pre .1)
 
 mul-same-stretches : tie.Need-mul-same-stretches
-mul-same-stretches c = omega (arith, c .before .pre .2, bound (c .before .args .layout) (c .before .pre .0 .layout))
+mul-same-stretches c = let s = c .before in omega (arith, there s (s .args .i) (s .pre .2))
 
 element-copy-out-same-stretches : tie.Need-element-copy-out-same-stretches
-element-copy-out-same-stretches c = omega (arith, c .before .pre .2, bound (c .before .args .layout) (c .before .pre .0 .layout))
+element-copy-out-same-stretches c = let s = c .before in omega (arith, there s (s .args .i) (s .pre .2))
 
 cast-same-stretches : tie.Need-cast-same-stretches
-cast-same-stretches c =
-    let s = c .before .before in
-    omega (arith, room s (s .args .i) (s .pre .2), bound (s .args .layout) (s .pre .0 .layout))
+cast-same-stretches c = let s = c .before .before in omega (arith, there s (s .args .i) (s .pre .2))
 
 mul-same-stretches-2 : tie.Need-mul-same-stretches-2
-mul-same-stretches-2 c = omega (arith, c .before .before .pre .3, bound (c .before .before .args .layout) (c .before .before .pre .0 .layout))
+mul-same-stretches-2 c = let s = c .before .before in omega (arith, there s (s .args .j) (s .pre .3))
 
 element-copy-out-same-stretches-2 : tie.Need-element-copy-out-same-stretches-2
-element-copy-out-same-stretches-2 c = omega (arith, c .before .before .pre .3, bound (c .before .before .args .layout) (c .before .before .pre .0 .layout))
+element-copy-out-same-stretches-2 c = let s = c .before .before in omega (arith, there s (s .args .j) (s .pre .3))
 
 cast-same-stretches-2 : tie.Need-cast-same-stretches-2
-cast-same-stretches-2 c =
-    let s = c .before .before .before in
-    omega (arith, room s (s .args .j) (s .pre .3), bound (s .args .layout) (s .pre .0 .layout))
+cast-same-stretches-2 c = let s = c .before .before .before in omega (arith, there s (s .args .j) (s .pre .3))
 
 same-stretches-requires : tie.Need-same-stretches-requires
 same-stretches-requires c κs =
     let s = c .before .before .before in
-    (omega (arith, room s (s .args .i) (s .pre .2), s .pre .0 .complete), omega (arith, room s (s .args .j) (s .pre .3), s .pre .0 .complete))
+    (omega (arith, there s (s .args .i) (s .pre .2), s .pre .0 .complete), omega (arith, there s (s .args .j) (s .pre .3), s .pre .0 .complete))
 
 returns : tie.Need-returns
 returns c =

@@ -7,8 +7,9 @@ use native.Mathlib.Omega.{arith}
 use borrow.Author.Needs.{needs}
 use Rattle.combinatorics.specs.Lists.{sameList}
 use Rattle.combinatorics.specs.Stretch.{bit, sum, count}
-use Rattle.combinatorics.proofs.Stretch.{count-le, count-on}
-use Rattle.construction_a.proofs.Figures.{Ranged}
+use Rattle.combinatorics.proofs.StretchLoops.{count-on}
+use Rattle.combinatorics.proofs.Stretch.{count-le}
+use Rattle.cells.proofs.Figures.{Ranged}
 use Rattle.larsson.specs.Reading.{subSymbols}
 use Rattle.larsson_params.specs.Given.{larssonFiguresOf}
 use Rattle.larsson_params.proofs.Shape.{bound}

@@ -17,27 +17,26 @@ is-repeated-requires c κs = search needs
 in-phase-requires : tie.Need-in-phase-requires
 in-phase-requires c κs = search needs
 
+-- what the test says, of the error as it was handed over
+tested : (c : tie.After-is-repeated) → c .is-repeated .result ≡ isRepeated (c .before .args .self) (c .before .args .error)
+tested c =
+    let s = c .before in
+    c .is-repeated .ensures ∙ ap (isRepeated (s .args .self)) (toZ-ofZ w32 (s .args .error) (s .fits .error))
+
+again : (c : tie.Else1) → isRepeated (c .before .before .args .self) (c .before .before .args .error) ≡ true
+again c = sym (tested (c .before)) ∙ not-false (c .before .is-repeated .result) (c .if1 .left)
+
 returns : tie.Need-returns
 returns c =
-    let s = c .before .before .before in
-    let i = c .before .before .is-repeated in
-    let told = ap (isRepeated (s .args .self)) (toZ-ofZ w32 (s .args .error) (s .fits .error)) in
-    c .in-phase .ensures ∙ failed-last (s .args .self) (isRepeated (s .args .self) (s .args .error))
-    (sym (i .ensures ∙ told) ∙ not-true (i .result) (c .before .if1 .taken))
+    let a = c .before .before .before .args in
+    let i = c .before .before in
+    c .in-phase .ensures ∙ failed-last (a .self) (isRepeated (a .self) (a .error)) (sym (tested i) ∙ not-true (i .is-repeated .result) (c .before .if1 .taken))
 
-sub-t8 : tie.Need-sub-t8
-sub-t8 c =
-    let s = c .before .before .before .before in
-    let i = c .before .before .before .is-repeated in
-    let told = ap (isRepeated (s .args .self)) (toZ-ofZ w32 (s .args .error) (s .fits .error)) in
-    omega (arith, some-repeats (s .args .self) (s .args .error) (sym (i .ensures ∙ told) ∙ not-false (i .result) (c .before .before .if1 .left)))
+sub-next : tie.Need-sub-next
+sub-next c = let a = c .before .before .before .args in omega (arith, some-repeats (a .self) (a .error) (again (c .before)))
 
 returns-2 : tie.Need-returns-2
-returns-2 c =
-    let s = c .before .before .before .before in
-    let i = c .before .before .before .is-repeated in
-    let told = ap (isRepeated (s .args .self)) (toZ-ofZ w32 (s .args .error) (s .fits .error)) in
-    failed-again (s .args .self) (isRepeated (s .args .self) (s .args .error)) (sym (i .ensures ∙ told) ∙ not-false (i .result) (c .before .before .if1 .left))
+returns-2 c = let a = c .before .before .before .args in failed-again (a .self) (isRepeated (a .self) (a .error)) (again (c .before))
 
 pub after-failed-spec : {M : Type 1} → statement M
-after-failed-spec = tie.close (tie.spec is-repeated-requires in-phase-requires returns sub-t8 returns-2)
+after-failed-spec = tie.close (tie.spec is-repeated-requires in-phase-requires returns sub-next returns-2)

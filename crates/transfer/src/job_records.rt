@@ -1,0 +1,165 @@
+// The records that write and read jobs. Assumes nothing.
+ghost use mathlib.Core.Option.{some};
+ghost use Prim.Native.Nat.{_+_, _*_, _≤_};
+ghost use lib.ListN.{length};
+ghost use Rattle.cells.specs.Figures.{maxWord};
+ghost use Rattle.jobs.specs.Slots.{entries};
+ghost use Rattle.jobcodec.specs.JobWrite.{jobWriteUnder};
+ghost use Rattle.jobcodec.specs.JobRead.{jobReadUnder};
+ghost use Rattle.params.specs.Bridge.{codingOf};
+ghost use Rattle.placements.specs.Bridge.{heldAs};
+ghost use Rattle.records.specs.Records.{recordHeadLen, writeLen, readLen, current as currentOf};
+ghost use Rattle.transfer.specs.Steps.{writeOut, readOut, writeStep, readStep};
+ghost use Rattle.records.specs.Bridge.{lastFigures, sessionOf};
+ghost use Rattle.transfer.specs.Bridge.{Ready, Shown, RecordLaid, Whole};
+use crate::MAX_WORD;
+use crate::SHORT_WORD;
+use crate::StepAnswer;
+use crate::counted;
+use crate::stop;
+use params::Figures;
+use params::Layout;
+use params::bytes;
+use placements::Placement;
+use records::CurrentAnswer;
+use records::HEAD_LEN;
+use records::Session;
+use refusals::Refusal;
+
+// W: the word of the placement and the payload.
+pub fn serve_write(session: Session, received: &[u8], line: &mut [u8]) -> StepAnswer
+    requires { ⌜ Whole session (now line) (now received) (writeLen (currentOf (lastFigures (session .figures)))) ⌝ }
+    ensures { λ r. ⌜ Shown r (now (line .entry)) (now (line .exit))
+        (writeOut (sessionOf session) (now (received .entry)) (currentOf (lastFigures (session .figures)))) ⌝ }
+{
+    let figures = session.figures;
+    let answer = records::current(figures);
+    let CurrentAnswer::Laid(given, layout) = answer else {
+        return stop(session, line);
+    };
+    write_laid(session, given, layout, received, line)
+}
+
+// The same by the last accepted figures and their layout.
+fn write_laid(
+    session: Session,
+    figures: Figures,
+    layout: Layout,
+    received: &[u8],
+    line: &mut [u8],
+) -> StepAnswer
+    requires { ⌜ RecordLaid session (now line) figures layout (recordHeadLen + 2 * layout .m) (now received) ⌝ }
+    ensures { λ r. ⌜ Shown r (now (line .entry)) (now (line .exit)) (writeOut (sessionOf session) (now (received .entry)) (some figures)) ⌝ }
+{
+    let m = layout.m;
+    let n = layout.n;
+    let at = records::placement_in(received, m);
+    let from = HEAD_LEN + 2 * m;
+    if n <= SHORT_WORD {
+        let mut short = [0u8; SHORT_WORD];
+        return write_word(
+            session,
+            figures,
+            at,
+            &received[from..],
+            &mut short[..n],
+            line,
+        );
+    }
+    let mut word = [0u8; MAX_WORD];
+    write_word(
+        session,
+        figures,
+        at,
+        &received[from..],
+        &mut word[..n],
+        line,
+    )
+}
+
+// W, with a lent word that holds 0.
+fn write_word(
+    session: Session,
+    figures: Figures,
+    at: Placement,
+    payload: &[u8],
+    word: &mut [u8],
+    line: &mut [u8],
+) -> StepAnswer
+    requires { ⌜ Ready session (now line) × (length (now word) ≤ maxWord) ⌝ }
+    ensures { λ r. ⌜ Shown r (now (line .entry)) (now (line .exit))
+        (writeStep (sessionOf session) (jobWriteUnder (codingOf figures) (entries (session .table)) (heldAs at) (now (payload .entry)) (now (word .entry)))) ⌝ }
+{
+    let table = session.table;
+    let answer = jobcodec::job_write(figures, table, at, payload, word);
+    if answer != Refusal::NONE {
+        return counted(session, lines::put_refusal(line, b'W', answer));
+    }
+    counted(session, lines::put_word(line, word))
+}
+
+// R: the payload of the word.
+pub fn serve_read(session: Session, received: &[u8], line: &mut [u8]) -> StepAnswer
+    requires { ⌜ Whole session (now line) (now received) (readLen (currentOf (lastFigures (session .figures)))) ⌝ }
+    ensures { λ r. ⌜ Shown r (now (line .entry)) (now (line .exit))
+        (readOut (sessionOf session) (now (received .entry)) (currentOf (lastFigures (session .figures)))) ⌝ }
+{
+    let figures = session.figures;
+    let answer = records::current(figures);
+    let CurrentAnswer::Laid(given, layout) = answer else {
+        return stop(session, line);
+    };
+    read_laid(session, given, layout, received, line)
+}
+
+// The same by the last accepted figures and their layout.
+fn read_laid(
+    session: Session,
+    figures: Figures,
+    layout: Layout,
+    received: &[u8],
+    line: &mut [u8],
+) -> StepAnswer
+    requires { ⌜ RecordLaid session (now line) figures layout recordHeadLen (now received) ⌝ }
+    ensures { λ r. ⌜ Shown r (now (line .entry)) (now (line .exit)) (readOut (sessionOf session) (now (received .entry)) (some figures)) ⌝ }
+{
+    let count = bytes::payload_len(layout.q, layout.message_len);
+    if count <= SHORT_WORD {
+        let mut short = [0u8; SHORT_WORD];
+        return read_payload(
+            session,
+            figures,
+            &received[HEAD_LEN..],
+            &mut short[..count],
+            line,
+        );
+    }
+    let mut payload = [0u8; MAX_WORD];
+    read_payload(
+        session,
+        figures,
+        &received[HEAD_LEN..],
+        &mut payload[..count],
+        line,
+    )
+}
+
+// R, with a lent payload that holds 0.
+fn read_payload(
+    session: Session,
+    figures: Figures,
+    word: &[u8],
+    payload: &mut [u8],
+    line: &mut [u8],
+) -> StepAnswer
+    requires { ⌜ Ready session (now line) × (length (now payload) ≤ maxWord) ⌝ }
+    ensures { λ r. ⌜ Shown r (now (line .entry)) (now (line .exit))
+        (readStep (sessionOf session) (jobReadUnder (codingOf figures) (entries (session .table)) (now (word .entry)) (now (payload .entry)))) ⌝ }
+{
+    let table = session.table;
+    let answer = jobcodec::job_read(figures, table, word, payload);
+    if answer != Refusal::NONE {
+        return counted(session, lines::put_refusal(line, b'R', answer));
+    }
+    counted(session, lines::put_payload(line, payload))
+}
