@@ -82,7 +82,7 @@ enum burgzemi_answer {
 #define BURGZEMI_SPHERE 1
 #define BURGZEMI_TORIC 2
 
-/* What burgzemi_prescription_read lends: bytes of marks, and doubles of powers. */
+/* What burgzemi_prescription_read is lent: bytes of marks, and doubles of powers. */
 #define BURGZEMI_MARKS_LEN 8
 #define BURGZEMI_POWERS_LEN 5
 
@@ -194,8 +194,8 @@ uint8_t burgzemi_job_read(uint32_t n, uint32_t q, uint32_t m, uint32_t b,
                           uint8_t *payload, size_t payload_len);
 
 /*
- * Lays `depth` words of n symbols side by side, 1 to 16. `words` has them one after another, `strip` gets depth * n symbols: cell t holds symbol t / depth
- * (rounded down) of word t % depth.
+ * Lays `depth` words of n symbols, 1 to 16 of them, side by side. `words` has them one after another, `strip` gets depth * n symbols: cell t holds symbol
+ * t / depth (rounded down) of word t % depth.
  *
  * Where at most m stretches of the strip are worn, each of at most depth * b cells, each word's share of the strip's map, found by burgzemi_deinterleave
  * on the map, can be covered; and each word that is written on its cover reads back, whatever values up to q the worn cells hold.
