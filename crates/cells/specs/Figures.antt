@@ -1,5 +1,5 @@
--- Document 01, "Figures of a strip", as far as every construction has it: the figures and their ranges, placements with their count and ranks, and how
--- many symbols spell so many values. Assumes nothing.
+-- Document 01, "Figures of a strip", as far as every construction has it: the figures and their ranges, placements with their count, and how many symbols
+-- spell so many values; of its next two chapters the rank of a placement, and the placement of a rank. Assumes nothing.
 use mathlib.Core.Bool.{Bool, cond, _&&_}
 use mathlib.Core.List.{List}
 use Prim.Native.Nat.{ℕ, _-_, _*_, _^_}
@@ -8,7 +8,7 @@ use lib.ListN.{length}
 use Rattle.combinatorics.specs.Bursts.{apart, placements, rankOf, startsOf}
 use Rattle.combinatorics.specs.Stretch.{first}
 
--- the figures: n symbols of a word, each below q; m bursts (runs) of b positions each
+-- the figures: "A word has n symbols, each a byte below q."; m bursts (runs) of b positions each
 pub record Params : Type 0 where
   pub n : ℕ
   pub q : ℕ
@@ -58,7 +58,7 @@ countOut t = cond (leb t maxCount) (counted t) tooMany
 abbrev pub rank : Params → List ℕ → ℕ
 rank f ss = rankOf (f .b) ss
 
--- and the placement of a rank
+-- "Then the rank gives the placement"
 abbrev pub placementOf : Params → ℕ → List ℕ
 placementOf f v = startsOf (f .n) (f .m) (f .b) v
 

@@ -16,7 +16,6 @@ formerFits f = leb (f .m * f .b) (f .n) && ltb (indexTail f) (blockMin f) && leb
 
 -- Document 02, ticket 11: "Strips within the former limits give the same words." Writing names no limit and is as it was, and so is Reading but for silent
 -- cells (ticket 6), so what is left to say is that the same figures fit. The proof is `same-figures` of params/proofs/Former.antt; the comparison holds
--- the words themselves to those
--- from before.
+-- the words themselves to those from before.
 abbrev pub SameFigures : Type 0
 SameFigures = (f : Params) → formerRange f ≡ true → fits f ≡ formerFits f

@@ -7,8 +7,8 @@ use placements::Placement;
 use refusals::Refusal;
 use stretches::Walk;
 
-// Whether a message of k symbols below q may be written at a placement, into a lent word that should have the symbols of the walk, with as many bursts
-// of its length. Refusals: 3 5 4.
+// Whether a message of k symbols below q may be written at a placement, into a lent word of so many symbols; how many it should have, and its bursts, are
+// the walk's. Refusals: 3 5 4.
 pub fn may_write(walk: Walk, q: u64, k: usize, at: Placement, message: &[u8], lent: usize) -> u8
     requires { ⌜ Room (walk .n) (walk .m) (walk .b) × (walk .b ≤ walk .n) ⌝ }
     ensures { λ r. ⌜ r ≡ writeNumber (walk .n) (walk .m) (walk .b) q k (heldAs at) (now (message .entry)) lent ⌝ }

@@ -50,7 +50,7 @@ pub record BothFacts (c : Codec) (ledger : List Call) (w starts payload : List �
   pub only : OnlyPair c w starts payload
   pub opened : lastLeft ledger (jobNumber payload) ≡ some opening
 
--- a number of document 01's lists
+-- a number of document 01's two lists, which document 02's join
 unfoldable pub isRefusal : ℕ → Bool
 isRefusal a = any (eqb a) refusals
 

@@ -151,7 +151,7 @@ holdAt (OnHold x) n es = refuse es jobHeld
 holdAt (Open x) n es = accept (replaceFirst (holds n) (OnHold n) es)
 holdAt Free n es = refuse es notOpen
 
--- finishing and holding alike: the slot of an open number takes the entry
+-- finishing and holding alike, as the code has them: the slot of an open number takes the entry (`finish-out`, `hold-out` of proofs/Decisions.antt)
 abbrev pub turnOpenAt : Entry → Entry → ℕ → List Entry → TableOut
 turnOpenAt next e n es = must (eqb (needsOpen (standing e)) served) (refuse es (needsOpen (standing e))) (accept (replaceFirst (holds n) next es))
 

@@ -1,4 +1,5 @@
-// Runs the bench strips that no proof computes, and writes what the proved functions answer, a line for each. Assumes nothing.
+// Runs the bench strips that are not starred, strips at the limits of document 02, ticket 11, and word write on starred ones, and writes what the proved
+// functions answer, a line for each. Assumes nothing.
 use decoder::WordAnswer;
 use jobs::JobTable;
 use params::Figures;
