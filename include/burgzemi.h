@@ -40,7 +40,7 @@ enum burgzemi_answer {
     BURGZEMI_CANCELLED = 12,   /* the job number is cancelled */
     BURGZEMI_ALREADY_OPEN = 13,
     BURGZEMI_NOT_OPEN = 14,
-    BURGZEMI_FULL = 15,        /* 64 numbers are held and a new one is needed */
+    BURGZEMI_FULL = 15,        /* 64 numbers are in the table, open, on hold or cancelled, and a new one is needed */
     BURGZEMI_NUMBER_ZERO = 17, /* job number 0 is no job: opened, written, or cancelled where the table doesn't hold it */
     BURGZEMI_NOT_CANCELLED = 20, /* the job number that is reinstated is not cancelled */
     BURGZEMI_HELD = 23,        /* the job is on hold: not read, written, finished or held again before it is released */
