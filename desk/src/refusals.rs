@@ -76,7 +76,7 @@ pub const REFUSALS: [(u8, &str, &str); 24] = [
     ),
     (
         15,
-        "64 jobs are held already",
+        "64 numbers are in the table already",
         "finish an open one; cancelled ones stay",
     ),
     (

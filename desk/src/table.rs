@@ -13,8 +13,8 @@ pub struct Entry {
     pub number: u32,
 }
 
-/// The entries that are held, in the order of their slots.
-pub fn held(table: &Table) -> Vec<Entry> {
+/// The entries that are not free, in the order of their slots.
+pub fn taken(table: &Table) -> Vec<Entry> {
     let slots = table.as_bytes().chunks_exact(SLOT).enumerate();
     slots
         .filter(|(_, bytes)| bytes[0] != 0)
@@ -28,7 +28,7 @@ pub fn held(table: &Table) -> Vec<Entry> {
 
 /// A number's state in words.
 pub fn status(table: &Table, number: u32) -> &'static str {
-    let entries = held(table);
+    let entries = taken(table);
     let entry = entries.iter().find(|entry| entry.number == number);
     entry.map_or("not in the table", |entry| state_text(entry.state))
 }

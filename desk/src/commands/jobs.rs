@@ -23,8 +23,8 @@ pub fn call(desk: &Desk, words: &mut Words, call: Call) -> Outcome {
 
 pub fn list(desk: &mut Desk, words: &mut Words) -> Outcome {
     words.end()?;
-    let entries = table::held(&desk.table.read()?);
-    let mut text = format!("{} of {SLOTS} slots are held", entries.len());
+    let entries = table::taken(&desk.table.read()?);
+    let mut text = format!("{} of {SLOTS} slots are taken", entries.len());
     for entry in entries {
         text += &format!(
             "\n  job {}: {}",
