@@ -2,7 +2,7 @@
 use mathlib.Core.Path.{_≡_, refl, sym, ap, ap₂, subst, _∙_}
 use mathlib.Core.Logic.{_≢_}
 use mathlib.Core.Bool.{Bool, true, false, cond}
-use mathlib.Core.Option.{Option, none, some}
+use mathlib.Core.Option.{Option, none, some, Option·none-ne-some, Option·some-injective}
 use Prim.Native.Nat.{ℕ, _+_, _*_, _≤_}
 use native.Mathlib.Nat.{div-le-self}
 use native.Mathlib.Omega.{arith}
@@ -18,7 +18,7 @@ use Rattle.params.specs.declared.Figures.{Figures}
 use Rattle.params.specs.declared.Layout.{Layout}
 use Rattle.params.specs.declared.LayoutAnswer.{LayoutAnswer}
 use Rattle.params.specs.declared.LayoutAnswer.the-variants.{Fit, Refused}
-use Rattle.params.proofs.Either.{small, laid-learnt}
+use Rattle.params.proofs.Either.{small, laid-learnt, ServesAs, serves}
 use Rattle.jobs.specs.Letters.{isLetter}
 use Rattle.jobs.proofs.Letters.{no-kind}
 use Rattle.records.specs.Session.{Session}
@@ -71,6 +71,24 @@ module _ (last : Option Figures) (f : Figures) (l : Layout) (is : IsCurrent last
 
   pub read-len-is : orZero (readLen (current last)) ≡ recordHeadLen + l .n
   read-len-is = ap (λ x. orZero (readLen x)) (is .are) ∙ omega (arith, is .numbers .word-is)
+
+-- figures that are the last accepted ones fit
+accepted-fit : (last : Option Figures) (f : Figures) → current last ≡ some f → (codingOf f .inRange ≡ true) × (codingOf f .fits ≡ true)
+accepted-fit none f e = absurd (Option·none-ne-some f e)
+accepted-fit (some g) f e = go (figuresUnder (codingOf g)) refl e
+  where
+    go : (o : FiguresOut) → figuresUnder (codingOf g) ≡ o → ifFit g o ≡ some f → (codingOf f .inRange ≡ true) × (codingOf f .fits ≡ true)
+    go (figured t r k) h e =
+        subst (λ (x : Figures). (codingOf x .inRange ≡ true) × (codingOf x .fits ≡ true)) (Option·some-injective g f e)
+        (figured-fits (codingOf g) t r k h)
+    go (unserved a) h e = absurd (Option·none-ne-some f e)
+
+-- .. and their layout gives what they give
+pub current-serves : (last : Option Figures) (f : Figures) (l : Layout) → IsCurrent last f l → ServesAs f l
+current-serves last f l is =
+    let fit = accepted-fit last f (is .are) in
+    let n = is .numbers in
+    serves f (Fit l) l refl (rw (fit .0, fit .1, n .count-is, n .tail-is, n .len-is)) (is .laid)
 
 -- ---- No record is longer than the buffer for it
 

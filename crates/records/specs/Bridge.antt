@@ -1,5 +1,6 @@
 -- The declared session as the definitions hold it, and what the functions on it answer. Assumes nothing.
 use mathlib.Core.Path.{_≡_}
+use mathlib.Core.Logic.{_≢_}
 use mathlib.Core.List.{List}
 use mathlib.Core.Option.{Option, none, some}
 use Prim.Native.Nat.{ℕ, _+_, _*_, _≤_}
@@ -11,8 +12,11 @@ use Rattle.params.specs.declared.Figures.{Figures}
 use Rattle.params.specs.declared.Layout.{Layout}
 use Rattle.params.specs.declared.LayoutAnswer.the-variants.{Fit}
 use Rattle.jobs.specs.Slots.{entries}
+use Rattle.jobs.specs.Table.{twice}
+use Rattle.lines.specs.Lines.{letterS, letterL}
 use Rattle.records.specs.declared.CurrentAnswer.{CurrentAnswer}
 use Rattle.records.specs.declared.CurrentAnswer.the-variants.{Missing as NoFigures, Laid}
+use Rattle.records.specs.declared.Known.{Known}
 use Rattle.records.specs.declared.LastFigures.{LastFigures}
 use Rattle.records.specs.declared.LastFigures.the-variants.{Missing, Accepted}
 use Rattle.records.specs.declared.Session.{Session as Given}
@@ -37,6 +41,16 @@ pub record IsCurrent (last : Option Figures) (f : Figures) (l : Layout) : Type 0
 abbrev pub Current : Option Figures → CurrentAnswer → Type 0
 Current last (Laid f l) = IsCurrent last f l
 Current last NoFigures = current last ≡ none
+
+-- what is known of a session is so
+pub record Knows (s : Session) (k : Known) : Type 0 where
+  pub figures : Current (s .figures) (k .current)
+  pub table : k .twice ≡ twice (s .table)
+
+-- .. and is still so of the next session, but for figures that came with this letter
+pub record StillKnown (next : Session) (letter : ℕ) (k : Known) : Type 0 where
+  pub figures : letter ≢ letterS → letter ≢ letterL → Current (next .figures) (k .current)
+  pub table : k .twice ≡ twice (next .table)
 
 -- a length, or 0 where there is none
 abbrev pub orZero : Option ℕ → ℕ

@@ -9,8 +9,8 @@ ghost use Rattle.placements.specs.Bridge.{heldAs};
 ghost use Rattle.records.specs.Session.{atStart, maxRecords};
 ghost use Rattle.lines.specs.Lines.{maxLine};
 ghost use Rattle.records.specs.Records.{recordHeadLen, twoBytes, writeLen, readLen, recordLen, maxRecord, readable, current as currentOf, figuresIn};
-ghost use Rattle.records.specs.Records.{longFiguresIn, begunLen, neededFor};
-ghost use Rattle.records.specs.Bridge.{lastFigures, sessionOf, Current, orZero, HasStarts};
+ghost use Rattle.records.specs.Records.{longFiguresIn, letterOf, begunLen, neededFor};
+ghost use Rattle.records.specs.Bridge.{lastFigures, sessionOf, Current, Knows, StillKnown, orZero, HasStarts};
 use jobs::JobTable;
 use params::Figures;
 use params::Layout;
@@ -36,6 +36,13 @@ pub enum CurrentAnswer {
     Laid(Figures, Layout),
 }
 
+// What is known of a session's figures and table, so that many records need not find it anew: the last accepted figures with their layout, and
+// whether the table holds a number twice.
+pub struct Known {
+    pub current: CurrentAnswer,
+    pub twice: bool,
+}
+
 // What is kept between two records: figures, job table, and how many records were served.
 pub struct Session {
     pub figures: LastFigures,
@@ -51,6 +58,35 @@ const FIGURES_LEN: usize = 6;
 const LONG_FIGURES_LEN: usize = 5;
 
 const MAX_WORD: usize = Params::MAX_WORD as usize;
+
+impl Known {
+    // What is known of a session.
+    pub fn of(session: Session) -> Self
+        ensures { λ r. ⌜ Knows (sessionOf session) r ⌝ }
+    {
+        let figures = session.figures;
+        let table = session.table;
+        Known {
+            current: current(figures),
+            twice: table.twice(),
+        }
+    }
+
+    // The same of the session after a record with this letter: only S and L may change the figures, and no record puts a number in twice.
+    pub fn after(self, letter: u8, next: Session) -> Self
+        requires { ⌜ StillKnown (sessionOf next) letter self ⌝ }
+        ensures { λ r. ⌜ Knows (sessionOf next) r ⌝ }
+    {
+        let figures = next.figures;
+        match letter {
+            b'S' | b'L' => Known {
+                current: current(figures),
+                twice: self.twice,
+            },
+            _ => self,
+        }
+    }
+}
 
 impl Session {
     // "any record after the 4294967295th" is refused.
@@ -78,7 +114,8 @@ impl Session {
 }
 
 // How many bytes a record with this letter has, mark and letter included; 0 for an unknown letter and for W or R before an accepted S or L.
-fn record_len(session: Session, letter: u8) -> usize
+fn record_len(session: Session, current: CurrentAnswer, letter: u8) -> usize
+    requires { ⌜ Current (lastFigures (session .figures)) current ⌝ }
     ensures len { λ r. ⌜ r ≡ orZero (recordLen (sessionOf session) letter) ⌝ }
     ensures most { λ r. ⌜ r ≤ maxRecord ⌝ }
 {
@@ -89,29 +126,29 @@ fn record_len(session: Session, letter: u8) -> usize
         b'O' => HEAD_LEN + NUMBER_BYTES,
         b'C' => HEAD_LEN + NUMBER_BYTES,
         b'F' => HEAD_LEN + NUMBER_BYTES,
-        b'W' => write_len(figures),
-        b'R' => read_len(figures),
+        b'W' => write_len(figures, current),
+        b'R' => read_len(figures, current),
         _ => 0,
     }
 }
 
 // m starts and K bytes.
-fn write_len(figures: LastFigures) -> usize
+fn write_len(figures: LastFigures, current: CurrentAnswer) -> usize
+    requires { ⌜ Current (lastFigures figures) current ⌝ }
     ensures { λ r. ⌜ r ≡ orZero (writeLen (currentOf (lastFigures figures))) ⌝ }
 {
-    let answer = current(figures);
-    let CurrentAnswer::Laid(_, layout) = answer else {
+    let CurrentAnswer::Laid(_, layout) = current else {
         return 0;
     };
     HEAD_LEN + 2 * layout.m + bytes::payload_len(layout.q, layout.message_len)
 }
 
 // n bytes.
-fn read_len(figures: LastFigures) -> usize
+fn read_len(figures: LastFigures, current: CurrentAnswer) -> usize
+    requires { ⌜ Current (lastFigures figures) current ⌝ }
     ensures { λ r. ⌜ r ≡ orZero (readLen (currentOf (lastFigures figures))) ⌝ }
 {
-    let answer = current(figures);
-    let CurrentAnswer::Laid(_, layout) = answer else {
+    let CurrentAnswer::Laid(_, layout) = current else {
         return 0;
     };
     HEAD_LEN + layout.n
@@ -127,7 +164,7 @@ pub fn current(figures: LastFigures) -> CurrentAnswer
     }
 }
 
-// The same of figures that were accepted; they are laid out anew for each record.
+// The same of figures that were accepted.
 fn laid(figures: Figures) -> CurrentAnswer
     ensures { λ r. ⌜ Current (some figures) r ⌝ }
 {
@@ -143,7 +180,17 @@ pub fn needed(session: Session, waiting: &[u8]) -> usize
     ensures bytes { λ r. ⌜ r ≡ neededFor (sessionOf session) (now (waiting .entry)) ⌝ }
     ensures most { λ r. ⌜ r ≤ maxRecord ⌝ }
 {
-    let len = begun_len(session, waiting);
+    let figures = session.figures;
+    needed_by(session, current(figures), waiting)
+}
+
+// The same, with the last accepted figures already laid out.
+pub fn needed_by(session: Session, current: CurrentAnswer, waiting: &[u8]) -> usize
+    requires { ⌜ Current (lastFigures (session .figures)) current ⌝ }
+    ensures bytes { λ r. ⌜ r ≡ neededFor (sessionOf session) (now (waiting .entry)) ⌝ }
+    ensures most { λ r. ⌜ r ≤ maxRecord ⌝ }
+{
+    let len = begun_len(session, current, waiting);
     if len == 0 {
         return HEAD_LEN;
     }
@@ -154,7 +201,16 @@ pub fn needed(session: Session, waiting: &[u8]) -> usize
 pub fn is_readable(session: Session, received: &[u8]) -> bool
     ensures { λ r. ⌜ r ≡ readable (sessionOf session) (now (received .entry)) ⌝ }
 {
-    let len = begun_len(session, received);
+    let figures = session.figures;
+    is_readable_by(session, current(figures), received)
+}
+
+// The same, with the last accepted figures already laid out.
+pub fn is_readable_by(session: Session, current: CurrentAnswer, received: &[u8]) -> bool
+    requires { ⌜ Current (lastFigures (session .figures)) current ⌝ }
+    ensures { λ r. ⌜ r ≡ readable (sessionOf session) (now (received .entry)) ⌝ }
+{
+    let len = begun_len(session, current, received);
     if len == 0 {
         return false;
     }
@@ -162,7 +218,8 @@ pub fn is_readable(session: Session, received: &[u8]) -> bool
 }
 
 // How many bytes the record has that begins with these; 0 where mark and letter are not there yet, and where no record begins with them.
-fn begun_len(session: Session, received: &[u8]) -> usize
+fn begun_len(session: Session, current: CurrentAnswer, received: &[u8]) -> usize
+    requires { ⌜ Current (lastFigures (session .figures)) current ⌝ }
     ensures len { λ r. ⌜ r ≡ orZero (begunLen (sessionOf session) (now (received .entry))) ⌝ }
     ensures most { λ r. ⌜ r ≤ maxRecord ⌝ }
 {
@@ -175,7 +232,17 @@ fn begun_len(session: Session, received: &[u8]) -> usize
     if received[1] != b'T' {
         return 0;
     }
-    record_len(session, received[2])
+    record_len(session, current, received[2])
+}
+
+// The letter of the record that begins with these bytes; 0 where it is not there yet.
+pub fn letter_in(waiting: &[u8]) -> u8
+    ensures { λ r. ⌜ r ≡ letterOf (now (waiting .entry)) ⌝ }
+{
+    if waiting.len() < HEAD_LEN {
+        return 0;
+    }
+    waiting[2]
 }
 
 // The figures of an S record.

@@ -84,17 +84,17 @@ pub zeros : (n room : ℕ) → n ≤ room → take {A = ℕ} n (replicate room 0
 zeros n room h = take-replicate n room 0 h
 
 module _ (r : StepAnswer) (before line : List ℕ) (s : Session) where
-  pub shown-write : (d : Coding) (at at′ : Held) (y y′ w w′ : List ℕ) → at ≡ at′ → y ≡ y′ → w ≡ w′
-      → Shown r before line (writeStep s (jobWriteUnder d (s .table) at y w)) → Shown r before line (writeStep s (jobWriteUnder d (s .table) at′ y′ w′))
-  shown-write d at at′ y y′ w w′ e₂ e₃ e₄ =
+  pub shown-write : (d d′ : Coding) (at at′ : Held) (y y′ w w′ : List ℕ) → d ≡ d′ → at ≡ at′ → y ≡ y′ → w ≡ w′
+      → Shown r before line (writeStep s (jobWriteUnder d (s .table) at y w)) → Shown r before line (writeStep s (jobWriteUnder d′ (s .table) at′ y′ w′))
+  shown-write d d′ at at′ y y′ w w′ e₁ e₂ e₃ e₄ =
       subst (λ (o : Encoded). Shown r before line (writeStep s o))
-      (ap (λ (h : Held). jobWriteUnder d (s .table) h y w) e₂ ∙ ap₂ (λ (a b : List ℕ). jobWriteUnder d (s .table) at′ a b) e₃ e₄)
+      (ap₂ (λ (x : Coding) (h : Held). jobWriteUnder x (s .table) h y w) e₁ e₂ ∙ ap₂ (λ (a b : List ℕ). jobWriteUnder d′ (s .table) at′ a b) e₃ e₄)
 
-  pub shown-read : (d : Coding) (w w′ y y′ : List ℕ) → w ≡ w′ → y ≡ y′
-      → Shown r before line (readStep s (jobReadUnder d (s .table) w y)) → Shown r before line (readStep s (jobReadUnder d (s .table) w′ y′))
-  shown-read d w w′ y y′ e₂ e₃ =
+  pub shown-read : (d d′ : Coding) (w w′ y y′ : List ℕ) → d ≡ d′ → w ≡ w′ → y ≡ y′
+      → Shown r before line (readStep s (jobReadUnder d (s .table) w y)) → Shown r before line (readStep s (jobReadUnder d′ (s .table) w′ y′))
+  shown-read d d′ w w′ y y′ e₁ e₂ e₃ =
       subst (λ (o : JobRead). Shown r before line (readStep s o))
-      (ap₂ (λ (a b : List ℕ). jobReadUnder d (s .table) a b) e₂ e₃)
+      (ap (λ (x : Coding). jobReadUnder x (s .table) w y) e₁ ∙ ap₂ (λ (a b : List ℕ). jobReadUnder d′ (s .table) a b) e₂ e₃)
 
 -- ---- The record of a letter
 

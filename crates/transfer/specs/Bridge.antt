@@ -1,18 +1,23 @@
 -- The declared session as the definitions hold it, and what the functions on it ask for and answer. Assumes nothing.
 use mathlib.Core.Path.{_≡_}
-use mathlib.Core.Bool.{true}
+use mathlib.Core.Bool.{Bool, true}
 use mathlib.Core.Option.{Option}
 use mathlib.Core.List.{List}
 use Prim.Native.Nat.{ℕ, _≤_, _<_}
 use lib.ListN.{length}
 use Rattle.params.specs.Answer.{HasNumbers, Small}
 use Rattle.params.specs.Bridge.{codingOf}
+use Rattle.params.specs.Given.{codingIn, Serves}
 use Rattle.params.specs.declared.Figures.{Figures}
 use Rattle.params.specs.declared.Layout.{Layout}
+use Rattle.jobs.specs.Slots.{entries}
+use Rattle.jobs.specs.Table.{twice}
+use Rattle.jobs.specs.declared.Entry.{Entry}
+use Rattle.records.specs.declared.Known.{Known}
 use Rattle.records.specs.declared.Session.{Session as Given}
 use Rattle.transfer.specs.declared.StepAnswer.{StepAnswer}
 use Rattle.text.specs.Text.{overwrite}
-use Rattle.records.specs.Bridge.{sessionOf}
+use Rattle.records.specs.Bridge.{sessionOf, Knows}
 use Rattle.records.specs.Session.{maxRecords}
 use Rattle.lines.specs.Lines.{maxLine}
 use Rattle.records.specs.Records.{isWhole}
@@ -32,14 +37,22 @@ pub record Shown (r : StepAnswer) (before line : List ℕ) (o : Step) : Type 0 w
   pub len : r .len ≡ length (o .line)
   pub stops : r .stops ≡ o .stops
 
--- the figures that a W or R record is read by with the numbers of their layout, and a record as long as it needs at least
-pub record RecordLaid (s : Given) (line : List ℕ) (f : Figures) (l : Layout) (long : ℕ) (bytes : List ℕ) : Type 0 where
+-- a layout of figures that fit, and whether the table holds a number twice
+pub record ServesTold (l : Layout) (isTwice : Bool) (es : List Entry) : Type 0 where
+  pub serves : Serves l
+  pub told : isTwice ≡ twice es
+
+-- the figures that a W or R record is read by with their layout and its numbers, what is told of the table, and a record as long as it needs at least
+pub record RecordLaid (s : Given) (line : List ℕ) (f : Figures) (l : Layout) (isTwice : Bool) (long : ℕ) (bytes : List ℕ) : Type 0 where
   pub ready : Ready s line
+  pub same : codingIn l ≡ codingOf f
+  pub table : ServesTold l isTwice (entries (s .table))
   pub numbers : HasNumbers (codingOf f) l
   pub small : Small (codingOf f)
   pub long-enough : long ≤ length bytes
 
--- a record that has its letter's length
-pub record Whole (s : Given) (line bytes : List ℕ) (k : Option ℕ) : Type 0 where
+-- a record that has its letter's length, and what is known of the session
+pub record Whole (s : Given) (known : Known) (line bytes : List ℕ) (k : Option ℕ) : Type 0 where
   pub ready : Ready s line
+  pub knows : Knows (sessionOf s) known
   pub whole : isWhole bytes k ≡ true

@@ -1,43 +1,47 @@
 // The records that write and read jobs. Assumes nothing.
+ghost use mathlib.Core.Path.{_≡_};
 ghost use mathlib.Core.Option.{some};
 ghost use Prim.Native.Nat.{_+_, _*_, _≤_};
 ghost use lib.ListN.{length};
 ghost use Rattle.cells.specs.Figures.{maxWord};
+ghost use Rattle.cells.specs.Outcomes.{unwritten};
 ghost use Rattle.jobs.specs.Slots.{entries};
 ghost use Rattle.jobcodec.specs.JobWrite.{jobWriteUnder};
 ghost use Rattle.jobcodec.specs.JobRead.{jobReadUnder};
-ghost use Rattle.params.specs.Bridge.{codingOf};
+ghost use Rattle.jobcodec.specs.Given.{seen};
+ghost use Rattle.params.specs.Given.{codingIn};
 ghost use Rattle.placements.specs.Bridge.{heldAs};
 ghost use Rattle.records.specs.Records.{recordHeadLen, writeLen, readLen, current as currentOf};
 ghost use Rattle.transfer.specs.Steps.{writeOut, readOut, writeStep, readStep};
 ghost use Rattle.records.specs.Bridge.{lastFigures, sessionOf};
-ghost use Rattle.transfer.specs.Bridge.{Ready, Shown, RecordLaid, Whole};
+ghost use Rattle.transfer.specs.Bridge.{Ready, Shown, ServesTold, RecordLaid, Whole};
 use crate::MAX_WORD;
 use crate::SHORT_WORD;
 use crate::StepAnswer;
 use crate::counted;
 use crate::stop;
+use jobs::JobTable;
 use params::Figures;
 use params::Layout;
 use params::bytes;
 use placements::Placement;
 use records::CurrentAnswer;
 use records::HEAD_LEN;
+use records::Known;
 use records::Session;
 use refusals::Refusal;
 
 // W: the word of the placement and the payload.
-pub fn serve_write(session: Session, received: &[u8], line: &mut [u8]) -> StepAnswer
-    requires { ⌜ Whole session (now line) (now received) (writeLen (currentOf (lastFigures (session .figures)))) ⌝ }
+pub fn serve_write(session: Session, known: Known, received: &[u8], line: &mut [u8]) -> StepAnswer
+    requires { ⌜ Whole session known (now line) (now received) (writeLen (currentOf (lastFigures (session .figures)))) ⌝ }
     ensures { λ r. ⌜ Shown r (now (line .entry)) (now (line .exit))
         (writeOut (sessionOf session) (now (received .entry)) (currentOf (lastFigures (session .figures)))) ⌝ }
 {
-    let figures = session.figures;
-    let answer = records::current(figures);
+    let answer = known.current;
     let CurrentAnswer::Laid(given, layout) = answer else {
         return stop(session, line);
     };
-    write_laid(session, given, layout, received, line)
+    write_laid(session, given, layout, known.twice, received, line)
 }
 
 // The same by the last accepted figures and their layout.
@@ -45,10 +49,11 @@ fn write_laid(
     session: Session,
     figures: Figures,
     layout: Layout,
+    twice: bool,
     received: &[u8],
     line: &mut [u8],
 ) -> StepAnswer
-    requires { ⌜ RecordLaid session (now line) figures layout (recordHeadLen + 2 * layout .m) (now received) ⌝ }
+    requires { ⌜ RecordLaid session (now line) figures layout twice (recordHeadLen + 2 * layout .m) (now received) ⌝ }
     ensures { λ r. ⌜ Shown r (now (line .entry)) (now (line .exit)) (writeOut (sessionOf session) (now (received .entry)) (some figures)) ⌝ }
 {
     let m = layout.m;
@@ -59,7 +64,8 @@ fn write_laid(
         let mut short = [0u8; SHORT_WORD];
         return write_word(
             session,
-            figures,
+            layout,
+            twice,
             at,
             &received[from..],
             &mut short[..n],
@@ -69,7 +75,8 @@ fn write_laid(
     let mut word = [0u8; MAX_WORD];
     write_word(
         session,
-        figures,
+        layout,
+        twice,
         at,
         &received[from..],
         &mut word[..n],
@@ -80,36 +87,54 @@ fn write_laid(
 // W, with a lent word that holds 0.
 fn write_word(
     session: Session,
-    figures: Figures,
+    layout: Layout,
+    twice: bool,
     at: Placement,
     payload: &[u8],
     word: &mut [u8],
     line: &mut [u8],
 ) -> StepAnswer
-    requires { ⌜ Ready session (now line) × (length (now word) ≤ maxWord) ⌝ }
+    requires { ⌜ Ready session (now line) × (length (now word) ≤ maxWord) × ServesTold layout twice (entries (session .table)) ⌝ }
     ensures { λ r. ⌜ Shown r (now (line .entry)) (now (line .exit))
-        (writeStep (sessionOf session) (jobWriteUnder (codingOf figures) (entries (session .table)) (heldAs at) (now (payload .entry)) (now (word .entry)))) ⌝ }
+        (writeStep (sessionOf session) (jobWriteUnder (codingIn layout) (entries (session .table)) (heldAs at) (now (payload .entry)) (now (word .entry)))) ⌝ }
 {
     let table = session.table;
-    let answer = jobcodec::job_write(figures, table, at, payload, word);
+    let answer = job_write(layout, twice, table, at, payload, word);
     if answer != Refusal::NONE {
         return counted(session, lines::put_refusal(line, b'W', answer));
     }
     counted(session, lines::put_word(line, word))
 }
 
+// Job write for figures that fit, with what is known of the table.
+fn job_write(
+    layout: Layout,
+    twice: bool,
+    table: JobTable,
+    at: Placement,
+    payload: &[u8],
+    word: &mut [u8],
+) -> u8
+    requires { ⌜ ServesTold layout twice (entries table) ⌝ }
+    ensures { λ r. ⌜ unwritten (now (word .exit)) r ≡ jobWriteUnder (codingIn layout) (entries table) (heldAs at) (now (payload .entry)) (now (word .entry)) ⌝ }
+{
+    if twice {
+        return Refusal::INVALID;
+    }
+    jobcodec::write_laid(layout, table, at, payload, word)
+}
+
 // R: the payload of the word.
-pub fn serve_read(session: Session, received: &[u8], line: &mut [u8]) -> StepAnswer
-    requires { ⌜ Whole session (now line) (now received) (readLen (currentOf (lastFigures (session .figures)))) ⌝ }
+pub fn serve_read(session: Session, known: Known, received: &[u8], line: &mut [u8]) -> StepAnswer
+    requires { ⌜ Whole session known (now line) (now received) (readLen (currentOf (lastFigures (session .figures)))) ⌝ }
     ensures { λ r. ⌜ Shown r (now (line .entry)) (now (line .exit))
         (readOut (sessionOf session) (now (received .entry)) (currentOf (lastFigures (session .figures)))) ⌝ }
 {
-    let figures = session.figures;
-    let answer = records::current(figures);
+    let answer = known.current;
     let CurrentAnswer::Laid(given, layout) = answer else {
         return stop(session, line);
     };
-    read_laid(session, given, layout, received, line)
+    read_laid(session, given, layout, known.twice, received, line)
 }
 
 // The same by the last accepted figures and their layout.
@@ -117,10 +142,11 @@ fn read_laid(
     session: Session,
     figures: Figures,
     layout: Layout,
+    twice: bool,
     received: &[u8],
     line: &mut [u8],
 ) -> StepAnswer
-    requires { ⌜ RecordLaid session (now line) figures layout recordHeadLen (now received) ⌝ }
+    requires { ⌜ RecordLaid session (now line) figures layout twice recordHeadLen (now received) ⌝ }
     ensures { λ r. ⌜ Shown r (now (line .entry)) (now (line .exit)) (readOut (sessionOf session) (now (received .entry)) (some figures)) ⌝ }
 {
     let count = bytes::payload_len(layout.q, layout.message_len);
@@ -128,7 +154,8 @@ fn read_laid(
         let mut short = [0u8; SHORT_WORD];
         return read_payload(
             session,
-            figures,
+            layout,
+            twice,
             &received[HEAD_LEN..],
             &mut short[..count],
             line,
@@ -137,7 +164,8 @@ fn read_laid(
     let mut payload = [0u8; MAX_WORD];
     read_payload(
         session,
-        figures,
+        layout,
+        twice,
         &received[HEAD_LEN..],
         &mut payload[..count],
         line,
@@ -147,19 +175,31 @@ fn read_laid(
 // R, with a lent payload that holds 0.
 fn read_payload(
     session: Session,
-    figures: Figures,
+    layout: Layout,
+    twice: bool,
     word: &[u8],
     payload: &mut [u8],
     line: &mut [u8],
 ) -> StepAnswer
-    requires { ⌜ Ready session (now line) × (length (now payload) ≤ maxWord) ⌝ }
+    requires { ⌜ Ready session (now line) × (length (now payload) ≤ maxWord) × ServesTold layout twice (entries (session .table)) ⌝ }
     ensures { λ r. ⌜ Shown r (now (line .entry)) (now (line .exit))
-        (readStep (sessionOf session) (jobReadUnder (codingOf figures) (entries (session .table)) (now (word .entry)) (now (payload .entry)))) ⌝ }
+        (readStep (sessionOf session) (jobReadUnder (codingIn layout) (entries (session .table)) (now (word .entry)) (now (payload .entry)))) ⌝ }
 {
     let table = session.table;
-    let answer = jobcodec::job_read(figures, table, word, payload);
+    let answer = job_read(layout, twice, table, word, payload);
     if answer != Refusal::NONE {
         return counted(session, lines::put_refusal(line, b'R', answer));
     }
     counted(session, lines::put_payload(line, payload))
+}
+
+// Job read likewise.
+fn job_read(layout: Layout, twice: bool, table: JobTable, word: &[u8], payload: &mut [u8]) -> u8
+    requires { ⌜ ServesTold layout twice (entries table) ⌝ }
+    ensures { λ r. ⌜ seen r (now (payload .exit)) ≡ jobReadUnder (codingIn layout) (entries table) (now (word .entry)) (now (payload .entry)) ⌝ }
+{
+    if twice {
+        return Refusal::INVALID;
+    }
+    jobcodec::read_laid(layout, table, word, payload)
 }

@@ -12,7 +12,7 @@ ghost use Rattle.records.specs.Session.{maxRecords, nextSession as afterRecord}
 ghost use Rattle.lines.specs.Lines.{stopLine, maxLine};
 ghost use Rattle.records.specs.Records.{recordLen, letterOf};
 ghost use Rattle.transfer.specs.Steps.{serveOut, stepOut, stopped, ended, figuresStep, callStep};
-ghost use Rattle.records.specs.Bridge.{lastFigures, sessionOf};
+ghost use Rattle.records.specs.Bridge.{lastFigures, sessionOf, Knows};
 ghost use Rattle.transfer.specs.Bridge.{Ready, Shown, Whole};
 use jobs::JobTable;
 use params::Figures;
@@ -20,6 +20,7 @@ use params::LayoutAnswer;
 use params::Params;
 use params::bytes;
 use records::HEAD_LEN;
+use records::Known;
 use records::LastFigures;
 use records::Session;
 
@@ -43,7 +44,7 @@ pub fn step(session: Session, received: &[u8], line: &mut [u8; Session::MAX_LINE
     ensures len { λ r. ⌜ r .len ≡ length (stepOut (sessionOf session) (now (received .entry)) .line) ⌝ }
     ensures stops { λ r. ⌜ r .stops ≡ stepOut (sessionOf session) (now (received .entry)) .stops ⌝ }
 {
-    step_on(session, received, line)
+    step_on(session, Known::of(session), received, line)
 }
 
 // What can't be read at all, where a read failed: prints "stop 11" and ends.
@@ -56,9 +57,9 @@ pub fn unreadable(session: Session, line: &mut [u8; Session::MAX_LINE]) -> StepA
     stop(session, line)
 }
 
-// The same with a line that has room for any.
-fn step_on(session: Session, received: &[u8], line: &mut [u8]) -> StepAnswer
-    requires { ⌜ maxLine ≤ length (now line) ⌝ }
+// The step where it is known what there is to know of the session, and with a line that has room for any.
+pub fn step_on(session: Session, known: Known, received: &[u8], line: &mut [u8]) -> StepAnswer
+    requires { ⌜ (maxLine ≤ length (now line)) × Knows (sessionOf session) known ⌝ }
     ensures { λ r. ⌜ Shown r (now (line .entry)) (now (line .exit)) (stepOut (sessionOf session) (now (received .entry))) ⌝ }
 {
     if received.len() == 0 {
@@ -67,15 +68,16 @@ fn step_on(session: Session, received: &[u8], line: &mut [u8]) -> StepAnswer
     if Session::MAX_RECORDS <= session.records {
         return stop(session, line);
     }
-    if !records::is_readable(session, received) {
+    let current = known.current;
+    if !records::is_readable_by(session, current, received) {
         return stop(session, line);
     }
-    serve(session, received, line)
+    serve(session, known, received, line)
 }
 
 // A record that can be read, by its letter.
-fn serve(session: Session, received: &[u8], line: &mut [u8]) -> StepAnswer
-    requires { ⌜ Whole session (now line) (now received) (recordLen (sessionOf session) (letterOf (now received))) ⌝ }
+fn serve(session: Session, known: Known, received: &[u8], line: &mut [u8]) -> StepAnswer
+    requires { ⌜ Whole session known (now line) (now received) (recordLen (sessionOf session) (letterOf (now received))) ⌝ }
     ensures { λ r. ⌜ Shown r (now (line .entry)) (now (line .exit))
         (serveOut (sessionOf session) (letterOf (now (received .entry))) (now (received .entry))) ⌝ }
 {
@@ -83,8 +85,8 @@ fn serve(session: Session, received: &[u8], line: &mut [u8]) -> StepAnswer
     match letter {
         b'S' => serve_figures(session, letter, records::figures_in(received), line),
         b'L' => serve_figures(session, letter, records::long_figures_in(received), line),
-        b'W' => job_records::serve_write(session, received, line),
-        b'R' => job_records::serve_read(session, received, line),
+        b'W' => job_records::serve_write(session, known, received, line),
+        b'R' => job_records::serve_read(session, known, received, line),
         _ => {
             let number = payloads::job_number(&received[HEAD_LEN..]);
             serve_call(session, letter, number, line)

@@ -2,6 +2,7 @@ pub mod Front
 pub mod Cut
 pub mod Pieces
 pub mod Serving
+pub mod Knowing
 pub mod After
 pub mod Views
 pub mod Kept

@@ -10,31 +10,28 @@ use Rattle.records.proofs.Lengths.{current-laid, current-none, bursts-f
 use Rattle.records.proofs.write_len.Statement.{statement}
 use Rattle.records.proofs.write_len.Tie as tie
 
-current-requires : tie.Need-current-requires
-current-requires c κs = search needs
-
-enum-known-answer : tie.Need-enum-known-answer
-enum-known-answer c = search needs
+enum-known-current : tie.Need-enum-known-current
+enum-known-current c = search needs
 
 enum-told : tie.Need-enum-told
 enum-told c = search needs
 
 returns : tie.Need-returns
 returns c =
-    let last = lastFigures (c .before .before .before .args .figures) in
-    sym (ap (λ x. orZero (writeLen x)) (current-none last _ (c .enum-told .given .1) (c .before .before .current .ensures)))
+    let s = c .before .before in
+    sym (ap (λ x. orZero (writeLen x)) (current-none (lastFigures (s .args .figures)) _ (c .enum-told .given .1) (s .pre)))
 
 -- the figures and their layout
 abbrev figures : tie.After-struct-known → Figures
-figures c = c .before .before .answer .given .0 .0
+figures c = c .before .before .current .given .0 .0
 
 abbrev layout : tie.After-struct-known → Layout
-layout c = c .before .before .answer .given .0 .1 .0
+layout c = c .before .before .current .given .0 .1 .0
 
-is-current : (c : tie.After-struct-known) → IsCurrent (lastFigures (c .before .before .before .before .before .args .figures)) (figures c) (layout c)
+is-current : (c : tie.After-struct-known) → IsCurrent (lastFigures (c .before .before .before .before .args .figures)) (figures c) (layout c)
 is-current c =
-    current-laid (lastFigures (c .before .before .before .before .before .args .figures)) _ (figures c) (layout c) (c .before .before .answer .given .1)
-    (c .before .before .before .before .current .ensures)
+    let s = c .before .before .before .before in
+    current-laid (lastFigures (s .args .figures)) _ (figures c) (layout c) (c .before .before .current .given .1) (s .pre)
 
 mul-result : tie.Need-mul-result
 mul-result c = omega (arith, bursts-few _ (figures c) (layout c) (is-current c))
@@ -59,4 +56,4 @@ pub write-len-spec : {M : Type 1} → statement M
 write-len-spec =
     tie.close
     (tie.spec
-    current-requires enum-known-answer enum-told returns mul-result add-result payload-len-requires add-result-2 returns-2)
+    enum-known-current enum-told returns mul-result add-result payload-len-requires add-result-2 returns-2)

@@ -51,6 +51,7 @@ serve-write-requires c κs =
     let bytes = s .args .received .now in
     record {
       ready = s .pre .ready;
+      knows = s .pre .knows;
       whole = ap (isWhole bytes) (sym (len-W (sessionOf (s .args .session)) (letterOf bytes) (c .before .match .keys3)))
           ∙ s .pre .whole;
     }
@@ -61,6 +62,7 @@ serve-read-requires c κs =
     let bytes = s .args .received .now in
     record {
       ready = s .pre .ready;
+      knows = s .pre .knows;
       whole = ap (isWhole bytes) (sym (len-R (sessionOf (s .args .session)) (letterOf bytes) (c .before .match .keys4)))
           ∙ s .pre .whole;
     }
@@ -132,7 +134,7 @@ returns-3 c =
     let a = c .before .before .before .before .before .before .before .before .args in
     let bytes = a .received .now in
     let done = c .before .before .serve-write in
-    subst (λ (o : Step). Shown (done .result) (a .line .now) (done .last .1 .1 .0) o)
+    subst (λ (o : Step). Shown (done .result) (a .line .now) (done .last .1 .1 .1 .0) o)
     (sym (serve-W (sessionOf (a .session)) (letterOf bytes) bytes (c .before .before .before .before .match .keys3))) (done .ensures)
 
 same-length-4 : tie.Need-same-length-4
@@ -143,7 +145,7 @@ returns-4 c =
     let a = c .before .before .before .before .before .before .before .before .args in
     let bytes = a .received .now in
     let done = c .before .before .serve-read in
-    subst (λ (o : Step). Shown (done .result) (a .line .now) (done .last .1 .1 .0) o)
+    subst (λ (o : Step). Shown (done .result) (a .line .now) (done .last .1 .1 .1 .0) o)
     (sym (serve-R (sessionOf (a .session)) (letterOf bytes) bytes (c .before .before .before .before .match .keys4))) (done .ensures)
 
 same-length-5 : tie.Need-same-length-5

@@ -38,8 +38,8 @@ returns-2 c =
     (sym (step-many (sessionOf (a .session)) (a .received .now) (c .before .before .before .before .before .before .if1 .left)
     (c .before .before .before .before .if2 .taken))) (done .ensures)
 
-is-readable-requires : tie.Need-is-readable-requires
-is-readable-requires c κs = search needs
+is-readable-by-requires : tie.Need-is-readable-by-requires
+is-readable-by-requires c κs = c .before .before .before .before .before .pre .1 .figures
 
 stop-requires-2 : tie.Need-stop-requires-2
 stop-requires-2 c κs = search needs
@@ -54,15 +54,16 @@ returns-3 c =
     subst (λ (o : Step). Shown (done .result) (a .line .now) (done .last .1 .0) o)
     (sym (step-unreadable (sessionOf (a .session)) (a .received .now) (c .before .before .before .before .before .before .before .before .if1 .left)
     (omega (arith, c .before .before .before .before .before .before .if2 .left))
-    (sym (c .before .before .before .before .before .is-readable .ensures) ∙ not-true _ (c .before .before .before .before .if3 .taken)))) (done .ensures)
+    (sym (c .before .before .before .before .before .is-readable-by .ensures) ∙ not-true _ (c .before .before .before .before .if3 .taken)))) (done .ensures)
 
 serve-requires : tie.Need-serve-requires
 serve-requires c κs =
     let s = c .before .before .before .before .before .before .before .before in
     let from = sessionOf (s .args .session) in
     record {
-      ready = record { fewer = omega (arith, c .before .before .before .if2 .left); room = s .pre };
-      whole = readable-whole from (s .args .received .now) (sym (c .before .before .is-readable .ensures) ∙ not-false _ (c .before .if3 .left));
+      ready = record { fewer = omega (arith, c .before .before .before .if2 .left); room = s .pre .0 };
+      knows = s .pre .1;
+      whole = readable-whole from (s .args .received .now) (sym (c .before .before .is-readable-by .ensures) ∙ not-false _ (c .before .if3 .left));
     }
 
 same-length-4 : tie.Need-same-length-4
@@ -72,14 +73,14 @@ returns-4 : tie.Need-returns-4
 returns-4 c =
     let a = c .before .before .before .before .before .before .before .before .before .before .before .args in
     let done = c .before .before .serve in
-    subst (λ (o : Step). Shown (done .result) (a .line .now) (done .last .1 .1 .0) o)
+    subst (λ (o : Step). Shown (done .result) (a .line .now) (done .last .1 .1 .1 .0) o)
     (sym (step-serves (sessionOf (a .session)) (a .received .now) (c .before .before .before .before .before .before .before .before .if1 .left)
     (omega (arith, c .before .before .before .before .before .before .if2 .left))
-    (sym (c .before .before .before .before .before .is-readable .ensures) ∙ not-false _ (c .before .before .before .before .if3 .left)))) (done .ensures)
+    (sym (c .before .before .before .before .before .is-readable-by .ensures) ∙ not-false _ (c .before .before .before .before .if3 .left)))) (done .ensures)
 
 pub step-on-spec : {M : Type 1} → statement M
 step-on-spec =
     tie.close
     (tie.spec
-    end-requires same-length returns stop-requires same-length-2 returns-2 is-readable-requires stop-requires-2 same-length-3 returns-3
+    end-requires same-length returns stop-requires same-length-2 returns-2 is-readable-by-requires stop-requires-2 same-length-3 returns-3
     serve-requires same-length-4 returns-4)

@@ -10,7 +10,7 @@ use lib.Seq.{length-take-le}
 use Rattle.cells.specs.Bytes.{payloadLen}
 use Rattle.cells.specs.Figures.{maxWord}
 use Rattle.params.specs.Bridge.{codingOf}
-use Rattle.params.specs.Given.{shortWord}
+use Rattle.params.specs.Given.{codingIn, shortWord}
 use Rattle.jobcodec.specs.JobRead.{jobReadUnder}
 use Rattle.records.specs.Records.{recordHeadLen, payloadLenOf}
 use Rattle.transfer.specs.Steps.{readStep, readOut}
@@ -47,7 +47,7 @@ module _ (c : tie.After-payload-len) (room : ℕ) (le : c .payload-len .result �
   line-is : (r : StepAnswer) (line : List ℕ)
       → (let a = c .before .before .before .args in let bytes = a .received .now in let s = sessionOf (a .session) in
       Shown r (a .line .now) line
-      (readStep s (jobReadUnder (codingOf (a .figures)) (s .table) (take (length bytes - recordHeadLen) (drop recordHeadLen bytes))
+      (readStep s (jobReadUnder (codingIn (a .layout)) (s .table) (take (length bytes - recordHeadLen) (drop recordHeadLen bytes))
       (take {A = ℕ} (c .payload-len .result) (replicate room 0))))
       → Shown r (a .line .now) line (readOut s bytes (some (a .figures))))
   line-is r line =
@@ -57,9 +57,9 @@ module _ (c : tie.After-payload-len) (room : ℕ) (le : c .payload-len .result �
       let bytes = a .received .now in
       let count = c .payload-len in
       let is = s .pre .numbers in
-      shown-read r (a .line .now) line (sessionOf (a .session)) (codingOf (a .figures)) (take (length bytes - recordHeadLen) (drop recordHeadLen bytes))
+      shown-read r (a .line .now) line (sessionOf (a .session)) (codingIn l) (codingOf (a .figures)) (take (length bytes - recordHeadLen) (drop recordHeadLen bytes))
       (drop recordHeadLen bytes)
-      (take {A = ℕ} (count .result) (replicate room 0)) (replicate {A = ℕ} (payloadLenOf (a .figures)) 0) (rest-all recordHeadLen bytes)
+      (take {A = ℕ} (count .result) (replicate room 0)) (replicate {A = ℕ} (payloadLenOf (a .figures)) 0) (s .pre .same) (rest-all recordHeadLen bytes)
       (zeros (count .result) room le ∙ ap (λ (k : ℕ). replicate {A = ℕ} k 0) (count .ensures ∙ ap₂ payloadLen (is .alphabet-is) (is .len-is)))
 
 sub-read-payload : tie.Need-sub-read-payload
@@ -80,7 +80,8 @@ slice-aggregate-read-payload c = sym (lent-is (c .before .before .before) shortW
 read-payload-requires : tie.Need-read-payload-requires
 read-payload-requires c κs =
     let p = c .before .before .before .before in
-    (p .before .before .before .pre .ready, omega (arith, longest p, lent-is p shortWord (omega (arith, c .before .before .before .if1 .taken))))
+    let s = p .before .before .before in
+    (s .pre .ready, omega (arith, longest p, lent-is p shortWord (omega (arith, c .before .before .before .if1 .taken))), s .pre .table)
 
 same-length : tie.Need-same-length
 same-length c = search needs
@@ -89,7 +90,7 @@ returns : tie.Need-returns
 returns c =
     let read = c .before .before .before .read-payload in
     line-is (c .before .before .before .before .before .before .before .before) shortWord
-    (omega (arith, c .before .before .before .before .before .before .before .if1 .taken)) (read .result) (read .last .1 .1 .1 .1 .0) (read .ensures)
+    (omega (arith, c .before .before .before .before .before .before .before .if1 .taken)) (read .result) (read .last .1 .1 .1 .1 .1 .0) (read .ensures)
 
 sub-read-payload-2 : tie.Need-sub-read-payload-2
 sub-read-payload-2 c = search needs
@@ -109,7 +110,8 @@ slice-aggregate-read-payload-2 c = sym (lent-is (c .before .before .before) maxW
 read-payload-requires-2 : tie.Need-read-payload-requires-2
 read-payload-requires-2 c κs =
     let p = c .before .before .before .before in
-    (p .before .before .before .pre .ready, omega (arith, longest p, lent-is p maxWord (longest p)))
+    let s = p .before .before .before in
+    (s .pre .ready, omega (arith, longest p, lent-is p maxWord (longest p)), s .pre .table)
 
 same-length-2 : tie.Need-same-length-2
 same-length-2 c = search needs
@@ -118,7 +120,7 @@ returns-2 : tie.Need-returns-2
 returns-2 c =
     let read = c .before .before .before .read-payload2 in
     let p = c .before .before .before .before .before .before .before .before in
-    line-is p maxWord (longest p) (read .result) (read .last .1 .1 .1 .1 .0) (read .ensures)
+    line-is p maxWord (longest p) (read .result) (read .last .1 .1 .1 .1 .1 .0) (read .ensures)
 
 pub read-laid-spec : {M : Type 1} → statement M
 read-laid-spec =

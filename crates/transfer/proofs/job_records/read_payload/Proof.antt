@@ -1,13 +1,12 @@
 -- `read_payload` meets its contract: the line by what job read answers; a payload that is handed out has a job number. Assumes nothing.
 use mathlib.Core.Path.{sym, ap, _∙_}
-use mathlib.Core.List.{List, [], _∷_}
-use Prim.Native.Nat.{ℕ}
+use mathlib.Core.List.{[], _∷_}
 use native.Mathlib.Omega.{arith}
 use borrow.Author.Needs.{needs}
 use lib.ListN.{take, drop}
-use Rattle.params.specs.Bridge.{codingOf}
+use Rattle.params.specs.Given.{codingIn}
 use Rattle.jobs.specs.Slots.{entries}
-use Rattle.jobcodec.specs.JobRead.{jobReadUnder}
+use Rattle.jobcodec.specs.JobRead.{JobRead, jobReadUnder}
 use Rattle.text.specs.Text.{hex}
 use Rattle.records.specs.Session.{nextSession}
 use Rattle.lines.specs.Lines.{refusalLine, servedLine, letterR}
@@ -38,9 +37,9 @@ returns c =
     let job = c .before .before .before .before .before .before .before .before .job-read in
     let put = c .before .before .before .put-refusal in
     let line = a .line .now in
-    let out = jobReadUnder (codingOf (a .figures)) (s .table) (a .word .now) (a .payload .now) in
+    let out = jobReadUnder (codingIn (a .layout)) (s .table) (a .word .now) (a .payload .now) in
     shown-refused (c .counted .result) line (put .last .0) s letterR (job .result) (out .answer)
-    (hex (take 4 (out .payload)) ∷ hex (drop 4 (out .payload)) ∷ []) (job .ensures .0) (c .before .before .before .before .before .if1 .taken)
+    (hex (take 4 (out .payload)) ∷ hex (drop 4 (out .payload)) ∷ []) (ap (λ (x : JobRead). x .answer) (job .ensures)) (c .before .before .before .before .before .if1 .taken)
     (shown-goes (c .counted .result) line (put .last .0) (nextSession s (s .figures) (s .table)) (refusalLine letterR (job .result)) (put .result)
     (c .counted .ensures) (put .ensures))
 
@@ -49,9 +48,9 @@ put-payload-requires c κs =
     let s = c .before .before .before .before .before .before .before .before .before .before .before in
     let a = s .args in
     let job = c .before .before .before .before .before .job-read in
-    let number = read-number (codingOf (a .figures)) (entries (a .session .table)) (a .word .now) (a .payload .now)
-    (sym (job .ensures .0) ∙ c .before .before .if1 .left) in
-    (s .pre .0 .room, omega (arith, s .pre .1, job .kept .1 .1 .1 .0), omega (arith, number, job .kept .1 .1 .1 .0))
+    let number = read-number (codingIn (a .layout)) (entries (a .session .table)) (a .word .now) (a .payload .now)
+    (sym (ap (λ (x : JobRead). x .answer) (job .ensures)) ∙ c .before .before .if1 .left) in
+    (s .pre .0 .room, omega (arith, s .pre .1, job .kept .1 .1 .1 .1 .0), omega (arith, number, job .kept .1 .1 .1 .1 .0))
 
 counted-requires-2 : tie.Need-counted-requires-2
 counted-requires-2 c κs = search needs
@@ -69,11 +68,11 @@ returns-2 c =
     let job = c .before .before .before .before .before .before .before .before .before .job-read in
     let put = c .before .before .before .put-payload in
     let line = a .line .now in
-    let payload = job .last .1 .1 .1 .0 in
-    let out = jobReadUnder (codingOf (a .figures)) (s .table) (a .word .now) (a .payload .now) in
+    let payload = job .last .1 .1 .1 .1 .0 in
+    let out = jobReadUnder (codingIn (a .layout)) (s .table) (a .word .now) (a .payload .now) in
     shown-served (c .counted2 .result) line (put .last .0) s letterR (job .result) (out .answer) (hex (take 4 payload) ∷ hex (drop 4 payload) ∷ [])
-    (hex (take 4 (out .payload)) ∷ hex (drop 4 (out .payload)) ∷ []) (job .ensures .0) (c .before .before .before .before .before .before .if1 .left)
-    (ap (λ (x : List ℕ). hex (take 4 x) ∷ hex (drop 4 x) ∷ []) (job .ensures .1))
+    (hex (take 4 (out .payload)) ∷ hex (drop 4 (out .payload)) ∷ []) (ap (λ (x : JobRead). x .answer) (job .ensures)) (c .before .before .before .before .before .before .if1 .left)
+    (ap (λ (x : JobRead). hex (take 4 (x .payload)) ∷ hex (drop 4 (x .payload)) ∷ []) (job .ensures))
     (shown-goes (c .counted2 .result) line (put .last .0) (nextSession s (s .figures) (s .table))
     (servedLine letterR (hex (take 4 payload) ∷ hex (drop 4 payload) ∷ [])) (put .result) (c .counted2 .ensures) (put .ensures))
 

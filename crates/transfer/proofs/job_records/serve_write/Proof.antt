@@ -6,13 +6,10 @@ use Rattle.params.specs.declared.Figures.{Figures}
 use Rattle.transfer.specs.Steps.{writeOut}
 use Rattle.records.specs.Bridge.{lastFigures, sessionOf}
 use Rattle.transfer.specs.Bridge.{Shown}
-use Rattle.records.proofs.Lengths.{current-laid, current-none}
+use Rattle.records.proofs.Lengths.{current-laid, current-none, current-serves}
 use Rattle.records.proofs.Readable.{write-long}
 use Rattle.transfer.proofs.job_records.serve_write.Statement.{statement}
 use Rattle.transfer.proofs.job_records.serve_write.Tie as tie
-
-current-requires : tie.Need-current-requires
-current-requires c κs = search needs
 
 enum-known-answer : tie.Need-enum-known-answer
 enum-known-answer c = search needs
@@ -28,35 +25,45 @@ same-length c = search needs
 
 returns : tie.Need-returns
 returns c =
-    let a = c .before .before .before .before .before .before .before .before .before .args in
+    let s = c .before .before .before .before .before .before .before .before in
+    let a = s .args in
     let told = c .before .before .before .before .enum-told .given in
     let end = c .before .before .stop in
-    let e = current-none (lastFigures (a .session .figures)) _ (told .1) (c .before .before .before .before .before .before .current .ensures) in
+    let e = current-none (lastFigures (a .session .figures)) _ (told .1) (s .pre .knows .figures) in
     subst (λ (f : Option Figures). Shown (end .result) (a .line .now) (end .last .1 .0) (writeOut (sessionOf (a .session)) (a .received .now) f)) (sym e)
     (end .ensures)
 
 write-laid-requires : tie.Need-write-laid-requires
 write-laid-requires c κs =
-    let s = c .before .before .before .before .before .before .before in
+    let s = c .before .before .before .before .before .before in
     let told = c .before .before .answer .given in
     let f = lastFigures (s .args .session .figures) in
-    let is = current-laid f _ _ _ (told .1) (c .before .before .before .before .current .ensures) in
-    record { ready = s .pre .ready; numbers = is .numbers; small = is .small; long-enough = write-long f _ _ is (s .args .received .now) (s .pre .whole) }
+    let is = current-laid f _ _ _ (told .1) (s .pre .knows .figures) in
+    let gives = current-serves f _ _ is in
+    record {
+      ready = s .pre .ready;
+      same = gives .0;
+      table = record { serves = gives .1; told = s .pre .knows .table };
+      numbers = is .numbers;
+      small = is .small;
+      long-enough = write-long f _ _ is (s .args .received .now) (s .pre .whole);
+    }
 
 same-length-2 : tie.Need-same-length-2
 same-length-2 c = search needs
 
 returns-2 : tie.Need-returns-2
 returns-2 c =
-    let a = c .before .before .before .before .before .before .before .before .before .before .args in
+    let s = c .before .before .before .before .before .before .before .before .before in
+    let a = s .args in
     let told = c .before .before .before .before .before .answer .given in
     let laid = c .before .before .write-laid in
-    let is = current-laid (lastFigures (a .session .figures)) _ _ _ (told .1) (c .before .before .before .before .before .before .before .current .ensures) in
-    subst (λ (f : Option Figures). Shown (laid .result) (a .line .now) (laid .last .1 .1 .1 .1 .0) (writeOut (sessionOf (a .session)) (a .received .now) f))
+    let is = current-laid (lastFigures (a .session .figures)) _ _ _ (told .1) (s .pre .knows .figures) in
+    subst (λ (f : Option Figures). Shown (laid .result) (a .line .now) (laid .last .1 .1 .1 .1 .1 .0) (writeOut (sessionOf (a .session)) (a .received .now) f))
     (sym (is .are)) (laid .ensures)
 
 pub serve-write-spec : {M : Type 1} → statement M
 serve-write-spec =
     tie.close
     (tie.spec
-    current-requires enum-known-answer enum-told stop-requires same-length returns write-laid-requires same-length-2 returns-2)
+    enum-known-answer enum-told stop-requires same-length returns write-laid-requires same-length-2 returns-2)

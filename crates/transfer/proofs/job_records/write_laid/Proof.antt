@@ -11,7 +11,7 @@ use Rattle.cells.specs.Figures.{maxWord}
 use Rattle.combinatorics.specs.Stretch.{tabulate}
 use Rattle.cells.specs.Outcomes.{held}
 use Rattle.params.specs.Bridge.{codingOf}
-use Rattle.params.specs.Given.{shortWord}
+use Rattle.params.specs.Given.{codingIn, shortWord}
 use Rattle.placements.specs.Bridge.{heldAs}
 use Rattle.jobcodec.specs.JobWrite.{jobWriteUnder}
 use Rattle.records.specs.Records.{recordHeadLen, twoBytes, recordStarts, payloadOf}
@@ -47,7 +47,7 @@ module _ (c : tie.After-placement-in) (room : ℕ) (le : c .before .before .befo
   line-is : (r : StepAnswer) (line : List ℕ)
       → (let a = c .before .before .before .args in let from = recordHeadLen + 2 * a .layout .m in let bytes = a .received .now in let s =
       sessionOf (a .session) in
-      Shown r (a .line .now) line (writeStep s (jobWriteUnder (codingOf (a .figures)) (s .table) (heldAs (c .placement-in .result))
+      Shown r (a .line .now) line (writeStep s (jobWriteUnder (codingIn (a .layout)) (s .table) (heldAs (c .placement-in .result))
       (take (length bytes - from) (drop from bytes)) (take {A = ℕ} (a .layout .n) (replicate room 0))))
       → Shown r (a .line .now) line (writeOut s bytes (some (a .figures))))
   line-is r line =
@@ -57,9 +57,9 @@ module _ (c : tie.After-placement-in) (room : ℕ) (le : c .before .before .befo
       let bytes = a .received .now in
       let from = recordHeadLen + 2 * l .m in
       let m = s .pre .numbers .bursts-is in
-      shown-write r (a .line .now) line (sessionOf (a .session)) (codingOf (a .figures)) (heldAs (c .placement-in .result)) (recordStarts (a .figures) bytes)
+      shown-write r (a .line .now) line (sessionOf (a .session)) (codingIn l) (codingOf (a .figures)) (heldAs (c .placement-in .result)) (recordStarts (a .figures) bytes)
       (take (length bytes - from) (drop from bytes)) (payloadOf (a .figures) bytes) (take {A = ℕ} (l .n) (replicate room 0))
-      (replicate {A = ℕ} (codingOf (a .figures) .codec .wordLen) 0)
+      (replicate {A = ℕ} (codingOf (a .figures) .codec .wordLen) 0) (s .pre .same)
       (c .placement-in .ensures ∙ ap (λ (k : ℕ). held (tabulate k 0 (λ i. twoBytes bytes (recordHeadLen + 2 * i)))) m)
       (rest-all from bytes ∙ ap (λ (k : ℕ). drop (recordHeadLen + 2 * k) bytes) m)
       (zeros (l .n) room le ∙ ap (λ (k : ℕ). replicate {A = ℕ} k 0) (s .pre .numbers .word-is))
@@ -82,7 +82,7 @@ slice-aggregate-write-word c = sym (lent-is (c .before .before .before) shortWor
 write-word-requires : tie.Need-write-word-requires
 write-word-requires c κs =
     let s = c .before .before .before .before .before .before .before in
-    (s .pre .ready, omega (arith, longest s, lent-is (c .before .before .before .before) shortWord (omega (arith, c .before .before .before .if1 .taken))))
+    (s .pre .ready, omega (arith, longest s, lent-is (c .before .before .before .before) shortWord (omega (arith, c .before .before .before .if1 .taken))), s .pre .table)
 
 same-length : tie.Need-same-length
 same-length c = search needs
@@ -91,7 +91,7 @@ returns : tie.Need-returns
 returns c =
     let put = c .before .before .before .write-word in
     line-is (c .before .before .before .before .before .before .before .before) shortWord
-    (omega (arith, c .before .before .before .before .before .before .before .if1 .taken)) (put .result) (put .last .1 .1 .1 .1 .1 .0) (put .ensures)
+    (omega (arith, c .before .before .before .before .before .before .before .if1 .taken)) (put .result) (put .last .1 .1 .1 .1 .1 .1 .0) (put .ensures)
 
 sub-write-word-2 : tie.Need-sub-write-word-2
 sub-write-word-2 c = search needs
@@ -111,7 +111,7 @@ slice-aggregate-write-word-2 c = sym (lent-is (c .before .before .before) maxWor
 write-word-requires-2 : tie.Need-write-word-requires-2
 write-word-requires-2 c κs =
     let s = c .before .before .before .before .before .before .before in
-    (s .pre .ready, omega (arith, longest s, lent-is (c .before .before .before .before) maxWord (longest s)))
+    (s .pre .ready, omega (arith, longest s, lent-is (c .before .before .before .before) maxWord (longest s)), s .pre .table)
 
 same-length-2 : tie.Need-same-length-2
 same-length-2 c = search needs
@@ -120,7 +120,7 @@ returns-2 : tie.Need-returns-2
 returns-2 c =
     let put = c .before .before .before .write-word2 in
     let s = c .before .before .before .before .before .before .before .before .before .before .before in
-    line-is (c .before .before .before .before .before .before .before .before) maxWord (longest s) (put .result) (put .last .1 .1 .1 .1 .1 .0) (put .ensures)
+    line-is (c .before .before .before .before .before .before .before .before) maxWord (longest s) (put .result) (put .last .1 .1 .1 .1 .1 .1 .0) (put .ensures)
 
 pub write-laid-spec : {M : Type 1} → statement M
 write-laid-spec =

@@ -1,9 +1,9 @@
 -- `write_word` meets its contract: the line by what job write answers. Assumes nothing.
 use mathlib.Core.Path.{ap}
-use mathlib.Core.List.{List, [], _∷_}
-use Prim.Native.Nat.{ℕ}
+use mathlib.Core.List.{[], _∷_}
 use borrow.Author.Needs.{needs}
-use Rattle.params.specs.Bridge.{codingOf}
+use Rattle.cells.specs.Outcomes.{Encoded}
+use Rattle.params.specs.Given.{codingIn}
 use Rattle.placements.specs.Bridge.{heldAs}
 use Rattle.jobcodec.specs.JobWrite.{jobWriteUnder}
 use Rattle.text.specs.Text.{hex}
@@ -36,8 +36,8 @@ returns c =
     let job = c .before .before .before .before .before .before .before .before .job-write in
     let put = c .before .before .before .put-refusal in
     let line = a .line .now in
-    let out = jobWriteUnder (codingOf (a .figures)) (s .table) (heldAs (a .at)) (a .payload .now) (a .word .now) in
-    shown-refused (c .counted .result) line (put .last .0) s letterW (job .result) (out .answer) (hex (out .word) ∷ []) (job .ensures .0)
+    let out = jobWriteUnder (codingIn (a .layout)) (s .table) (heldAs (a .at)) (a .payload .now) (a .word .now) in
+    shown-refused (c .counted .result) line (put .last .0) s letterW (job .result) (out .answer) (hex (out .word) ∷ []) (ap (λ (x : Encoded). x .answer) (job .ensures))
     (c .before .before .before .before .before .if1 .taken)
     (shown-goes (c .counted .result) line (put .last .0) (nextSession s (s .figures) (s .table)) (refusalLine letterW (job .result)) (put .result)
     (c .counted .ensures) (put .ensures))
@@ -61,11 +61,11 @@ returns-2 c =
     let job = c .before .before .before .before .before .before .before .before .before .job-write in
     let put = c .before .before .before .put-word in
     let line = a .line .now in
-    let word = job .last .1 .1 .1 .1 .0 in
-    let out = jobWriteUnder (codingOf (a .figures)) (s .table) (heldAs (a .at)) (a .payload .now) (a .word .now) in
-    shown-served (c .counted2 .result) line (put .last .0) s letterW (job .result) (out .answer) (hex word ∷ []) (hex (out .word) ∷ []) (job .ensures .0)
+    let word = job .last .1 .1 .1 .1 .1 .0 in
+    let out = jobWriteUnder (codingIn (a .layout)) (s .table) (heldAs (a .at)) (a .payload .now) (a .word .now) in
+    shown-served (c .counted2 .result) line (put .last .0) s letterW (job .result) (out .answer) (hex word ∷ []) (hex (out .word) ∷ []) (ap (λ (x : Encoded). x .answer) (job .ensures))
     (c .before .before .before .before .before .before .if1 .left)
-    (ap (λ (x : List ℕ). hex x ∷ []) (job .ensures .1))
+    (ap (λ (x : Encoded). hex (x .word) ∷ []) (job .ensures))
     (shown-goes (c .counted2 .result) line (put .last .0) (nextSession s (s .figures) (s .table)) (servedLine letterW (hex word ∷ [])) (put .result)
     (c .counted2 .ensures) (put .ensures))
 

@@ -27,14 +27,18 @@ part-step-at-end : tie.Need-part-step-at-end
 part-step-at-end c = search needs
 
 step-at-requires : tie.Need-step-at-requires
-step-at-requires c κs = search needs
+step-at-requires c κs = c .before .before .before .before .before .before .pre .3
+
+-- the lent line is as long as it was
+line-long : (c : tie.After-put-first-arg3) → length (c .before .before .before .step-at .last .1 .1 .1 .1 .0) ≡ maxLine
+line-long c = search needs
 
 put-first-requires : tie.Need-put-first-requires
 put-first-requires c κs =
     let s = c .before .before .before .before .before .before .before .before .before .before in
     let a = c .before .before .before .step-at in
     let f = shown-fits (a .result) (a .ensures) in
-    let l : length (a .last .1 .1 .1 .0) ≡ maxLine = search needs in
+    let l = line-long c in
     (omega arith, omega arith)
 
 phase-after-requires : tie.Need-phase-after-requires
@@ -49,14 +53,14 @@ returns c =
     let n = c .before .before .before .before .before .before .before .before .before .before .before .least in
     let a = c .before .before .before .before .before .before .before .before .step-at in
     let p = c .before .before .before .before .put-first in
-    let l : length (a .last .1 .1 .1 .0) ≡ maxLine = search needs in (
+    let l = line-long (c .before .before .before .before .before) in (
       served-view (s .args .state) (s .args .input .now) (s .pre .1 .within) (s .pre .0 .0) (s .args .needed) (n .result) (s .pre .2) (n .ensures)
-          (s .args .output .now) (s .pre .0 .1) (s .pre .1 .room) (a .result) _ (a .last .1 .1 .1 .0) (a .ensures) l (p .last .0) (p .result)
+          (s .args .output .now) (s .pre .0 .1) (s .pre .1 .room) (a .result) _ (a .last .1 .1 .1 .1 .0) (a .ensures) l (p .last .0) (p .result)
           (c .phase-after .result)
           (p .ensures .0) (p .ensures .1) (c .phase-after .ensures),
       (
         served-within (s .args .state) (s .args .input .now) (s .pre .1 .within) (s .pre .0 .0) (s .args .needed) (n .result) (s .pre .2) (n .ensures)
-            (s .args .output .now) (s .pre .0 .1) (s .pre .1 .room) (a .result) _ (a .last .1 .1 .1 .0) (a .ensures) l (p .last .0) (p .result)
+            (s .args .output .now) (s .pre .0 .1) (s .pre .1 .room) (a .result) _ (a .last .1 .1 .1 .1 .0) (a .ensures) l (p .last .0) (p .result)
             (c .phase-after .result)
             (p .ensures .0) (p .ensures .1) (c .phase-after .ensures),
         refl,

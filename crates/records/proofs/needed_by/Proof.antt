@@ -1,9 +1,9 @@
--- `needed` meets its contract: mark and letter where no record begins so, or the record's length. Assumes nothing.
+-- `needed_by` meets its contract: mark and letter where no record begins so, or the record's length. Assumes nothing.
 use borrow.Author.Needs.{needs}
 use Rattle.records.specs.Bridge.{sessionOf}
 use Rattle.records.proofs.Readable.{needed-none, needed-some}
-use Rattle.records.proofs.needed.Statement.{statement}
-use Rattle.records.proofs.needed.Tie as tie
+use Rattle.records.proofs.needed_by.Statement.{statement}
+use Rattle.records.proofs.needed_by.Tie as tie
 
 begun-len-requires : tie.Need-begun-len-requires
 begun-len-requires c κs = search needs
@@ -18,5 +18,5 @@ returns-2 c =
     let a = c .before .before .before .args in
     needed-some (sessionOf (a .session)) (a .waiting .now) (c .before .begun-len .result) (c .before .begun-len .ensures .0) (c .if1 .left)
 
-pub needed-spec : {M : Type 1} → statement M
-needed-spec = tie.close (tie.spec begun-len-requires returns returns-2)
+pub needed-by-spec : {M : Type 1} → statement M
+needed-by-spec = tie.close (tie.spec begun-len-requires returns returns-2)
