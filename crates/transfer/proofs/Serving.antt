@@ -3,6 +3,7 @@ use mathlib.Core.Path.{_≡_, refl, sym, ap, ap₂, subst, _∙_}
 use mathlib.Core.Logic.{_≢_}
 use mathlib.Core.Bool.{Bool, true, false, not, _&&_}
 use mathlib.Core.List.{List, _∷_}
+use mathlib.Core.Option.{Option}
 use Prim.Native.Nat.{ℕ, zero, suc, _≤_, _<_}
 use native.Mathlib.Omega.{arith}
 use lib.Dec.{eqb}
@@ -12,6 +13,8 @@ use Rattle.combinatorics.proofs.Cases.{eqb-same, eqb-other, eqb-true, leb-holds
 use Rattle.cells.specs.Bytes.{payloadLen}
 use Rattle.cells.specs.Outcomes.{Coding, Held, Encoded, figuresUnder}
 use Rattle.params.specs.Bridge.{codingOf}
+use Rattle.params.specs.declared.Figures.{Figures}
+use Rattle.params.specs.declared.Layout.{Layout}
 use Rattle.jobs.specs.declared.Entry.{Entry}
 use Rattle.jobs.specs.Letters.{kindOf, callBy, isLetter}
 use Rattle.jobs.specs.Table.{twice}
@@ -21,34 +24,42 @@ use Rattle.jobcodec.specs.JobWrite.{jobWriteUnder}
 use Rattle.jobcodec.specs.JobRead.{JobRead, withhold, jobReading, jobReadUnder}
 use Rattle.text.specs.Text.{overwrite}
 use Rattle.transfer.specs.declared.StepAnswer.{StepAnswer}
-use Rattle.records.specs.Session.{Session, maxRecords, nextSession}
-use Rattle.lines.specs.Lines.{refusalLine, servedLine}
+use Rattle.records.specs.Session.{Session, maxRecords}
+use Rattle.lines.specs.Lines.{refusalLine, servedLine, maxLine}
 use Rattle.records.specs.Records.{recordHeadLen, letterOf, current, readable, figuresIn, longFiguresIn}
 use Rattle.transfer.specs.Steps.{stopped, ended, goesOn, figuresStep, callStep, jobStep, writeStep, readStep, writeOut, readOut, serveOut, stepOut}
-use Rattle.records.specs.Bridge.{sessionOf}
-use Rattle.transfer.specs.Bridge.{Shown}
+use Rattle.records.specs.Bridge.{sessionOf, IsCurrent}
+use Rattle.records.proofs.Lengths.{current-serves}
+use Rattle.transfer.specs.Bridge.{Shown, Put, RecordLaid}
 
 module _ (r : StepAnswer) (before line : List ℕ) where
   pub shown-goes : (next : Session) (text : List ℕ) (n : ℕ) → (sessionOf (r .next) ≡ next) × ((r .len ≡ n) × (r .stops ≡ false))
       → (line ≡ overwrite 0 text before) × (n ≡ length text) → Shown r before line (goesOn next text)
   shown-goes next text n went put = record { next = went .0; printed = put .0; len = went .1 .0 ∙ put .1; stops = went .1 .1 }
 
-  -- ---- W and R: the line by the answer
+-- ---- W and R: the line by the answer
 
-  module _ (s : Session) (letter : ℕ) where
-    pub shown-refused : (a a′ : ℕ) (fields : List (List ℕ)) → a ≡ a′ → a ≢ served
-        → Shown r before line (goesOn (nextSession s (s .figures) (s .table)) (refusalLine letter a)) → Shown r before line (jobStep s letter a′ fields)
-    shown-refused a a′ fields e h is =
-        subst (λ (x : ℕ). Shown r before line (jobStep s letter x fields)) e
-        (subst (λ (t : Bool). Shown r before line (goesOn (nextSession s (s .figures) (s .table))
-        (must t (refusalLine letter a) (servedLine letter fields)))) (sym (eqb-other a served h)) is)
+module _ (n : ℕ) (before line : List ℕ) (letter : ℕ) where
+  -- the same line by another name
+  put-as : (text text′ : List ℕ) → text ≡ text′ → (line ≡ overwrite 0 text before) × (n ≡ length text)
+      → (line ≡ overwrite 0 text′ before) × (n ≡ length text′)
+  put-as text text′ e = subst (λ (x : List ℕ). (line ≡ overwrite 0 x before) × (n ≡ length x)) e
 
-    pub shown-served : (a a′ : ℕ) (fields fields′ : List (List ℕ)) → a ≡ a′ → a ≡ served → fields ≡ fields′
-        → Shown r before line (goesOn (nextSession s (s .figures) (s .table)) (servedLine letter fields)) → Shown r before line (jobStep s letter a′ fields′)
-    shown-served a a′ fields fields′ e h f is =
-        subst (λ (t : Bool). Shown r before line (goesOn (nextSession s (s .figures) (s .table)) (must t (refusalLine letter a′) (servedLine letter fields′))))
-        (sym (eqb-same a′ served (sym e ∙ h)))
-        (subst (λ (x : List (List ℕ)). Shown r before line (goesOn (nextSession s (s .figures) (s .table)) (servedLine letter x))) f is)
+  pub put-refused : (a a′ : ℕ) (fields : List (List ℕ)) → a ≡ a′ → a ≢ served
+      → (line ≡ overwrite 0 (refusalLine letter a) before) × (n ≡ length (refusalLine letter a)) → Put n before line (λ s. jobStep s letter a′ fields)
+  put-refused a a′ fields e h put =
+      let is = put-as (refusalLine letter a) (must (eqb a′ served) (refusalLine letter a′) (servedLine letter fields))
+      (ap (refusalLine letter) e
+      ∙ sym (ap (λ (t : Bool). must t (refusalLine letter a′) (servedLine letter fields)) (eqb-other a′ served (λ z. h (e ∙ z))))) put in
+      record { printed = λ s. is .0; length-is = λ s. is .1 }
+
+  pub put-served : (a a′ : ℕ) (fields fields′ : List (List ℕ)) → a ≡ a′ → a ≡ served → fields ≡ fields′
+      → (line ≡ overwrite 0 (servedLine letter fields) before) × (n ≡ length (servedLine letter fields)) → Put n before line (λ s. jobStep s letter a′ fields′)
+  put-served a a′ fields fields′ e h f put =
+      let is = put-as (servedLine letter fields) (must (eqb a′ served) (refusalLine letter a′) (servedLine letter fields′))
+      (ap (servedLine letter) f
+      ∙ sym (ap (λ (t : Bool). must t (refusalLine letter a′) (servedLine letter fields′)) (eqb-same a′ served (sym e ∙ h)))) put in
+      record { printed = λ s. is .0; length-is = λ s. is .1 }
 
 -- ---- A payload that is handed out has a job number
 
@@ -83,18 +94,32 @@ take-replicate (suc n) (suc m) a h = ap {B = List ℕ} (λ r. a ∷ r) (take-rep
 pub zeros : (n room : ℕ) → n ≤ room → take {A = ℕ} n (replicate room 0) ≡ replicate n 0
 zeros n room h = take-replicate n room 0 h
 
-module _ (r : StepAnswer) (before line : List ℕ) (s : Session) where
-  pub shown-write : (d d′ : Coding) (at at′ : Held) (y y′ w w′ : List ℕ) → d ≡ d′ → at ≡ at′ → y ≡ y′ → w ≡ w′
-      → Shown r before line (writeStep s (jobWriteUnder d (s .table) at y w)) → Shown r before line (writeStep s (jobWriteUnder d′ (s .table) at′ y′ w′))
-  shown-write d d′ at at′ y y′ w w′ e₁ e₂ e₃ e₄ =
-      subst (λ (o : Encoded). Shown r before line (writeStep s o))
-      (ap₂ (λ (x : Coding) (h : Held). jobWriteUnder x (s .table) h y w) e₁ e₂ ∙ ap₂ (λ (a b : List ℕ). jobWriteUnder d′ (s .table) at′ a b) e₃ e₄)
+module _ (n : ℕ) (before line : List ℕ) (es : List Entry) where
+  pub put-write : (d d′ : Coding) (at at′ : Held) (y y′ w w′ : List ℕ) → d ≡ d′ → at ≡ at′ → y ≡ y′ → w ≡ w′
+      → Put n before line (λ s. writeStep s (jobWriteUnder d es at y w)) → Put n before line (λ s. writeStep s (jobWriteUnder d′ es at′ y′ w′))
+  put-write d d′ at at′ y y′ w w′ e₁ e₂ e₃ e₄ =
+      subst (λ (o : Encoded). Put n before line (λ s. writeStep s o))
+      (ap₂ (λ (x : Coding) (h : Held). jobWriteUnder x es h y w) e₁ e₂ ∙ ap₂ (λ (a b : List ℕ). jobWriteUnder d′ es at′ a b) e₃ e₄)
 
-  pub shown-read : (d d′ : Coding) (w w′ y y′ : List ℕ) → d ≡ d′ → w ≡ w′ → y ≡ y′
-      → Shown r before line (readStep s (jobReadUnder d (s .table) w y)) → Shown r before line (readStep s (jobReadUnder d′ (s .table) w′ y′))
-  shown-read d d′ w w′ y y′ e₁ e₂ e₃ =
-      subst (λ (o : JobRead). Shown r before line (readStep s o))
-      (ap (λ (x : Coding). jobReadUnder x (s .table) w y) e₁ ∙ ap₂ (λ (a b : List ℕ). jobReadUnder d′ (s .table) a b) e₂ e₃)
+  pub put-read : (d d′ : Coding) (w w′ y y′ : List ℕ) → d ≡ d′ → w ≡ w′ → y ≡ y′
+      → Put n before line (λ s. readStep s (jobReadUnder d es w y)) → Put n before line (λ s. readStep s (jobReadUnder d′ es w′ y′))
+  put-read d d′ w w′ y y′ e₁ e₂ e₃ =
+      subst (λ (o : JobRead). Put n before line (λ s. readStep s o))
+      (ap (λ (x : Coding). jobReadUnder x es w y) e₁ ∙ ap₂ (λ (a b : List ℕ). jobReadUnder d′ es a b) e₂ e₃)
+
+-- figures that are the current ones, and what is known of the table
+pub record-laid : (last : Option Figures) (f : Figures) (l : Layout) → IsCurrent last f l → (es : List Entry) (isTwice : Bool) → isTwice ≡ twice es
+    → (line : List ℕ) → maxLine ≤ length line → (long : ℕ) (bytes : List ℕ) → long ≤ length bytes → RecordLaid es line f l isTwice long bytes
+record-laid last f l is es isTwice told line room long bytes enough =
+    let gives = current-serves last f l is in
+    record {
+      room = room;
+      same = gives .0;
+      table = record { serves = gives .1; told = told };
+      numbers = is .numbers;
+      small = is .small;
+      long-enough = enough;
+    }
 
 -- ---- The record of a letter
 

@@ -10,7 +10,6 @@ use Rattle.params.specs.Bridge.{codingOf}
 use Rattle.params.specs.Given.{codingIn, Serves}
 use Rattle.params.specs.declared.Figures.{Figures}
 use Rattle.params.specs.declared.Layout.{Layout}
-use Rattle.jobs.specs.Slots.{entries}
 use Rattle.jobs.specs.Table.{twice}
 use Rattle.jobs.specs.declared.Entry.{Entry}
 use Rattle.records.specs.declared.Known.{Known}
@@ -18,7 +17,7 @@ use Rattle.records.specs.declared.Session.{Session as Given}
 use Rattle.transfer.specs.declared.StepAnswer.{StepAnswer}
 use Rattle.text.specs.Text.{overwrite}
 use Rattle.records.specs.Bridge.{sessionOf, Knows}
-use Rattle.records.specs.Session.{maxRecords}
+use Rattle.records.specs.Session.{Session, maxRecords}
 use Rattle.lines.specs.Lines.{maxLine}
 use Rattle.records.specs.Records.{isWhole}
 use Rattle.transfer.specs.Steps.{Step}
@@ -37,16 +36,21 @@ pub record Shown (r : StepAnswer) (before line : List ℕ) (o : Step) : Type 0 w
   pub len : r .len ≡ length (o .line)
   pub stops : r .stops ≡ o .stops
 
+-- the lent line begins with that of a step, whatever session is kept, and keeps what stood behind
+pub record Put (len : ℕ) (before line : List ℕ) (step : Session → Step) : Type 0 where
+  pub printed : (s : Session) → line ≡ overwrite 0 (step s .line) before
+  pub length-is : (s : Session) → len ≡ length (step s .line)
+
 -- a layout of figures that fit, and whether the table holds a number twice
 pub record ServesTold (l : Layout) (isTwice : Bool) (es : List Entry) : Type 0 where
   pub serves : Serves l
   pub told : isTwice ≡ twice es
 
 -- the figures that a W or R record is read by with their layout and its numbers, what is told of the table, and a record as long as it needs at least
-pub record RecordLaid (s : Given) (line : List ℕ) (f : Figures) (l : Layout) (isTwice : Bool) (long : ℕ) (bytes : List ℕ) : Type 0 where
-  pub ready : Ready s line
+pub record RecordLaid (es : List Entry) (line : List ℕ) (f : Figures) (l : Layout) (isTwice : Bool) (long : ℕ) (bytes : List ℕ) : Type 0 where
+  pub room : maxLine ≤ length line
   pub same : codingIn l ≡ codingOf f
-  pub table : ServesTold l isTwice (entries (s .table))
+  pub table : ServesTold l isTwice es
   pub numbers : HasNumbers (codingOf f) l
   pub small : Small (codingOf f)
   pub long-enough : long ≤ length bytes

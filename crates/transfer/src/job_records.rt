@@ -1,8 +1,7 @@
 // The records that write and read jobs. Assumes nothing.
 ghost use mathlib.Core.Path.{_≡_};
-ghost use mathlib.Core.Option.{some};
 ghost use Prim.Native.Nat.{_+_, _*_, _≤_};
-ghost use lib.ListN.{length};
+ghost use lib.ListN.{length, drop, replicate};
 ghost use Rattle.cells.specs.Figures.{maxWord};
 ghost use Rattle.cells.specs.Outcomes.{unwritten};
 ghost use Rattle.jobs.specs.Slots.{entries};
@@ -10,11 +9,13 @@ ghost use Rattle.jobcodec.specs.JobWrite.{jobWriteUnder};
 ghost use Rattle.jobcodec.specs.JobRead.{jobReadUnder};
 ghost use Rattle.jobcodec.specs.Given.{seen};
 ghost use Rattle.params.specs.Given.{codingIn};
+ghost use Rattle.params.specs.Bridge.{codingOf};
 ghost use Rattle.placements.specs.Bridge.{heldAs};
-ghost use Rattle.records.specs.Records.{recordHeadLen, writeLen, readLen, current as currentOf};
+ghost use Rattle.lines.specs.Lines.{maxLine};
+ghost use Rattle.records.specs.Records.{recordHeadLen, writeLen, readLen, payloadLenOf, recordStarts, payloadOf, current as currentOf};
 ghost use Rattle.transfer.specs.Steps.{writeOut, readOut, writeStep, readStep};
 ghost use Rattle.records.specs.Bridge.{lastFigures, sessionOf};
-ghost use Rattle.transfer.specs.Bridge.{Ready, Shown, ServesTold, RecordLaid, Whole};
+ghost use Rattle.transfer.specs.Bridge.{Shown, Put, ServesTold, RecordLaid, Whole};
 use crate::MAX_WORD;
 use crate::SHORT_WORD;
 use crate::StepAnswer;
@@ -41,20 +42,23 @@ pub fn serve_write(session: Session, known: Known, received: &[u8], line: &mut [
     let CurrentAnswer::Laid(given, layout) = answer else {
         return stop(session, line);
     };
-    write_laid(session, given, layout, known.twice, received, line)
+    let table = session.table;
+    let len = write_laid(table, given, layout, known.twice, received, line);
+    counted(session, len)
 }
 
 // The same by the last accepted figures and their layout.
 fn write_laid(
-    session: Session,
+    table: JobTable,
     figures: Figures,
     layout: Layout,
     twice: bool,
     received: &[u8],
     line: &mut [u8],
-) -> StepAnswer
-    requires { ⌜ RecordLaid session (now line) figures layout twice (recordHeadLen + 2 * layout .m) (now received) ⌝ }
-    ensures { λ r. ⌜ Shown r (now (line .entry)) (now (line .exit)) (writeOut (sessionOf session) (now (received .entry)) (some figures)) ⌝ }
+) -> usize
+    requires { ⌜ RecordLaid (entries table) (now line) figures layout twice (recordHeadLen + 2 * layout .m) (now received) ⌝ }
+    ensures { λ r. ⌜ Put r (now (line .entry)) (now (line .exit)) (λ s. writeStep s (jobWriteUnder (codingOf figures) (entries table)
+        (recordStarts figures (now (received .entry))) (payloadOf figures (now (received .entry))) (replicate (codingOf figures .codec .wordLen) 0))) ⌝ }
 {
     let m = layout.m;
     let n = layout.n;
@@ -63,7 +67,7 @@ fn write_laid(
     if n <= SHORT_WORD {
         let mut short = [0u8; SHORT_WORD];
         return write_word(
-            session,
+            table,
             layout,
             twice,
             at,
@@ -74,7 +78,7 @@ fn write_laid(
     }
     let mut word = [0u8; MAX_WORD];
     write_word(
-        session,
+        table,
         layout,
         twice,
         at,
@@ -86,24 +90,23 @@ fn write_laid(
 
 // W, with a lent word that holds 0.
 fn write_word(
-    session: Session,
+    table: JobTable,
     layout: Layout,
     twice: bool,
     at: Placement,
     payload: &[u8],
     word: &mut [u8],
     line: &mut [u8],
-) -> StepAnswer
-    requires { ⌜ Ready session (now line) × (length (now word) ≤ maxWord) × ServesTold layout twice (entries (session .table)) ⌝ }
-    ensures { λ r. ⌜ Shown r (now (line .entry)) (now (line .exit))
-        (writeStep (sessionOf session) (jobWriteUnder (codingIn layout) (entries (session .table)) (heldAs at) (now (payload .entry)) (now (word .entry)))) ⌝ }
+) -> usize
+    requires { ⌜ (maxLine ≤ length (now line)) × (length (now word) ≤ maxWord) × ServesTold layout twice (entries table) ⌝ }
+    ensures { λ r. ⌜ Put r (now (line .entry)) (now (line .exit))
+        (λ s. writeStep s (jobWriteUnder (codingIn layout) (entries table) (heldAs at) (now (payload .entry)) (now (word .entry)))) ⌝ }
 {
-    let table = session.table;
     let answer = job_write(layout, twice, table, at, payload, word);
     if answer != Refusal::NONE {
-        return counted(session, lines::put_refusal(line, b'W', answer));
+        return lines::put_refusal(line, b'W', answer);
     }
-    counted(session, lines::put_word(line, word))
+    lines::put_word(line, word)
 }
 
 // Job write for figures that fit, with what is known of the table.
@@ -134,26 +137,29 @@ pub fn serve_read(session: Session, known: Known, received: &[u8], line: &mut [u
     let CurrentAnswer::Laid(given, layout) = answer else {
         return stop(session, line);
     };
-    read_laid(session, given, layout, known.twice, received, line)
+    let table = session.table;
+    let len = read_laid(table, given, layout, known.twice, received, line);
+    counted(session, len)
 }
 
 // The same by the last accepted figures and their layout.
 fn read_laid(
-    session: Session,
+    table: JobTable,
     figures: Figures,
     layout: Layout,
     twice: bool,
     received: &[u8],
     line: &mut [u8],
-) -> StepAnswer
-    requires { ⌜ RecordLaid session (now line) figures layout twice recordHeadLen (now received) ⌝ }
-    ensures { λ r. ⌜ Shown r (now (line .entry)) (now (line .exit)) (readOut (sessionOf session) (now (received .entry)) (some figures)) ⌝ }
+) -> usize
+    requires { ⌜ RecordLaid (entries table) (now line) figures layout twice recordHeadLen (now received) ⌝ }
+    ensures { λ r. ⌜ Put r (now (line .entry)) (now (line .exit)) (λ s. readStep s (jobReadUnder (codingOf figures) (entries table)
+        (drop recordHeadLen (now (received .entry))) (replicate (payloadLenOf figures) 0))) ⌝ }
 {
     let count = bytes::payload_len(layout.q, layout.message_len);
     if count <= SHORT_WORD {
         let mut short = [0u8; SHORT_WORD];
         return read_payload(
-            session,
+            table,
             layout,
             twice,
             &received[HEAD_LEN..],
@@ -163,7 +169,7 @@ fn read_laid(
     }
     let mut payload = [0u8; MAX_WORD];
     read_payload(
-        session,
+        table,
         layout,
         twice,
         &received[HEAD_LEN..],
@@ -174,23 +180,22 @@ fn read_laid(
 
 // R, with a lent payload that holds 0.
 fn read_payload(
-    session: Session,
+    table: JobTable,
     layout: Layout,
     twice: bool,
     word: &[u8],
     payload: &mut [u8],
     line: &mut [u8],
-) -> StepAnswer
-    requires { ⌜ Ready session (now line) × (length (now payload) ≤ maxWord) × ServesTold layout twice (entries (session .table)) ⌝ }
-    ensures { λ r. ⌜ Shown r (now (line .entry)) (now (line .exit))
-        (readStep (sessionOf session) (jobReadUnder (codingIn layout) (entries (session .table)) (now (word .entry)) (now (payload .entry)))) ⌝ }
+) -> usize
+    requires { ⌜ (maxLine ≤ length (now line)) × (length (now payload) ≤ maxWord) × ServesTold layout twice (entries table) ⌝ }
+    ensures { λ r. ⌜ Put r (now (line .entry)) (now (line .exit))
+        (λ s. readStep s (jobReadUnder (codingIn layout) (entries table) (now (word .entry)) (now (payload .entry)))) ⌝ }
 {
-    let table = session.table;
     let answer = job_read(layout, twice, table, word, payload);
     if answer != Refusal::NONE {
-        return counted(session, lines::put_refusal(line, b'R', answer));
+        return lines::put_refusal(line, b'R', answer);
     }
-    counted(session, lines::put_payload(line, payload))
+    lines::put_payload(line, payload)
 }
 
 // Job read likewise.

@@ -1,7 +1,6 @@
 -- `read_laid` meets its contract: the word of the record, and a payload that holds 0. Assumes nothing.
 use mathlib.Core.Path.{_≡_, sym, ap, ap₂, _∙_}
 use mathlib.Core.List.{List}
-use mathlib.Core.Option.{some}
 use Prim.Native.Nat.{ℕ, _-_, _≤_}
 use native.Mathlib.Omega.{arith}
 use borrow.Author.Needs.{needs}
@@ -11,15 +10,14 @@ use Rattle.cells.specs.Bytes.{payloadLen}
 use Rattle.cells.specs.Figures.{maxWord}
 use Rattle.params.specs.Bridge.{codingOf}
 use Rattle.params.specs.Given.{codingIn, shortWord}
+use Rattle.jobs.specs.Slots.{entries}
 use Rattle.jobcodec.specs.JobRead.{jobReadUnder}
 use Rattle.records.specs.Records.{recordHeadLen, payloadLenOf}
-use Rattle.transfer.specs.Steps.{readStep, readOut}
-use Rattle.records.specs.Bridge.{sessionOf}
-use Rattle.transfer.specs.Bridge.{Shown}
-use Rattle.transfer.specs.declared.StepAnswer.{StepAnswer}
+use Rattle.transfer.specs.Steps.{readStep}
+use Rattle.transfer.specs.Bridge.{Put}
 use Rattle.lines.proofs.Fields.{rest-all}
 use Rattle.records.proofs.Lengths.{payload-within}
-use Rattle.transfer.proofs.Serving.{zeros, shown-read}
+use Rattle.transfer.proofs.Serving.{zeros, put-read}
 use Rattle.transfer.proofs.job_records.read_laid.Statement.{statement}
 use Rattle.transfer.proofs.job_records.read_laid.Tie as tie
 
@@ -44,12 +42,13 @@ module _ (c : tie.After-payload-len) (room : ℕ) (le : c .payload-len .result �
   lent-is : length (take {A = ℕ} (c .payload-len .result) (replicate room 0)) ≡ c .payload-len .result
   lent-is = length-take-le {A = ℕ} (c .payload-len .result) (replicate room 0) (omega (arith, length-replicate {A = ℕ} room 0))
 
-  line-is : (r : StepAnswer) (line : List ℕ)
-      → (let a = c .before .before .before .args in let bytes = a .received .now in let s = sessionOf (a .session) in
-      Shown r (a .line .now) line
-      (readStep s (jobReadUnder (codingIn (a .layout)) (s .table) (take (length bytes - recordHeadLen) (drop recordHeadLen bytes))
+  line-is : (r : ℕ) (line : List ℕ)
+      → (let a = c .before .before .before .args in let bytes = a .received .now in let es = entries (a .table) in
+      Put r (a .line .now) line
+      (λ s. readStep s (jobReadUnder (codingIn (a .layout)) es (take (length bytes - recordHeadLen) (drop recordHeadLen bytes))
       (take {A = ℕ} (c .payload-len .result) (replicate room 0))))
-      → Shown r (a .line .now) line (readOut s bytes (some (a .figures))))
+      → Put r (a .line .now) line
+      (λ s. readStep s (jobReadUnder (codingOf (a .figures)) es (drop recordHeadLen bytes) (replicate {A = ℕ} (payloadLenOf (a .figures)) 0))))
   line-is r line =
       let s = c .before .before .before in
       let a = s .args in
@@ -57,7 +56,7 @@ module _ (c : tie.After-payload-len) (room : ℕ) (le : c .payload-len .result �
       let bytes = a .received .now in
       let count = c .payload-len in
       let is = s .pre .numbers in
-      shown-read r (a .line .now) line (sessionOf (a .session)) (codingIn l) (codingOf (a .figures)) (take (length bytes - recordHeadLen) (drop recordHeadLen bytes))
+      put-read r (a .line .now) line (entries (a .table)) (codingIn l) (codingOf (a .figures)) (take (length bytes - recordHeadLen) (drop recordHeadLen bytes))
       (drop recordHeadLen bytes)
       (take {A = ℕ} (count .result) (replicate room 0)) (replicate {A = ℕ} (payloadLenOf (a .figures)) 0) (s .pre .same) (rest-all recordHeadLen bytes)
       (zeros (count .result) room le ∙ ap (λ (k : ℕ). replicate {A = ℕ} k 0) (count .ensures ∙ ap₂ payloadLen (is .alphabet-is) (is .len-is)))
@@ -81,7 +80,7 @@ read-payload-requires : tie.Need-read-payload-requires
 read-payload-requires c κs =
     let p = c .before .before .before .before in
     let s = p .before .before .before in
-    (s .pre .ready, omega (arith, longest p, lent-is p shortWord (omega (arith, c .before .before .before .if1 .taken))), s .pre .table)
+    (s .pre .room, omega (arith, longest p, lent-is p shortWord (omega (arith, c .before .before .before .if1 .taken))), s .pre .table)
 
 same-length : tie.Need-same-length
 same-length c = search needs
@@ -111,7 +110,7 @@ read-payload-requires-2 : tie.Need-read-payload-requires-2
 read-payload-requires-2 c κs =
     let p = c .before .before .before .before in
     let s = p .before .before .before in
-    (s .pre .ready, omega (arith, longest p, lent-is p maxWord (longest p)), s .pre .table)
+    (s .pre .room, omega (arith, longest p, lent-is p maxWord (longest p)), s .pre .table)
 
 same-length-2 : tie.Need-same-length-2
 same-length-2 c = search needs

@@ -4,9 +4,11 @@ use mathlib.Core.Option.{Option}
 use borrow.Author.Needs.{needs}
 use Rattle.params.specs.declared.Figures.{Figures}
 use Rattle.transfer.specs.Steps.{writeOut}
+use Rattle.records.specs.Session.{nextSession}
 use Rattle.records.specs.Bridge.{lastFigures, sessionOf}
 use Rattle.transfer.specs.Bridge.{Shown}
-use Rattle.records.proofs.Lengths.{current-laid, current-none, current-serves}
+use Rattle.records.proofs.Lengths.{current-laid, current-none}
+use Rattle.transfer.proofs.Serving.{shown-goes, record-laid}
 use Rattle.records.proofs.Readable.{write-long}
 use Rattle.transfer.proofs.job_records.serve_write.Statement.{statement}
 use Rattle.transfer.proofs.job_records.serve_write.Tie as tie
@@ -35,35 +37,34 @@ returns c =
 
 write-laid-requires : tie.Need-write-laid-requires
 write-laid-requires c κs =
-    let s = c .before .before .before .before .before .before in
-    let told = c .before .before .answer .given in
+    let s = c .before .before .before .before .before .before .before in
+    let told = c .before .before .before .answer .given in
     let f = lastFigures (s .args .session .figures) in
     let is = current-laid f _ _ _ (told .1) (s .pre .knows .figures) in
-    let gives = current-serves f _ _ is in
-    record {
-      ready = s .pre .ready;
-      same = gives .0;
-      table = record { serves = gives .1; told = s .pre .knows .table };
-      numbers = is .numbers;
-      small = is .small;
-      long-enough = write-long f _ _ is (s .args .received .now) (s .pre .whole);
-    }
+    record-laid f _ _ is _ _ (s .pre .knows .table) _ (s .pre .ready .room) _ _ (write-long f _ _ is (s .args .received .now) (s .pre .whole))
+
+counted-requires : tie.Need-counted-requires
+counted-requires c κs = c .before .before .before .before .before .before .before .before .before .before .pre .ready .fewer
 
 same-length-2 : tie.Need-same-length-2
 same-length-2 c = search needs
 
 returns-2 : tie.Need-returns-2
 returns-2 c =
-    let s = c .before .before .before .before .before .before .before .before .before in
+    let s = c .before .before .before .before .before .before .before .before .before .before .before in
     let a = s .args in
-    let told = c .before .before .before .before .before .answer .given in
-    let laid = c .before .before .write-laid in
-    let is = current-laid (lastFigures (a .session .figures)) _ _ _ (told .1) (s .pre .knows .figures) in
-    subst (λ (f : Option Figures). Shown (laid .result) (a .line .now) (laid .last .1 .1 .1 .1 .1 .0) (writeOut (sessionOf (a .session)) (a .received .now) f))
-    (sym (is .are)) (laid .ensures)
+    let told = c .before .before .before .before .before .before .before .answer .given in
+    let laid = c .before .before .before .write-laid in
+    let r = c .counted .result in
+    let line = laid .last .1 .1 .1 .1 .1 .0 in
+    let from = sessionOf (a .session) in
+    let is = current-laid (from .figures) _ _ _ (told .1) (s .pre .knows .figures) in
+    subst (λ (f : Option Figures). Shown r (a .line .now) line (writeOut from (a .received .now) f)) (sym (is .are))
+    (shown-goes r (a .line .now) line (nextSession from (from .figures) (from .table)) _ (laid .result) (c .counted .ensures)
+    (laid .ensures .printed from, laid .ensures .length-is from))
 
 pub serve-write-spec : {M : Type 1} → statement M
 serve-write-spec =
     tie.close
     (tie.spec
-    enum-known-answer enum-told stop-requires same-length returns write-laid-requires same-length-2 returns-2)
+    enum-known-answer enum-told stop-requires same-length returns write-laid-requires counted-requires same-length-2 returns-2)

@@ -1,7 +1,6 @@
 -- `write_laid` meets its contract: the starts and the payload of the record, and a word that holds 0. Assumes nothing.
 use mathlib.Core.Path.{_≡_, sym, ap, _∙_}
 use mathlib.Core.List.{List}
-use mathlib.Core.Option.{some}
 use Prim.Native.Nat.{ℕ, _+_, _-_, _*_, _≤_}
 use native.Mathlib.Omega.{arith}
 use borrow.Author.Needs.{needs}
@@ -13,14 +12,13 @@ use Rattle.cells.specs.Outcomes.{held}
 use Rattle.params.specs.Bridge.{codingOf}
 use Rattle.params.specs.Given.{codingIn, shortWord}
 use Rattle.placements.specs.Bridge.{heldAs}
+use Rattle.jobs.specs.Slots.{entries}
 use Rattle.jobcodec.specs.JobWrite.{jobWriteUnder}
 use Rattle.records.specs.Records.{recordHeadLen, twoBytes, recordStarts, payloadOf}
-use Rattle.transfer.specs.Steps.{writeStep, writeOut}
-use Rattle.records.specs.Bridge.{sessionOf}
-use Rattle.transfer.specs.Bridge.{Shown}
-use Rattle.transfer.specs.declared.StepAnswer.{StepAnswer}
+use Rattle.transfer.specs.Steps.{writeStep}
+use Rattle.transfer.specs.Bridge.{Put}
 use Rattle.lines.proofs.Fields.{rest-all}
-use Rattle.transfer.proofs.Serving.{zeros, shown-write}
+use Rattle.transfer.proofs.Serving.{zeros, put-write}
 use Rattle.transfer.proofs.job_records.write_laid.Statement.{statement}
 use Rattle.transfer.proofs.job_records.write_laid.Tie as tie
 
@@ -44,12 +42,13 @@ module _ (c : tie.After-placement-in) (room : ℕ) (le : c .before .before .befo
   lent-is : length (take {A = ℕ} (c .before .before .before .args .layout .n) (replicate room 0)) ≡ c .before .before .before .args .layout .n
   lent-is = length-take-le {A = ℕ} (c .before .before .before .args .layout .n) (replicate room 0) (omega (arith, length-replicate {A = ℕ} room 0))
 
-  line-is : (r : StepAnswer) (line : List ℕ)
-      → (let a = c .before .before .before .args in let from = recordHeadLen + 2 * a .layout .m in let bytes = a .received .now in let s =
-      sessionOf (a .session) in
-      Shown r (a .line .now) line (writeStep s (jobWriteUnder (codingIn (a .layout)) (s .table) (heldAs (c .placement-in .result))
+  line-is : (r : ℕ) (line : List ℕ)
+      → (let a = c .before .before .before .args in let from = recordHeadLen + 2 * a .layout .m in let bytes = a .received .now in let es =
+      entries (a .table) in
+      Put r (a .line .now) line (λ s. writeStep s (jobWriteUnder (codingIn (a .layout)) es (heldAs (c .placement-in .result))
       (take (length bytes - from) (drop from bytes)) (take {A = ℕ} (a .layout .n) (replicate room 0))))
-      → Shown r (a .line .now) line (writeOut s bytes (some (a .figures))))
+      → Put r (a .line .now) line (λ s. writeStep s (jobWriteUnder (codingOf (a .figures)) es (recordStarts (a .figures) bytes) (payloadOf (a .figures) bytes)
+      (replicate {A = ℕ} (codingOf (a .figures) .codec .wordLen) 0))))
   line-is r line =
       let s = c .before .before .before in
       let a = s .args in
@@ -57,7 +56,7 @@ module _ (c : tie.After-placement-in) (room : ℕ) (le : c .before .before .befo
       let bytes = a .received .now in
       let from = recordHeadLen + 2 * l .m in
       let m = s .pre .numbers .bursts-is in
-      shown-write r (a .line .now) line (sessionOf (a .session)) (codingIn l) (codingOf (a .figures)) (heldAs (c .placement-in .result)) (recordStarts (a .figures) bytes)
+      put-write r (a .line .now) line (entries (a .table)) (codingIn l) (codingOf (a .figures)) (heldAs (c .placement-in .result)) (recordStarts (a .figures) bytes)
       (take (length bytes - from) (drop from bytes)) (payloadOf (a .figures) bytes) (take {A = ℕ} (l .n) (replicate room 0))
       (replicate {A = ℕ} (codingOf (a .figures) .codec .wordLen) 0) (s .pre .same)
       (c .placement-in .ensures ∙ ap (λ (k : ℕ). held (tabulate k 0 (λ i. twoBytes bytes (recordHeadLen + 2 * i)))) m)
@@ -82,7 +81,7 @@ slice-aggregate-write-word c = sym (lent-is (c .before .before .before) shortWor
 write-word-requires : tie.Need-write-word-requires
 write-word-requires c κs =
     let s = c .before .before .before .before .before .before .before in
-    (s .pre .ready, omega (arith, longest s, lent-is (c .before .before .before .before) shortWord (omega (arith, c .before .before .before .if1 .taken))), s .pre .table)
+    (s .pre .room, omega (arith, longest s, lent-is (c .before .before .before .before) shortWord (omega (arith, c .before .before .before .if1 .taken))), s .pre .table)
 
 same-length : tie.Need-same-length
 same-length c = search needs
@@ -111,7 +110,7 @@ slice-aggregate-write-word-2 c = sym (lent-is (c .before .before .before) maxWor
 write-word-requires-2 : tie.Need-write-word-requires-2
 write-word-requires-2 c κs =
     let s = c .before .before .before .before .before .before .before in
-    (s .pre .ready, omega (arith, longest s, lent-is (c .before .before .before .before) maxWord (longest s)), s .pre .table)
+    (s .pre .room, omega (arith, longest s, lent-is (c .before .before .before .before) maxWord (longest s)), s .pre .table)
 
 same-length-2 : tie.Need-same-length-2
 same-length-2 c = search needs
