@@ -59,7 +59,8 @@ returns-2 c =
     let out = jobReadUnder (codingIn (a .layout)) (entries (a .table)) (a .word .now) (a .payload .now) in
     put-served (put .result) (a .line .now) (put .last .0) letterR (job .result) (out .answer) (hex (take 4 payload) ∷ hex (drop 4 payload) ∷ [])
     (hex (take 4 (out .payload)) ∷ hex (drop 4 (out .payload)) ∷ []) (ap (λ (x : JobRead). x .answer) (job .ensures))
-    (c .before .before .before .before .before .if1 .left) (ap (λ (x : JobRead). hex (take 4 (x .payload)) ∷ hex (drop 4 (x .payload)) ∷ []) (job .ensures)) (put .ensures)
+    (c .before .before .before .before .before .if1 .left) (ap (λ (x : JobRead). hex (take 4 (x .payload)) ∷ hex (drop 4 (x .payload)) ∷ []) (job .ensures))
+    (put .ensures)
 
 pub read-payload-spec : {M : Type 1} → statement M
 read-payload-spec =

@@ -56,7 +56,8 @@ module _ (c : tie.After-placement-in) (room : ℕ) (le : c .before .before .befo
       let bytes = a .received .now in
       let from = recordHeadLen + 2 * l .m in
       let m = s .pre .numbers .bursts-is in
-      put-write r (a .line .now) line (entries (a .table)) (codingIn l) (codingOf (a .figures)) (heldAs (c .placement-in .result)) (recordStarts (a .figures) bytes)
+      put-write r (a .line .now) line (entries (a .table)) (codingIn l) (codingOf (a .figures)) (heldAs (c .placement-in .result))
+      (recordStarts (a .figures) bytes)
       (take (length bytes - from) (drop from bytes)) (payloadOf (a .figures) bytes) (take {A = ℕ} (l .n) (replicate room 0))
       (replicate {A = ℕ} (codingOf (a .figures) .codec .wordLen) 0) (s .pre .same)
       (c .placement-in .ensures ∙ ap (λ (k : ℕ). held (tabulate k 0 (λ i. twoBytes bytes (recordHeadLen + 2 * i)))) m)
@@ -80,8 +81,11 @@ slice-aggregate-write-word c = sym (lent-is (c .before .before .before) shortWor
 
 write-word-requires : tie.Need-write-word-requires
 write-word-requires c κs =
-    let s = c .before .before .before .before .before .before .before in
-    (s .pre .room, omega (arith, longest s, lent-is (c .before .before .before .before) shortWord (omega (arith, c .before .before .before .if1 .taken))), s .pre .table)
+    let s = c .before .before .before .before .before .before .before in (
+      s .pre .room,
+      omega (arith, longest s, lent-is (c .before .before .before .before) shortWord (omega (arith, c .before .before .before .if1 .taken))),
+      s .pre .table,
+    )
 
 same-length : tie.Need-same-length
 same-length c = search needs
@@ -119,7 +123,8 @@ returns-2 : tie.Need-returns-2
 returns-2 c =
     let put = c .before .before .before .write-word2 in
     let s = c .before .before .before .before .before .before .before .before .before .before .before in
-    line-is (c .before .before .before .before .before .before .before .before) maxWord (longest s) (put .result) (put .last .1 .1 .1 .1 .1 .1 .0) (put .ensures)
+    line-is (c .before .before .before .before .before .before .before .before) maxWord (longest s) (put .result) (put .last .1 .1 .1 .1 .1 .1 .0)
+    (put .ensures)
 
 pub write-laid-spec : {M : Type 1} → statement M
 write-laid-spec =

@@ -50,7 +50,8 @@ returns-2 c =
     let put = c .before .before .put-word in
     let out = jobWriteUnder (codingIn (a .layout)) (entries (a .table)) (heldAs (a .at)) (a .payload .now) (a .word .now) in
     put-served (put .result) (a .line .now) (put .last .0) letterW (job .result) (out .answer) (hex (job .last .1 .1 .1 .1 .1 .0) ∷ []) (hex (out .word) ∷ [])
-    (ap (λ (x : Encoded). x .answer) (job .ensures)) (c .before .before .before .before .before .if1 .left) (ap (λ (x : Encoded). hex (x .word) ∷ []) (job .ensures)) (put .ensures)
+    (ap (λ (x : Encoded). x .answer) (job .ensures)) (c .before .before .before .before .before .if1 .left)
+    (ap (λ (x : Encoded). hex (x .word) ∷ []) (job .ensures)) (put .ensures)
 
 pub write-word-spec : {M : Type 1} → statement M
 write-word-spec =

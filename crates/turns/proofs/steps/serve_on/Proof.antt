@@ -99,7 +99,11 @@ serve-requires c κs =
     let n = c .before .before .before .before .before .before .needed-by in
     let room = c .before .before .before .before .before .before .before .before .before .before .has-room in (
       (s .pre .0 .0, t .inv .1),
-      record { within = t .inv .0; room = room-le (t .now .gathered) (sym (room .ensures) ∙ c .before .before .before .before .before .before .before .before .before .if1 .taken) },
+      record {
+        within = t .inv .0;
+        room = room-le (t .now .gathered)
+            (sym (room .ensures) ∙ c .before .before .before .before .before .before .before .before .before .if1 .taken);
+      },
       n .ensures .0,
       t .inv .4,
     )
@@ -124,7 +128,8 @@ loop-again c =
     let v = c .before .before .before .serve in (
       v .ensures .1 .0,
       search needs,
-      ap advanceOut (v .ensures .0) ∙ sym (advance-serves (viewed t) (goes (c .before .before .before .before .before .before .before .before))) ∙ t .loop .inv .2,
+      ap advanceOut (v .ensures .0) ∙ sym (advance-serves (viewed t) (goes (c .before .before .before .before .before .before .before .before)))
+          ∙ t .loop .inv .2,
       v .ensures .1 .1 ∙ t .loop .inv .3,
       c .after .ensures,
     )
