@@ -30,17 +30,18 @@ copied-turn d n out t part l k e f =
     ∙ ap₂ {C = List ℕ} _++_ e (take-append-le n part rest k ∙ f ∙ ap (take n) left)
     ∙ sym (take-add d n t)
 
--- the part that is left
-pub copied-rest : (d len : ℕ) (out t part : List ℕ) → d ≤ len → d ≤ length out → len - d ≤ length part → take d out ≡ take d t
-    → take (len - d) part ≡ take (len - d) (take (length t - d) (drop d t))
-    → take len (putMid d (length out - d) out part) ≡ take len t
-copied-rest d len out t part h l k e f =
-    let all : d + (len - d) ≡ len = omega arith in
-    subst (λ (x : ℕ). take x (putMid d (length out - d) out part) ≡ take x t) all (copied-turn d (len - d) out t part l k e f)
-
--- what is copied past the end of what was asked for
-pub fewer : (len d : ℕ) (out t : List ℕ) → len ≤ d → take d out ≡ take d t → take len out ≡ take len t
+-- part of what is copied
+fewer : (len d : ℕ) (out t : List ℕ) → len ≤ d → take d out ≡ take d t → take len out ≡ take len t
 fewer len d out t h e = sym (take-take len d out h) ∙ ap (take len) e ∙ take-take len d t h
+
+-- the last part, which may lie over some of what is copied so far
+pub copied-last : (d n len : ℕ) (out t part : List ℕ) → n ≤ len → len - n ≤ d → len ≤ length out → n ≤ length part → take d out ≡ take d t
+    → take n part ≡ take n (take (length t - (len - n)) (drop (len - n) t))
+    → take len (putMid (len - n) (length out - (len - n)) out part) ≡ take len t
+copied-last d n len out t part s h l k e f =
+    let all : (len - n) + n ≡ len = omega arith in
+    subst (λ (x : ℕ). take x (putMid (len - n) (length out - (len - n)) out part) ≡ take x t) all
+    (copied-turn (len - n) n out t part (omega arith) k (fewer (len - n) d out t h e) f)
 
 -- ---- Clearing
 

@@ -10,13 +10,13 @@ use Rattle.symbols.proofs.copy_by.Statement.{statement}
 use Rattle.symbols.proofs.copy_by.Tie as tie
 
 abbrev Inv-loop : tie.InvT-loop
-Inv-loop to from size room₀ i₀ room i = (i ≤ size) × (length room ≡ 128) × (take i room ≡ take i from)
+Inv-loop to from size room₀ i₀ room i = (i ≤ size) × (length room ≡ 64) × (take i room ≡ take i from)
 
 abbrev μ-loop : tie.MeasureT-loop
 μ-loop to from size room₀ i₀ room i = size - i
 
 abbrev Inv-loop2 : tie.InvT-loop2
-Inv-loop2 to₀ from size room i₀ to i = (i ≤ size) × (length to ≡ length to₀) × (take i to ≡ take i from) × (length room ≡ 128)
+Inv-loop2 to₀ from size room i₀ to i = (i ≤ size) × (length to ≡ length to₀) × (take i to ≡ take i from) × (length room ≡ 64)
     × (take size room ≡ take size from)
 
 abbrev μ-loop2 : tie.MeasureT-loop2

@@ -1,55 +1,35 @@
--- `copy_last` meets its contract: two parts, one behind the other. Assumes nothing.
-use mathlib.Core.Path.{_≡_}
-use Prim.Native.Nat.{_+_}
-use native.Mathlib.Omega.{arith}
-use Rattle.symbols.proofs.Copied.{copied-turn}
+-- `copy_last` meets its contract: none, one, or two moves. Assumes nothing.
+use mathlib.Core.Path.{refl}
 use borrow.Author.Needs.{needs}
+use Rattle.combinatorics.proofs.Lists.{fill-turn}
 use Rattle.symbols.proofs.copy_last.Statement.{statement}
 use Rattle.symbols.proofs.copy_last.Tie as tie
 
-copy-two-requires : tie.Need-copy-two-requires
-copy-two-requires c κs = search needs
+returns : tie.Need-returns
+returns c = search needs
 
-sub-copy-step : tie.Need-sub-copy-step
-sub-copy-step c = search needs
+shared-slice-read-to : tie.Need-shared-slice-read-to
+shared-slice-read-to c = search needs
 
-part-copy-step-start : tie.Need-part-copy-step-start
-part-copy-step-start c = search needs
-
-part-copy-step-end : tie.Need-part-copy-step-end
-part-copy-step-end c = search needs
-
-sub-copy-step-2 : tie.Need-sub-copy-step-2
-sub-copy-step-2 c = search needs
-
-part-copy-step-start-2 : tie.Need-part-copy-step-start-2
-part-copy-step-start-2 c = search needs
-
-part-copy-step-end-2 : tie.Need-part-copy-step-end-2
-part-copy-step-end-2 c = search needs
-
-sub-copy-step-3 : tie.Need-sub-copy-step-3
-sub-copy-step-3 c = search needs
-
-copy-step-requires : tie.Need-copy-step-requires
-copy-step-requires c κs = search needs
+slice-write-to : tie.Need-slice-write-to
+slice-write-to c = search needs
 
 same-length : tie.Need-same-length
 same-length c = search needs
 
-returns : tie.Need-returns
-returns c =
-    let s = c .before .before .before .before .before .before .before .before .before .before .before in
-    let first = c .before .before .before .before .before .before .before .copy-two in
-    let second = c .before .before .copy-step in
-    let left = first .ensures .2 (omega arith) in
-    let all : s .args .len ≡ first .result + second .result = omega (arith, second .ensures .2 left, first .ensures .0, second .ensures .0) in
-    rw all (copied-turn (first .result) (second .result) (first .last .0) (s .args .from .now) (second .last .0) (search needs) (search needs)
-    (first .ensures .1) (second .ensures .1))
+returns-2 : tie.Need-returns-2
+returns-2 c =
+    let a = c .before .before .before .before .before .args in
+    rw (c .before .if2 .taken) (fill-turn (a .to .now) (a .from .now) 0 (search needs) (search needs) refl)
+
+copy-pair-requires : tie.Need-copy-pair-requires
+copy-pair-requires c κs = search needs
+
+same-length-2 : tie.Need-same-length-2
+same-length-2 c = search needs
+
+returns-3 : tie.Need-returns-3
+returns-3 c = search needs
 
 pub copy-last-spec : {M : Type 1} → statement M
-copy-last-spec =
-    tie.close
-    (tie.spec
-    copy-two-requires sub-copy-step part-copy-step-start part-copy-step-end sub-copy-step-2 part-copy-step-start-2 part-copy-step-end-2
-    sub-copy-step-3 copy-step-requires same-length returns)
+copy-last-spec = tie.close (tie.spec returns shared-slice-read-to slice-write-to same-length returns-2 copy-pair-requires same-length-2 returns-3)

@@ -1,51 +1,102 @@
--- `copy_long` meets its contract: two parts, one behind the other. Assumes nothing.
+-- `copy_long` meets its contract: the symbols so far are copied, and the last move starts among them. Assumes nothing.
+use mathlib.Core.Path.{_≡_, refl, _∙_}
+use Prim.Native.Nat.{_-_, _≤_}
 use native.Mathlib.Omega.{arith}
-use Rattle.symbols.proofs.Copied.{copied-rest}
 use borrow.Author.Needs.{needs}
+use lib.ListN.{length, take}
+use borrow.Rule.Slice.PartMut.{same-len-mid}
+use Rattle.symbols.proofs.Copied.{copied-turn, copied-last}
 use Rattle.symbols.proofs.copy_long.Statement.{statement}
 use Rattle.symbols.proofs.copy_long.Tie as tie
 
-copy-most-requires : tie.Need-copy-most-requires
-copy-most-requires c κs = search needs
+abbrev Inv-loop : tie.InvT-loop
+Inv-loop to₀ from len done₀ to done = (done ≤ len) × (length to ≡ length to₀) × (take done to ≡ take done from)
 
-sub-copy-chunks : tie.Need-sub-copy-chunks
-sub-copy-chunks c = search needs
+abbrev μ-loop : tie.MeasureT-loop
+μ-loop to₀ from len done₀ to done = len - done
 
-part-copy-chunks-start : tie.Need-part-copy-chunks-start
-part-copy-chunks-start c = search needs
+loop-holds : tie.Need-loop-holds Inv-loop μ-loop
+loop-holds c = (omega arith, refl, refl)
 
-part-copy-chunks-end : tie.Need-part-copy-chunks-end
-part-copy-chunks-end c = search needs
+sub-loop : tie.Need-sub-loop Inv-loop μ-loop
+sub-loop c = search needs
 
-sub-copy-chunks-2 : tie.Need-sub-copy-chunks-2
-sub-copy-chunks-2 c = search needs
+sub-copy-by : tie.Need-sub-copy-by Inv-loop μ-loop
+sub-copy-by c = search needs
 
-part-copy-chunks-start-2 : tie.Need-part-copy-chunks-start-2
-part-copy-chunks-start-2 c = search needs
+part-copy-by-start : tie.Need-part-copy-by-start Inv-loop μ-loop
+part-copy-by-start c = search needs
 
-part-copy-chunks-end-2 : tie.Need-part-copy-chunks-end-2
-part-copy-chunks-end-2 c = search needs
+part-copy-by-end : tie.Need-part-copy-by-end Inv-loop μ-loop
+part-copy-by-end c = search needs
 
-sub-copy-chunks-3 : tie.Need-sub-copy-chunks-3
-sub-copy-chunks-3 c = search needs
+sub-copy-by-2 : tie.Need-sub-copy-by-2 Inv-loop μ-loop
+sub-copy-by-2 c = search needs
 
-copy-chunks-requires : tie.Need-copy-chunks-requires
-copy-chunks-requires c κs = (search needs, search needs, c .before .before .before .before .copy-most .ensures .2)
+part-copy-by-start-2 : tie.Need-part-copy-by-start-2 Inv-loop μ-loop
+part-copy-by-start-2 c = search needs
 
-same-length : tie.Need-same-length
+part-copy-by-end-2 : tie.Need-part-copy-by-end-2 Inv-loop μ-loop
+part-copy-by-end-2 c = search needs
+
+copy-by-requires : tie.Need-copy-by-requires Inv-loop μ-loop
+copy-by-requires c κs = search needs
+
+add-done : tie.Need-add-done Inv-loop μ-loop
+add-done c = search needs
+
+loop-less : tie.Need-loop-less Inv-loop μ-loop
+loop-less c = omega arith
+
+loop-again : tie.Need-loop-again Inv-loop μ-loop
+loop-again c =
+    let s = c .before .before .before .before .before .before in
+    let part = c .before .before .copy-by in (
+      omega arith,
+      same-len-mid (s .loop .done) (length (s .loop .to) - s .loop .done) (s .loop .to) (part .last .0) (search needs) ∙ s .loop .inv .1,
+      copied-turn (s .loop .done) 64 (s .loop .to) (s .before .before .before .args .from .now) (part .last .0) (search needs) (search needs)
+          (s .loop .inv .2) (part .ensures),
+    )
+
+sub-rest : tie.Need-sub-rest Inv-loop μ-loop
+sub-rest c = search needs
+
+sub-copy-by-3 : tie.Need-sub-copy-by-3 Inv-loop μ-loop
+sub-copy-by-3 c = search needs
+
+part-copy-by-start-3 : tie.Need-part-copy-by-start-3 Inv-loop μ-loop
+part-copy-by-start-3 c = search needs
+
+part-copy-by-end-3 : tie.Need-part-copy-by-end-3 Inv-loop μ-loop
+part-copy-by-end-3 c = search needs
+
+sub-copy-by-4 : tie.Need-sub-copy-by-4 Inv-loop μ-loop
+sub-copy-by-4 c = search needs
+
+part-copy-by-start-4 : tie.Need-part-copy-by-start-4 Inv-loop μ-loop
+part-copy-by-start-4 c = search needs
+
+part-copy-by-end-4 : tie.Need-part-copy-by-end-4 Inv-loop μ-loop
+part-copy-by-end-4 c = search needs
+
+copy-by-requires-2 : tie.Need-copy-by-requires-2 Inv-loop μ-loop
+copy-by-requires-2 c κs = search needs
+
+same-length : tie.Need-same-length Inv-loop μ-loop
 same-length c = search needs
 
-returns : tie.Need-returns
+returns : tie.Need-returns Inv-loop μ-loop
 returns c =
-    let s = c .before .before .before .before .before .before .before .before .before .before .before in
-    let first = c .before .before .before .before .before .before .before .copy-most in
-    let second = c .before .before .copy-chunks in
-    copied-rest (first .result) (s .args .len) (first .last .0) (s .args .from .now) (second .last .0) (first .ensures .0) (search needs) (search needs)
-    (first .ensures .1) (second .ensures)
+    let s = c .before .before .before .before .before .before in
+    let a = s .before .before .before .args in
+    let part = c .before .before .copy-by2 in
+    copied-last (s .loop .done) 64 (a .len) (s .loop .to) (a .from .now) (part .last .0) (search needs) (search needs) (search needs) (search needs)
+    (s .loop .inv .2) (part .ensures)
 
 pub copy-long-spec : {M : Type 1} → statement M
 copy-long-spec =
     tie.close
     (tie.spec
-    copy-most-requires sub-copy-chunks part-copy-chunks-start part-copy-chunks-end sub-copy-chunks-2 part-copy-chunks-start-2
-    part-copy-chunks-end-2 sub-copy-chunks-3 copy-chunks-requires same-length returns)
+    Inv-loop μ-loop loop-holds sub-loop sub-copy-by part-copy-by-start part-copy-by-end sub-copy-by-2 part-copy-by-start-2
+    part-copy-by-end-2 copy-by-requires add-done loop-less loop-again sub-rest sub-copy-by-3 part-copy-by-start-3 part-copy-by-end-3
+    sub-copy-by-4 part-copy-by-start-4 part-copy-by-end-4 copy-by-requires-2 same-length returns)
