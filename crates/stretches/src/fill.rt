@@ -1,5 +1,4 @@
-// Filling a word block by block, straight from the digits and the message. A copy may run past its end: what lies there is stored later.
-// Assumes nothing.
+// Filling a word block by block, straight from the digits and the message. Assumes nothing.
 ghost use mathlib.Core.Path.{_≡_};
 ghost use Prim.Native.Nat.{suc, _+_, _-_, _≤_, _<_};
 ghost use lib.ListN.{length};
@@ -110,7 +109,7 @@ fn fill_head(
     if kind == blocks::INDEX {
         let len = walk.head_len;
         let spelled = from.indexed * walk.digit_step;
-        symbols::copy_over(&mut word[start..], &digits[spelled..], len);
+        symbols::copy_first(&mut word[start..], &digits[spelled..], len);
         return Filling {
             at: start + len,
             indexed: from.indexed + 1,
@@ -130,7 +129,7 @@ fn fill_message(message: &[u8], word: &mut [u8], to: usize, from: Filling) -> Fi
     let start = from.at;
     let sent = from.sent;
     let len = to - start;
-    symbols::copy_over(&mut word[start..], &message[sent..], len);
+    symbols::copy_first(&mut word[start..], &message[sent..], len);
     Filling {
         at: to,
         indexed: from.indexed,
@@ -147,7 +146,7 @@ fn fill_burst(walk: Walk, at: Placement, word: &mut [u8], from: Filling) -> Fill
     ensures stop { λ r. ⌜ r .stop ≡ nextStart (walk .n) (startsIn at) (r .passed) ⌝ }
 {
     let start = from.at;
-    symbols::clear_over(&mut word[start..], walk.b);
+    symbols::clear_first(&mut word[start..], walk.b);
     let passed = from.passed + 1;
     let stop = crate::next_start(walk, at, passed);
     Filling {

@@ -1,5 +1,4 @@
-// Taking the message out of a word block by block: every symbol is stored once, straight from the word. A copy may run past its end: what lies
-// there is stored later. Assumes nothing.
+// Taking the message out of a word block by block, straight from the word. Assumes nothing.
 ghost use mathlib.Core.Path.{_≡_};
 ghost use Prim.Native.Nat.{suc, _+_, _-_, _≤_, _<_};
 ghost use lib.ListN.{length};
@@ -115,7 +114,7 @@ fn take_cells(word: &[u8], message: &mut [u8], to: usize, from: Taking) -> Takin
     let start = from.at;
     let taken = from.taken;
     let len = to - start;
-    symbols::copy_over(&mut message[taken..], &word[start..], len);
+    symbols::copy_first(&mut message[taken..], &word[start..], len);
     Taking {
         at: to,
         taken: taken + len,

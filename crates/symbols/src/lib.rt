@@ -61,11 +61,11 @@ pub fn copy_prefix(to: &mut [u8], from: &[u8])
     ensures { λ _. ⌜ now (to .exit) ≡ take (length (now (to .entry))) (now (from .entry)) ⌝ }
 {
     let len = to.len();
-    copy_over(to, from, len);
+    copy_first(to, from, len);
 }
 
-// The first `len` symbols. The contract leaves open what becomes of those behind them. Each branch has moves of a size that the compiler knows.
-pub fn copy_over(to: &mut [u8], from: &[u8], len: usize)
+// The first `len` symbols; no caller asks what becomes of those behind them. Each branch has moves of a size that the compiler knows.
+pub fn copy_first(to: &mut [u8], from: &[u8], len: usize)
     requires { ⌜ (len ≤ length (now to)) × (len ≤ length (now from)) ⌝ }
     ensures { λ _. ⌜ take len (now (to .exit)) ≡ take len (now (from .entry)) ⌝ }
 {
@@ -84,8 +84,8 @@ pub fn copy_over(to: &mut [u8], from: &[u8], len: usize)
     copy_long(to, from, len);
 }
 
-// The first `len` symbols 0. What lies behind them may change.
-pub fn clear_over(to: &mut [u8], len: usize)
+// The first `len` symbols 0.
+pub fn clear_first(to: &mut [u8], len: usize)
     requires { ⌜ len ≤ length (now to) ⌝ }
     ensures { λ _. ⌜ take len (now (to .exit)) ≡ replicate len 0 ⌝ }
 {
@@ -94,7 +94,7 @@ pub fn clear_over(to: &mut [u8], len: usize)
         clear(&mut to[..len]);
         return;
     }
-    copy_over(to, &zeros, len);
+    copy_first(to, &zeros, len);
 }
 
 // The most symbols of one move.

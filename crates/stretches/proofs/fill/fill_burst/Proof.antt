@@ -8,17 +8,17 @@ use borrow.Author.Needs.{needs}
 use Rattle.stretches.proofs.fill.fill_burst.Statement.{statement}
 use Rattle.stretches.proofs.fill.fill_burst.Tie as tie
 
-sub-clear-over : tie.Need-sub-clear-over
-sub-clear-over c = search needs
+sub-clear-first : tie.Need-sub-clear-first
+sub-clear-first c = search needs
 
-part-clear-over-start : tie.Need-part-clear-over-start
-part-clear-over-start c = search needs
+part-clear-first-start : tie.Need-part-clear-first-start
+part-clear-first-start c = search needs
 
-part-clear-over-end : tie.Need-part-clear-over-end
-part-clear-over-end c = search needs
+part-clear-first-end : tie.Need-part-clear-first-end
+part-clear-first-end c = search needs
 
-clear-over-requires : tie.Need-clear-over-requires
-clear-over-requires c κs = search needs
+clear-first-requires : tie.Need-clear-first-requires
+clear-first-requires c κs = search needs
 
 add-passed : tie.Need-add-passed
 add-passed c = search needs
@@ -37,7 +37,7 @@ returns c =
     let a = c .before .before .before .before .before .before .before .before .args in
     let to = a .from .at + a .walk .b in
     let len : to - a .from .at ≡ a .walk .b = omega arith in
-    let part = c .before .before .before .before .before .clear-over in
+    let part = c .before .before .before .before .before .clear-first in
     let put = part-put (a .from .at) to (a .word .now) (part .last .0) (replicate (a .walk .b) 0) (omega arith) (omega arith) (search needs)
     (rw len (part .ensures)) in
     (record { at-is = refl; indexed-is = refl; sent-is = refl; passed-is = refl; made = put .0; size = put .1 }, c .before .next-start .ensures)
@@ -46,4 +46,4 @@ pub fill-burst-spec : {M : Type 1} → statement M
 fill-burst-spec =
     tie.close
     (tie.spec
-    sub-clear-over part-clear-over-start part-clear-over-end clear-over-requires add-passed next-start-requires add-t10 same-length returns)
+    sub-clear-first part-clear-first-start part-clear-first-end clear-first-requires add-passed next-start-requires add-t10 same-length returns)

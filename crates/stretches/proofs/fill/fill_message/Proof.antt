@@ -12,26 +12,26 @@ use Rattle.stretches.proofs.fill.fill_message.Tie as tie
 sub-len : tie.Need-sub-len
 sub-len c = search needs
 
-sub-copy-over : tie.Need-sub-copy-over
-sub-copy-over c = search needs
+sub-copy-first : tie.Need-sub-copy-first
+sub-copy-first c = search needs
 
-part-copy-over-start : tie.Need-part-copy-over-start
-part-copy-over-start c = search needs
+part-copy-first-start : tie.Need-part-copy-first-start
+part-copy-first-start c = search needs
 
-part-copy-over-end : tie.Need-part-copy-over-end
-part-copy-over-end c = search needs
+part-copy-first-end : tie.Need-part-copy-first-end
+part-copy-first-end c = search needs
 
-sub-copy-over-2 : tie.Need-sub-copy-over-2
-sub-copy-over-2 c = search needs
+sub-copy-first-2 : tie.Need-sub-copy-first-2
+sub-copy-first-2 c = search needs
 
-part-copy-over-start-2 : tie.Need-part-copy-over-start-2
-part-copy-over-start-2 c = search needs
+part-copy-first-start-2 : tie.Need-part-copy-first-start-2
+part-copy-first-start-2 c = search needs
 
-part-copy-over-end-2 : tie.Need-part-copy-over-end-2
-part-copy-over-end-2 c = search needs
+part-copy-first-end-2 : tie.Need-part-copy-first-end-2
+part-copy-first-end-2 c = search needs
 
-copy-over-requires : tie.Need-copy-over-requires
-copy-over-requires c κs = search needs
+copy-first-requires : tie.Need-copy-first-requires
+copy-first-requires c κs = search needs
 
 add-t10 : tie.Need-add-t10
 add-t10 c = search needs
@@ -43,7 +43,7 @@ returns : tie.Need-returns
 returns c =
     let a = c .before .before .before .before .before .before .before .args in
     let len = a .to - a .from .at in
-    let part = c .before .before .copy-over in
+    let part = c .before .before .copy-first in
     let put = part-put (a .from .at) (a .to) (a .word .now) (part .last .0) (take len (drop (a .from .sent) (a .message .now))) (omega arith) (omega arith)
     (search needs)
     (part .ensures ∙ ap (take len) (rest-is (a .from .sent) (a .message .now))) in
@@ -53,5 +53,5 @@ pub fill-message-spec : {M : Type 1} → statement M
 fill-message-spec =
     tie.close
     (tie.spec
-    sub-len sub-copy-over part-copy-over-start part-copy-over-end sub-copy-over-2 part-copy-over-start-2 part-copy-over-end-2
-    copy-over-requires add-t10 same-length returns)
+    sub-len sub-copy-first part-copy-first-start part-copy-first-end sub-copy-first-2 part-copy-first-start-2 part-copy-first-end-2
+    copy-first-requires add-t10 same-length returns)
