@@ -9,6 +9,7 @@ use crate::Layout;
 use crate::cut;
 
 // The first position of each block, counted through the word, and behind them the word's length.
+// Each is the one before and a length: a product for each costs more.
 pub fn heads_of(layout: Layout) -> [u16; Layout::MAX_HEADS]
     requires { ⌜ Shaped layout ⌝ }
     ensures { λ r. ⌜ HeadsOf (figuresOf layout) r ⌝ }
@@ -16,14 +17,17 @@ pub fn heads_of(layout: Layout) -> [u16; Layout::MAX_HEADS]
     let parts = layout.parts;
     let m = layout.m;
     let mut heads = [0u16; Layout::MAX_HEADS];
+    let mut first: usize = 0;
+    let mut from: usize = 0;
     let mut i: usize = 0;
     while i < parts {
-        let from = cut::piece_start(layout.n, parts, i);
         let len = cut::piece_len(layout.n, parts, i);
-        put_part(&mut heads, i * m, m, from, len);
+        put_part(&mut heads, first, m, from, len);
+        first += m;
+        from += len;
         i += 1;
     }
-    heads[parts * m] = layout.n as u16;
+    heads[first] = layout.n as u16;
     heads
 }
 
@@ -34,10 +38,11 @@ fn put_part(heads: &mut [u16; Layout::MAX_HEADS], first: usize, m: usize, from: 
     ensures before { λ _. ⌜ ((k : ℕ) → k < first → getD (now (heads .exit)) k 0 ≡ getD (now (heads .entry)) k 0) ⌝ }
     ensures part { λ _. ⌜ ((j : ℕ) → j < m → getD (now (heads .exit)) (first + j) 0 ≡ from + pieceStart len m j) ⌝ }
 {
+    let mut head = from;
     let mut j: usize = 0;
     while j < m {
-        let head = from + cut::piece_start(len, m, j);
         heads[first + j] = head as u16;
+        head += cut::piece_len(len, m, j);
         j += 1;
     }
 }
