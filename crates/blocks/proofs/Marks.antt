@@ -1,5 +1,5 @@
 -- Laws of marking index blocks in an array of block kinds, one after the other. Assumes nothing.
-use mathlib.Core.Path.{_≡_, refl, sym, ap, _∙_}
+use mathlib.Core.Path.{_≡_, refl, sym, ap, _∙_, fun-ext}
 use mathlib.Core.Logic.{_≢_}
 use mathlib.Core.Bool.{Bool, false, cond, _||_, _&&_}
 use mathlib.Core.List.{List}
@@ -16,7 +16,7 @@ use Rattle.cells.specs.Round.{next}
 use Rattle.construction_a.specs.Writing.{row, partCount, partWith, Chosen, whole, oneEach, chosen, beside, isChosen, isIndexIn}
 use Rattle.cells.proofs.Round.{next-lt}
 use Rattle.construction_a.proofs.Rule.{at-row, chosen-by}
-use Rattle.blocks.specs.Blocks.{marked}
+use Rattle.blocks.specs.Blocks.{bursts, marked}
 
 -- none yet
 pub mark-none : (I : ℕ → Bool) (kinds : List ℕ) (k : ℕ) → I k ≡ false → getD kinds k 0 ≡ marked I kinds k
@@ -73,8 +73,8 @@ module _ (m : ℕ) (B : ℕ → Bool) where
   abbrev pub before : ℕ → ℕ → Bool
   before i k = ltb k (i * m) && isIndexIn m B oneEach k
 
-  pub before-none : (k : ℕ) → before 0 k ≡ false
-  before-none k = rw (leb-fails (suc k) (0 * m) (omega arith))
+  pub before-none : (i k : ℕ) → i * m ≤ k → before i k ≡ false
+  before-none i k h = rw (leb-fails (suc k) (i * m) (omega arith))
 
   pub before-more : (i k : ℕ) → beside m B i < m → before (i + 1) k ≡ (eqb k (i * m + beside m B i) || before i k)
   unfolding isChosen
@@ -90,6 +90,12 @@ module _ (m : ℕ) (B : ℕ → Bool) where
 
   pub before-all : (parts k : ℕ) → k < parts * m → before parts k ≡ isIndexIn m B oneEach k
   before-all parts k l = rw (leb-holds (suc k) (parts * m) l)
+
+-- which block that is goes by the part's own entries
+pub beside-same : (m i : ℕ) (old new : List ℕ) → ((k : ℕ) → i * m ≤ k → getD new k 0 ≡ getD old k 0) → beside m (bursts new) i ≡ beside m (bursts old) i
+unfolding beside bursts
+beside-same m i old new same =
+    ap (λ (w : ℕ → Bool). next m (first m 0 w)) (fun-ext (λ j. ap (λ (y : ℕ). eqb y 1) (same (i * m + j) (omega arith))))
 
 -- ---- The three cases of the rule
 

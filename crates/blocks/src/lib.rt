@@ -3,14 +3,14 @@ ghost use mathlib.Core.Path.{_≡_};
 ghost use mathlib.Core.Bool.{not};
 ghost use Prim.Native.Nat.{ℕ, _+_, _*_, _≤_, _<_};
 ghost use lib.Dec.{eqb};
-ghost use lib.ListN.{getD};
+ghost use lib.ListN.{length, getD, replicate};
 ghost use Rattle.combinatorics.specs.Stretch.{count, first};
 ghost use Rattle.construction_a.specs.Writing;
 ghost use Rattle.cells.specs.Round.{next};
 ghost use Rattle.construction_a.specs.Writing.{becomes, partCount, partWith, Chosen, chosen, isIndexIn};
 ghost use Rattle.placements.specs.Bridge.{startsIn, PlacesBursts};
-ghost use Rattle.params.specs.Given.{maxBlocks, figuresOf};
-ghost use Rattle.blocks.specs.Blocks.{bursts, marked, BurstsOf, KindsOf};
+ghost use Rattle.params.specs.Given.{maxBlocks, figuresOf, HeadsOf};
+ghost use Rattle.blocks.specs.Blocks.{fixedKind, bursts, marked, BurstsOf, KindsOf};
 use params::Layout;
 use placements::Placement;
 
@@ -22,76 +22,90 @@ pub const BURST: u8 = 1;
 pub const INDEX: u8 = 2;
 
 // The kind of each block of a placement's word.
-pub fn kinds_of(layout: Layout, at: Placement) -> [u8; Layout::MAX_BLOCKS]
-    requires { ⌜ PlacesBursts layout at ⌝ }
+pub fn kinds_of(
+    layout: Layout,
+    heads: &[u16; Layout::MAX_HEADS],
+    at: Placement,
+) -> [u8; Layout::MAX_BLOCKS]
+    requires { ⌜ PlacesBursts layout at × HeadsOf (figuresOf layout) (now heads) ⌝ }
     ensures { λ r. ⌜ KindsOf (figuresOf layout) (startsIn at) r ⌝ }
 {
-    with_index(burst_kinds(layout, at), layout.parts, layout.m)
+    let mut kinds = [FIXED; Layout::MAX_BLOCKS];
+    mark_bursts(layout, heads, at, &mut kinds);
+    mark_index(&mut kinds, layout.parts, layout.m);
+    kinds
 }
 
-// The burst blocks alone: bursts are taken from left to right.
-fn burst_kinds(layout: Layout, at: Placement) -> [u8; Layout::MAX_BLOCKS]
-    requires { ⌜ PlacesBursts layout at ⌝ }
-    ensures { λ r. ⌜ BurstsOf (figuresOf layout) (startsIn at) r ⌝ }
+// The burst blocks marked, in an array of fixed blocks. Bursts are taken from left to right: none ends before the block in which the one before ended.
+fn mark_bursts(
+    layout: Layout,
+    heads: &[u16; Layout::MAX_HEADS],
+    at: Placement,
+    kinds: &mut [u8; Layout::MAX_BLOCKS],
+)
+    requires { ⌜ PlacesBursts layout at × HeadsOf (figuresOf layout) (now heads) × (now kinds ≡ replicate maxBlocks fixedKind) ⌝ }
+    ensures size { λ _. ⌜ length (now (kinds .exit)) ≡ maxBlocks ⌝ }
+    ensures bursts { λ _. ⌜ BurstsOf (figuresOf layout) (startsIn at) (now (kinds .exit)) ⌝ }
 {
     let blocks = layout.parts * layout.m;
-    let mut kinds = [FIXED; Layout::MAX_BLOCKS];
+    let mut last: usize = 0;
     let mut j: usize = 0;
     while j < layout.m {
         let s = at.starts[j];
         let start = s as usize;
-        let last = layout.block_of(start + layout.b - 1);
-        let next = burst_block(&kinds, blocks, last);
+        last = layout.block_from(heads, last, start + layout.b - 1);
+        let next = burst_block(kinds, blocks, last);
         kinds[next] = BURST;
         j += 1;
     }
-    kinds
 }
 
-// The kinds with the index blocks marked, by the three cases of the rule.
-fn with_index(kinds: [u8; Layout::MAX_BLOCKS], parts: usize, m: usize) -> [u8; Layout::MAX_BLOCKS]
-    requires { ⌜ (0 < m) × (parts * m ≤ maxBlocks) × (parts ≤ maxBlocks) × (m ≤ maxBlocks) × (count (parts * m) 0 (bursts kinds) ≡ m) ⌝ }
-    ensures { λ r. ⌜ ((k : ℕ) → k < parts * m → getD r k 0 ≡ marked (isIndexIn m (bursts kinds) (chosen parts m (bursts kinds))) kinds k) ⌝ }
+// The index blocks marked, in an array with the burst blocks, by the three cases of the rule.
+fn mark_index(kinds: &mut [u8; Layout::MAX_BLOCKS], parts: usize, m: usize)
+    requires { ⌜ (0 < m) × (parts * m ≤ maxBlocks) × (parts ≤ maxBlocks) × (m ≤ maxBlocks) × (length (now kinds) ≡ maxBlocks)
+        × (count (parts * m) 0 (bursts (now kinds)) ≡ m) ⌝ }
+    ensures { λ _. ⌜ ((k : ℕ) → k < parts * m → getD (now (kinds .exit)) k 0
+        ≡ marked (isIndexIn m (bursts (now (kinds .entry))) (chosen parts m (bursts (now (kinds .entry))))) (now (kinds .entry)) k) ⌝ }
 {
-    let full = part_with(&kinds, parts, m, m);
+    let full = part_with(kinds, parts, m, m);
     if full < parts {
-        return with_part(kinds, m, following(parts, full));
+        mark_part(kinds, m, following(parts, full));
+        return;
     }
-    let bare = part_with(&kinds, parts, m, 0);
+    let bare = part_with(kinds, parts, m, 0);
     if bare < parts {
-        return with_part(kinds, m, bare);
+        mark_part(kinds, m, bare);
+        return;
     }
-    one_each(kinds, parts, m)
+    mark_one_each(kinds, parts, m);
 }
 
 // Every block of a part marked as index block.
-fn with_part(kinds: [u8; Layout::MAX_BLOCKS], m: usize, part: usize) -> [u8; Layout::MAX_BLOCKS]
-    requires { ⌜ (0 < m) × (part * m + m ≤ maxBlocks) ⌝ }
-    ensures { λ r. ⌜ ((k : ℕ) → getD r k 0 ≡ marked (isIndexIn m (bursts kinds) (Chosen.whole part)) kinds k) ⌝ }
+fn mark_part(kinds: &mut [u8; Layout::MAX_BLOCKS], m: usize, part: usize)
+    requires { ⌜ (0 < m) × (part * m + m ≤ maxBlocks) × (length (now kinds) ≡ maxBlocks) ⌝ }
+    ensures { λ _. ⌜ ((k : ℕ) → getD (now (kinds .exit)) k 0
+        ≡ marked (isIndexIn m (bursts (now (kinds .entry))) (Chosen.whole part)) (now (kinds .entry)) k) ⌝ }
 {
     let from = part * m;
-    let mut next = kinds;
     let mut j: usize = 0;
     while j < m {
-        next[from + j] = INDEX;
+        kinds[from + j] = INDEX;
         j += 1;
     }
-    next
 }
 
-// Of each part the block beside its burst block marked as index block.
-fn one_each(kinds: [u8; Layout::MAX_BLOCKS], parts: usize, m: usize) -> [u8; Layout::MAX_BLOCKS]
-    requires { ⌜ (parts * m ≤ maxBlocks) × ((i : ℕ) → i < parts → 0 < partCount m (bursts kinds) i) ⌝ }
-    ensures { λ r. ⌜ ((k : ℕ) → k < parts * m → getD r k 0 ≡ marked (isIndexIn m (bursts kinds) Chosen.oneEach) kinds k) ⌝ }
+// Of each part the block beside its burst block marked as index block. A part is looked at before a block of it is marked.
+fn mark_one_each(kinds: &mut [u8; Layout::MAX_BLOCKS], parts: usize, m: usize)
+    requires { ⌜ (parts * m ≤ maxBlocks) × (length (now kinds) ≡ maxBlocks) × ((i : ℕ) → i < parts → 0 < partCount m (bursts (now kinds)) i) ⌝ }
+    ensures { λ _. ⌜ ((k : ℕ) → k < parts * m → getD (now (kinds .exit)) k 0
+        ≡ marked (isIndexIn m (bursts (now (kinds .entry))) Chosen.oneEach) (now (kinds .entry)) k) ⌝ }
 {
-    let mut next = kinds;
     let mut i: usize = 0;
     while i < parts {
-        let at = i * m + beside(&kinds, m, i);
-        next[at] = INDEX;
+        let at = i * m + beside(kinds, m, i);
+        kinds[at] = INDEX;
         i += 1;
     }
-    next
 }
 
 // The next burst block: block `last`, in which a burst ends, or the leftmost spare where it is one already.

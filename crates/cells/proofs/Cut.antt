@@ -6,7 +6,7 @@ use native.Mathlib.Nat.{add-mul, mul-add, div-lt-iff-lt-mul, lt-div-mul-add, div
 use native.Mathlib.Nat.{div-div-eq-div-mul, le-trans, mul-le-mul-right}
 use native.Mathlib.Decide.{le-ind}
 use native.Mathlib.Omega.{arith}
-use lib.Arith.{digits-lt, digits-div, digits-mod}
+use lib.Arith.{digits-div, digits-mod}
 use lib.Dec.{leb}
 use Rattle.combinatorics.specs.Stretch.{sum, bit, top}
 use Rattle.combinatorics.proofs.Cases.{by-le}
@@ -145,15 +145,10 @@ pub block-with : (n p m x : ℕ) → 0 < p → 0 < m → x < n → IsTop (blockH
 unfolding blockWith
 block-with n p m x g h l = top-is (blockHead n p m) (p * m) x (omega (arith, block-first n p m h)) (omega (arith, block-end n p m g h))
 
-pub block-in : (n p m x i j : ℕ) → 0 < p → 0 < m → x < n → InPiece n p x i → InPiece (pieceLen n p i) m (x - pieceStart n p i) j → blockWith n p m x ≡ i * m + j
-unfolding blockAt
-block-in n p m x i j hp hm l a b =
-    top-only (blockHead n p m) (block-rises n p m hm) (block-with n p m x hp hm l)
-    record {
-      below = digits-lt (a .below) (b .below);
-      reach = rw (block-place n p m i j (i * m + j) refl (b .below)) (omega (arith, a .reach, b .reach));
-      past = rw (block-suc n p m (i * m + j) hm, digits-div i (b .below), digits-mod i (b .below)) (omega (arith, a .reach, b .past));
-    }
+pub block-in : (n p m x k : ℕ) → 0 < p → 0 < m → k < p * m → blockHead n p m k ≤ x → x < blockHead n p m (suc k) → blockWith n p m x ≡ k
+block-in n p m x k hp hm l reach past =
+    let inside : x < n = omega (arith, block-most n p m (suc k) hp hm l) in
+    top-only (blockHead n p m) (block-rises n p m hm) (block-with n p m x hp hm inside) record { below = l; reach = reach; past = past }
 
 -- a burst of b positions from s on, which ends in block e, touches the first r + 1 positions of no other block
 pub burst-touches : (n p m r b s e k x : ℕ) → 0 < m → r < n / (p * m) → b ≤ n / (p * m) - r

@@ -120,7 +120,7 @@ fn decode_rank(
         return unread(Refusal::VALUE);
     }
     let placement = Placement::unrank(layout.n as u32, layout.m as u32, layout.b as u32, rank);
-    let kinds = blocks::kinds_of(layout, placement);
+    let kinds = blocks::kinds_of(layout, heads, placement);
     if !agree::agrees(layout, heads, &kinds, index, word) {
         return unread(Refusal::DISAGREES);
     }

@@ -41,7 +41,7 @@ pub fn decode_offset(
     }
     let start = (end - layout.b) as u64;
     let placement = Placement::unrank(layout.n as u32, layout.m as u32, layout.b as u32, start);
-    let kinds = blocks::kinds_of(layout, placement);
+    let kinds = blocks::kinds_of(layout, heads, placement);
     decode_placed(
         layout,
         heads,

@@ -14,14 +14,15 @@ pub fn fill(layout: Layout, at: Placement, message: &[u8], word: &mut [u8])
     requires { ⌜ Serves layout × PlacedMessage layout at (now message) (now word) ⌝ }
     ensures { λ _. ⌜ now (word .exit) ≡ codingIn layout .codec .encode (startsIn at) (now (message .entry)) ⌝ }
 {
-    let kinds = blocks::kinds_of(layout, at);
+    let heads = heads_of(layout);
+    let kinds = blocks::kinds_of(layout, &heads, at);
     let value = value::index_value(layout, at);
     let digits = digits::spelled(layout.q, layout.m, layout.index_tail, value);
     let count = layout.m * (layout.index_tail + 1);
     stretches::fill::fill_cells(
         stretches::walk_of(layout),
         at,
-        &heads_of(layout),
+        &heads,
         &kinds,
         &digits[..count],
         message,

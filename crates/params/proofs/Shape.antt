@@ -1,8 +1,8 @@
 -- What a layout's shape gives: its bounds, and room for every block. Assumes nothing.
-use mathlib.Core.Path.{_≡_, _∙_}
+use mathlib.Core.Path.{_≡_, sym, _∙_}
 use mathlib.Core.List.{List}
 use Prim.Native.Nat.{ℕ, suc, _+_, _*_, _/_, _≤_, _<_}
-use native.Mathlib.Nat.{mul-comm, mul-pos, mul-le-mul, le-mul-of-pos-right, le-div-iff-mul-le, div-le-self}
+use native.Mathlib.Nat.{mul-comm, mul-le-mul, le-mul-of-pos-right, div-le-self}
 use native.Mathlib.Omega.{arith}
 use lib.ListN.{getD}
 use Rattle.cells.specs.Cut.{blockHead}
@@ -69,14 +69,6 @@ module _ (l : Layout) (g : Shaped l) where
       let f = figuresOf l in
       omega (arith, le-mul-of-pos-right {m = parts f} (f .m) some-parts, mul-comm (f .m) (parts f))
 
-  -- every block has a position
-  pub blocks-wide : l .parts * l .m ≤ l .n
-  blocks-wide =
-      let f = figuresOf l in
-      let z : 0 < parts f * f .m = omega (arith, mul-pos {m = parts f} {n = f .m} some-parts (in-range .m-least)) in
-      let h : 1 * (parts f * f .m) ≤ f .n = le-div-iff-mul-le {x = 1} {y = f .n} z .0 (omega (arith, min-room)) in
-      rw (g .parts-is) (omega arith)
-
   -- each block has room for the symbols of an index block's head
   pub head-room : (k : ℕ) → k < l .parts * l .m → blockHead (l .n) (l .parts) (l .m) k + suc (l .«index_tail») ≤ l .n
   head-room k h =
@@ -90,12 +82,16 @@ module _ (l : Layout) (g : Shaped l) where
             (b .m-least) h,
       )
 
-  -- no block starts past the word's end
-  pub heads-small : (heads : List ℕ) → HeadsOf (figuresOf l) heads → (k : ℕ) → k ≤ blocks (figuresOf l) → getD heads k 0 ≤ maxWord
-  heads-small heads h k w =
-      let f = figuresOf l in
-      omega (arith, h k w, block-most (f .n) (parts f) (f .m) k some-parts (in-range .m-least) w, bound .n-most)
-
   -- the first position of a block, by the figures
   pub head-is : (k : ℕ) → blockHead (l .n) (l .parts) (l .m) k ≡ headOf (figuresOf l) k
   head-is k = rw (g .parts-is)
+
+  -- the array of all has it, and it is not past the word's end
+  module _ (heads : List ℕ) (h : HeadsOf (figuresOf l) heads) (k : ℕ) (w : k ≤ l .parts * l .m) where
+    pub head-at : getD heads k 0 ≡ blockHead (l .n) (l .parts) (l .m) k
+    head-at = h k (omega (arith, blocks-is, w)) ∙ sym (head-is k)
+
+    pub head-small : getD heads k 0 ≤ maxWord
+    head-small =
+        let b = bound in
+        omega (arith, head-at, block-most (l .n) (l .parts) (l .m) k (omega (arith, b)) (b .m-least) w, b .n-most)

@@ -1,4 +1,3 @@
 pub mod Bridge
 pub mod Answer
-pub mod Blocks
 pub mod Given

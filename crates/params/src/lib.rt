@@ -1,7 +1,7 @@
 // The parameters of a code word (document 01's figures), and "figures alone": the layout that they give, or the refusal. Assumes nothing.
 ghost use mathlib.Core.Path.{_≡_};
 ghost use mathlib.Core.Bool.{true};
-ghost use Prim.Native.Nat.{_*_, _≤_};
+ghost use Prim.Native.Nat.{_*_, _≤_, _<_};
 ghost use Rattle.cells.specs.Figures.{params, inRange, maxCount, placementCount};
 ghost use Rattle.construction_a.specs.Figures.{parts as partsOf};
 ghost use Rattle.construction_a.specs.Outcomes.{figuresNumber, figuresOut};
@@ -10,7 +10,6 @@ ghost use Rattle.cells.specs.Erasures.{foundBound};
 ghost use Rattle.cells.specs.Outcomes.{figuresUnder};
 ghost use Rattle.params.specs.Bridge.{given, codingOf};
 ghost use Rattle.params.specs.Answer.{figuredAs, layoutNumber, LaidIn, LaidAs};
-ghost use Rattle.params.specs.Blocks.{HasPosition};
 ghost use Rattle.params.specs.Given.{figuresOf, Shaped, HeadsOf};
 use crate::long::LongParams;
 use binomials::CountAnswer;
@@ -218,17 +217,6 @@ impl Layout {
         }
     }
 
-    // The block that has position x.
-    pub fn block_of(self, x: usize) -> usize
-        requires { ⌜ HasPosition self x ⌝ }
-        ensures { λ r. ⌜ r ≡ blockWith (self .n) (self .parts) (self .m) x ⌝ }
-    {
-        let part = cut::piece_of(self.n, self.parts, x);
-        let from = cut::piece_start(self.n, self.parts, part);
-        let len = cut::piece_len(self.n, self.parts, part);
-        part * self.m + cut::piece_of(len, self.m, x - from)
-    }
-
     // The first position of block k, counted through the word, from the array of all; the word's length for the number behind the last block's.
     pub fn block_head(self, heads: &[u16; Layout::MAX_HEADS], k: usize) -> usize
         requires { ⌜ Shaped self × HeadsOf (figuresOf self) (now heads) × (k ≤ self .parts * self .m) ⌝ }
@@ -236,5 +224,18 @@ impl Layout {
     {
         let head = heads[k];
         head as usize
+    }
+
+    // The block that has position x, found by a walk from block `first` on, which starts no later: divisions cost more.
+    pub fn block_from(self, heads: &[u16; Layout::MAX_HEADS], first: usize, x: usize) -> usize
+        requires { ⌜ Shaped self × HeadsOf (figuresOf self) (now heads) × (first < self .parts * self .m)
+            × (blockHead (self .n) (self .parts) (self .m) first ≤ x) × (x < self .n) ⌝ }
+        ensures { λ r. ⌜ r ≡ blockWith (self .n) (self .parts) (self .m) x ⌝ }
+    {
+        let mut k = first;
+        while heads[k + 1] as usize <= x {
+            k += 1;
+        }
+        k
     }
 }

@@ -6,7 +6,7 @@ use native.Mathlib.Omega.{arith}
 use lib.ListN.{length, getD}
 use lib.Seq.{getD-take, length-take-le}
 use Rattle.combinatorics.specs.Bursts.{apart}
-use Rattle.combinatorics.proofs.Bursts.{Placed, placed-at}
+use Rattle.combinatorics.proofs.Bursts.{Placed, placed-at, placed-grows}
 use Rattle.combinatorics.proofs.Cases.{eqb-same}
 use Rattle.cells.specs.Figures.{maxBursts, isPlacement}
 use Rattle.cells.proofs.Figures.{placed-starts}
@@ -36,3 +36,7 @@ module _ (l : Layout) (at : Placement) (g : PlacesBursts l at) where
 
   pub start-in : (j : ℕ) → j < l .m → getD (at .starts) j 0 + l .b ≤ l .n
   start-in j h = rw (← start-is j h) (placed-at (l .b) (l .n) 0 j (startsIn at) starts-placed (omega (arith, starts-count)))
+
+  pub start-grows : (i j : ℕ) → i ≤ j → j < l .m → getD (at .starts) i 0 ≤ getD (at .starts) j 0
+  start-grows i j k h =
+      rw (← start-is i (omega arith), ← start-is j h) (placed-grows (l .b) (l .n) 0 i j (startsIn at) starts-placed k (omega (arith, starts-count)))

@@ -81,7 +81,7 @@ unrank-requires c κs =
 kinds-of-requires : tie.Need-kinds-of-requires
 kinds-of-requires c κs =
     let s = c .before .before .before .before .before .before .before .before in
-    placing (l s) (s .args .rank) (c .unrank .result) (s .pre .0 .fitting) (below (c .before .before .before .before)) (c .unrank .ensures)
+    (placing (l s) (s .args .rank) (c .unrank .result) (s .pre .0 .fitting) (below (c .before .before .before .before)) (c .unrank .ensures), s .pre .1)
 
 agrees-requires : tie.Need-agrees-requires
 agrees-requires c κs = search needs

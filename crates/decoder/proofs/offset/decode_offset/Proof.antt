@@ -156,7 +156,7 @@ kinds-of-requires : tie.Need-kinds-of-requires
 kinds-of-requires c κs =
     let here = c .before .before .before .before .before in
     let s = start (here .before .before) in
-    start-placing (l s) (g s) (at here) (c .unrank .result) (inside here) (c .unrank .ensures)
+    (start-placing (l s) (g s) (at here) (c .unrank .result) (inside here) (c .unrank .ensures), s .pre .1)
 
 -- what is left to read goes by its placement
 placed : (c : tie.After-unrank) → readPart (f (start (c .before .before .before .before .before .before .before)))
