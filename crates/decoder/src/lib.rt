@@ -16,7 +16,7 @@ use params::Figures;
 use params::Layout;
 use params::LayoutAnswer;
 use params::Spells;
-use params::heads::heads_of;
+use params::heads::put_heads;
 use placements::Placement;
 use refusals::Refusal;
 use stretches::taking::message_whole;
@@ -68,7 +68,9 @@ pub fn decode_fitting(layout: Layout, word: &[u8], message: &mut [u8]) -> Decode
     if !erasures::can_be_found(layout, whole, word) {
         return unread(Refusal::SYMBOL);
     }
-    decode_found(layout, &heads_of(layout), whole, word, message)
+    let mut heads = [0u16; Layout::MAX_HEADS];
+    put_heads(&mut heads, layout);
+    decode_found(layout, &heads, whole, word, message)
 }
 
 // The same for a word that can be found; it is `whole` where it has no erasure at all. Refusals: 7 19 8 9 19.

@@ -6,7 +6,7 @@ ghost use Rattle.encoder.specs.Fill.{PlacedMessage};
 use crate::digits;
 use crate::value;
 use params::Layout;
-use params::heads::heads_of;
+use params::heads::put_heads;
 use placements::Placement;
 
 // The word of a placement and a message.
@@ -14,7 +14,8 @@ pub fn fill(layout: Layout, at: Placement, message: &[u8], word: &mut [u8])
     requires { ⌜ Serves layout × PlacedMessage layout at (now message) (now word) ⌝ }
     ensures { λ _. ⌜ now (word .exit) ≡ codingIn layout .codec .encode (startsIn at) (now (message .entry)) ⌝ }
 {
-    let heads = heads_of(layout);
+    let mut heads = [0u16; Layout::MAX_HEADS];
+    put_heads(&mut heads, layout);
     let kinds = blocks::kinds_of(layout, &heads, at);
     let value = value::index_value(layout, at);
     let digits = digits::spelled(layout.q, layout.m, layout.index_tail, value);

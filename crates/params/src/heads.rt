@@ -8,27 +8,25 @@ ghost use Rattle.params.specs.Given.{maxBlocks, figuresOf, Shaped, Heads
 use crate::Layout;
 use crate::cut;
 
-// The first position of each block, counted through the word, and behind them the word's length.
-// Each is the one before and a length: a product for each costs more.
-pub fn heads_of(layout: Layout) -> [u16; Layout::MAX_HEADS]
-    requires { ⌜ Shaped layout ⌝ }
-    ensures { λ r. ⌜ HeadsOf (figuresOf layout) r ⌝ }
+// The first position of each block, counted through the word, and behind them the word's length. Each is the one before and a length: a product for each
+// costs more. The array is lent, as one handed back is copied.
+pub fn put_heads(heads: &mut [u16; Layout::MAX_HEADS], layout: Layout)
+    requires { ⌜ Shaped layout × (length (now heads) ≡ suc maxBlocks) ⌝ }
+    ensures { λ _. ⌜ HeadsOf (figuresOf layout) (now (heads .exit)) ⌝ }
 {
     let parts = layout.parts;
     let m = layout.m;
-    let mut heads = [0u16; Layout::MAX_HEADS];
     let mut first: usize = 0;
     let mut from: usize = 0;
     let mut i: usize = 0;
     while i < parts {
         let len = cut::piece_len(layout.n, parts, i);
-        put_part(&mut heads, first, m, from, len);
+        put_part(heads, first, m, from, len);
         first += m;
         from += len;
         i += 1;
     }
     heads[first] = layout.n as u16;
-    heads
 }
 
 // The m blocks of a part of this length: their numbers go from `first` on, their positions from `from` on.

@@ -1,5 +1,5 @@
 -- `decode_fitting` meets its contract: 3, 4, or what a word that can be found gives. Assumes nothing.
-use mathlib.Core.Path.{sym, ap, _∙_}
+use mathlib.Core.Path.{refl, sym, ap, _∙_}
 use borrow.Author.Needs.{needs}
 use borrow.Author.Tests.{not-true, not-false}
 use Prim.Native.Nat.{ℕ}
@@ -54,20 +54,20 @@ returns-3 c =
     (c .before .before .before .before .if2 .left ∙ numbers-in (l s) (s .pre) .len-is)
     (found-in (l s) (s .args .word .now) ∙ sym (c .before .before .can-be-found .ensures) ∙ not-true _ (c .before .if3 .taken)))
 
-heads-of-requires : tie.Need-heads-of-requires
-heads-of-requires c κs = let s = c .before .before .before .before .before .before .before .before .before in in-shape (l s) (s .pre)
+put-heads-requires : tie.Need-put-heads-requires
+put-heads-requires c κs = let s = c .before .before .before .before .before .before .before .before .before .before in (in-shape (l s) (s .pre), refl)
 
 decode-found-requires : tie.Need-decode-found-requires
 decode-found-requires c κs =
-    let s = c .before .before .before .before .before .before .before .before .before .before .before .before in (
+    let s = c .before .before .before .before .before .before .before .before .before .before .before .before .before in (
       record {
         fitting = s .pre;
-        finding = record { layout = in-shape (l s) (s .pre); complete = c .before .before .before .before .before .before .before .before .if1 .left };
-        found = sym (c .before .before .before .before .can-be-found .ensures) ∙ not-false _ (c .before .before .before .if3 .left);
-        scanned = c .before .before .before .before .before .all-below .ensures;
-        room = c .before .before .before .before .before .before .if2 .left;
+        finding = record { layout = in-shape (l s) (s .pre); complete = c .before .before .before .before .before .before .before .before .before .if1 .left };
+        found = sym (c .before .before .before .before .before .can-be-found .ensures) ∙ not-false _ (c .before .before .before .before .if3 .left);
+        scanned = c .before .before .before .before .before .before .all-below .ensures;
+        room = c .before .before .before .before .before .before .before .if2 .left;
       },
-      c .before .before .heads-of .ensures,
+      c .before .before .put-heads .ensures,
     )
 
 same-length : tie.Need-same-length
@@ -75,18 +75,18 @@ same-length c = search needs
 
 returns-4 : tie.Need-returns-4
 returns-4 c =
-    let s = c .before .before .before .before .before .before .before .before .before .before .before .before .before .before .before in
+    let s = c .before .before .before .before .before .before .before .before .before .before .before .before .before .before .before .before in
     c .before .before .decode-found .ensures
     ∙ ap (λ (b : ℕ). decodedFrom b (s .args .message .now) (d s .codec .decode (s .args .word .now))) (numbers-in (l s) (s .pre) .burst-is)
     ∙ sym (decode-read (d s) (s .args .word .now) (s .args .message .now) (in-order (l s) (s .pre) .0) (in-order (l s) (s .pre) .1)
-    (c .before .before .before .before .before .before .before .before .before .before .before .if1 .left ∙ numbers-in (l s) (s .pre) .word-is)
-    (c .before .before .before .before .before .before .before .before .before .if2 .left ∙ numbers-in (l s) (s .pre) .len-is)
-    (found-in (l s) (s .args .word .now) ∙ sym (c .before .before .before .before .before .before .before .can-be-found .ensures)
-    ∙ not-false _ (c .before .before .before .before .before .before .if3 .left)))
+    (c .before .before .before .before .before .before .before .before .before .before .before .before .if1 .left ∙ numbers-in (l s) (s .pre) .word-is)
+    (c .before .before .before .before .before .before .before .before .before .before .if2 .left ∙ numbers-in (l s) (s .pre) .len-is)
+    (found-in (l s) (s .args .word .now) ∙ sym (c .before .before .before .before .before .before .before .before .can-be-found .ensures)
+    ∙ not-false _ (c .before .before .before .before .before .before .before .if3 .left)))
 
 pub decode-fitting-spec : {M : Type 1} → statement M
 decode-fitting-spec =
     tie.close
     (tie.spec
     unread-requires returns unread-requires-2 returns-2 all-below-requires can-be-found-requires unread-requires-3 returns-3
-    heads-of-requires decode-found-requires same-length returns-4)
+    put-heads-requires decode-found-requires same-length returns-4)

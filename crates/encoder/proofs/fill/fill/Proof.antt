@@ -1,5 +1,5 @@
 -- `fill` meets its contract: what the blocks' kinds and the digits of the index blocks give is the word. Assumes nothing.
-use mathlib.Core.Path.{ap, ap₂, _∙_}
+use mathlib.Core.Path.{refl, ap, ap₂, _∙_}
 use mathlib.Core.List.{List}
 use Prim.Native.Nat.{ℕ, _+_, _*_}
 use native.Mathlib.Numerals.{add-one}
@@ -22,57 +22,57 @@ use Rattle.encoder.proofs.fill.fill.Tie as tie
 abbrev l : tie.Start → Layout
 l s = s .args .layout
 
-heads-of-requires : tie.Need-heads-of-requires
-heads-of-requires c κs = search needs
+put-heads-requires : tie.Need-put-heads-requires
+put-heads-requires c κs = let s = c .before .before .before in (in-shape (l s) (s .pre .0), refl)
 
 kinds-of-requires : tie.Need-kinds-of-requires
-kinds-of-requires c κs = (c .before .before .before .before .pre .1 .placing, c .before .heads-of .ensures)
+kinds-of-requires c κs = (c .before .before .before .before .before .pre .1 .placing, c .before .put-heads .ensures)
 
 index-value-requires : tie.Need-index-value-requires
 index-value-requires c κs = search needs
 
 spelled-requires : tie.Need-spelled-requires
 spelled-requires c κs =
-    let s = c .before .before .before .before .before .before in
+    let s = c .before .before .before .before .before .before .before in
     spellable (l s) (s .pre .0) (startsIn (s .args .at)) _ (s .pre .1 .placing .placed) (c .index-value .ensures)
 
 add-count : tie.Need-add-count
-add-count c = let s = c .before .before .before .before .before .before .before .before in
+add-count c = let s = c .before .before .before .before .before .before .before .before .before in
     omega (arith, bound (l s) (in-shape (l s) (s .pre .0)) .tail-room, bound (l s) (in-shape (l s) (s .pre .0)) .n-most)
 
 mul-count : tie.Need-mul-count
-mul-count c = let s = c .before .before .before .before .before .before .before .before .before in
+mul-count c = let s = c .before .before .before .before .before .before .before .before .before .before in
     rw (add-one (l s .«index_tail»)) (omega (arith, count-most (l s) (s .pre .0)))
 
 walk-of-requires : tie.Need-walk-of-requires
 walk-of-requires c κs = search needs
 
 array-share-prefix-digits : tie.Need-array-share-prefix-digits
-array-share-prefix-digits c = let s = c .before .before .before .before .before .before .before .before .before .before .before .before in
+array-share-prefix-digits c = let s = c .before .before .before .before .before .before .before .before .before .before .before .before .before in
     rw (add-one (l s .«index_tail»)) (omega (arith, count-most (l s) (s .pre .0)))
 
 slice-aggregate-fill-cells : tie.Need-slice-aggregate-fill-cells
 slice-aggregate-fill-cells c =
-    let s = c .before .before .before .before .before .before .before .before .before .before .before .before .before in
+    let s = c .before .before .before .before .before .before .before .before .before .before .before .before .before .before in
     let spelled = c .before .before .before .before .before .before .spelled in
     let count = spelled-count (l s .q) (l s .m) (l s .«index_tail») _ (spelled .result) (spelled .ensures) in
     omega (arith, count, ap (λ (y : ℕ). l s .m * y) (add-one (l s .«index_tail»)))
 
 fill-cells-requires : tie.Need-fill-cells-requires
 fill-cells-requires c κs =
-    let s = c .before .before .before .before .before .before .before .before .before .before .before .before .before .before in
+    let s = c .before .before .before .before .before .before .before .before .before .before .before .before .before .before .before in
     let p = s .pre .1 .placing in
     let spelled = c .before .before .before .before .before .before .before .spelled in
     let ds = take (l s .m * (l s .«index_tail» + 1)) (spelled .result) in
     let count = spelled-count (l s .q) (l s .m) (l s .«index_tail») _ (spelled .result) (spelled .ensures) in
-    let heads = c .before .before .before .before .before .before .before .before .before .before .before .heads-of in
+    let heads = c .before .before .before .before .before .before .before .before .before .before .before .put-heads in
     let kinds = c .before .before .before .before .before .before .before .before .before .kinds-of in
-    let tables : Tables (l s) (s .args .at) (heads .result) (kinds .result) = (heads .ensures, kinds .ensures) in
+    let tables : Tables (l s) (s .args .at) (heads .last .0) (kinds .result) = (heads .ensures, kinds .ensures) in
     rw (c .before .before .before .before .walk-of .ensures)
     record {
-      walks = walks-of (l s) (s .args .at) (heads .result) (kinds .result) p tables;
-      digits-lent = digits-lent (l s) (s .args .at) (heads .result) (kinds .result) p tables ds count;
-      message-lent = message-of (l s) (s .args .at) (heads .result) (kinds .result) p tables (s .args .message .now) (s .pre .1 .sent);
+      walks = walks-of (l s) (s .args .at) (heads .last .0) (kinds .result) p tables;
+      digits-lent = digits-lent (l s) (s .args .at) (heads .last .0) (kinds .result) p tables ds count;
+      message-lent = message-of (l s) (s .args .at) (heads .last .0) (kinds .result) p tables (s .args .message .now) (s .pre .1 .sent);
       room = s .pre .1 .room;
     }
 
@@ -81,25 +81,25 @@ same-length c = search needs
 
 returns : tie.Need-returns
 returns c =
-    let s = c .before .before .before .before .before .before .before .before .before .before .before .before .before .before .before .before .before in
+    let s = c .before .before .before .before .before .before .before .before .before .before .before .before .before .before .before .before .before .before in
     let at = s .args .at in
     let p = s .pre .1 .placing in
     let spelled = c .before .before .before .before .before .before .before .before .before .before .spelled in
     let value = c .before .before .before .before .before .before .before .before .before .before .before .index-value in
     let ds = take (l s .m * (l s .«index_tail» + 1)) (spelled .result) in
     let count = spelled-count (l s .q) (l s .m) (l s .«index_tail») _ (spelled .result) (spelled .ensures) in
-    let heads = c .before .before .before .before .before .before .before .before .before .before .before .before .before .before .heads-of in
+    let heads = c .before .before .before .before .before .before .before .before .before .before .before .before .before .before .put-heads in
     let kinds = c .before .before .before .before .before .before .before .before .before .before .before .before .kinds-of in
-    let tables : Tables (l s) at (heads .result) (kinds .result) = (heads .ensures, kinds .ensures) in
+    let tables : Tables (l s) at (heads .last .0) (kinds .result) = (heads .ensures, kinds .ensures) in
     let filled = rw (c .before .before .before .before .before .before .before .walk-of .ensures) at (c .before .before .fill-cells .ensures) in
     word-of (l s) (s .pre .0) (startsIn at) (spelled .result) (s .args .message .now) _ (value .result) (p .placed) (value .ensures) (spelled .ensures)
     (filled
-    ∙ ap₂ (λ (cs : List Cell) (r : List ℕ). weave cs r (s .args .message .now)) (plan-of (l s) at (heads .result) (kinds .result) p tables)
-    (digits-of (l s) at (heads .result) (kinds .result) p tables ds count))
+    ∙ ap₂ (λ (cs : List Cell) (r : List ℕ). weave cs r (s .args .message .now)) (plan-of (l s) at (heads .last .0) (kinds .result) p tables)
+    (digits-of (l s) at (heads .last .0) (kinds .result) p tables ds count))
 
 pub fill-spec : {M : Type 1} → statement M
 fill-spec =
     tie.close
     (tie.spec
-    heads-of-requires kinds-of-requires index-value-requires spelled-requires add-count mul-count walk-of-requires array-share-prefix-digits
+    put-heads-requires kinds-of-requires index-value-requires spelled-requires add-count mul-count walk-of-requires array-share-prefix-digits
     slice-aggregate-fill-cells fill-cells-requires same-length returns)

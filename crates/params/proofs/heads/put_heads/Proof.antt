@@ -1,4 +1,4 @@
--- `heads_of` meets its contract: the blocks of the first i parts have their entries, and the next part starts behind them. Assumes nothing.
+-- `put_heads` meets its contract: the blocks of the first i parts have their entries, and the next part starts behind them. Assumes nothing.
 use mathlib.Core.Path.{_≡_, ap, _∙_}
 use Prim.Native.Nat.{ℕ, suc, _+_, _-_, _*_, _≤_, _<_}
 use native.Mathlib.Nat.{add-mul, mul-le-mul-right}
@@ -13,22 +13,22 @@ use Rattle.params.specs.Given.{maxBlocks}
 use Rattle.params.proofs.Answered.{Bounds}
 use Rattle.params.proofs.Shape.{bound}
 use Rattle.params.proofs.Starting.{part-more, end-more}
-use Rattle.params.proofs.heads.heads_of.Statement.{statement}
-use Rattle.params.proofs.heads.heads_of.Tie as tie
+use Rattle.params.proofs.heads.put_heads.Statement.{statement}
+use Rattle.params.proofs.heads.put_heads.Tie as tie
 
 abbrev Inv-loop : tie.InvT-loop
-Inv-loop layout parts m heads₀ first₀ from₀ i₀ heads first from i =
+Inv-loop heads₀ layout parts m first₀ from₀ i₀ heads first from i =
     (i ≤ parts) × (first ≡ i * m) × (from ≡ pieceStart (layout .n) parts i) × (length heads ≡ suc maxBlocks)
     × ((k : ℕ) → k < i * m → getD heads k 0 ≡ blockHead (layout .n) parts m k)
 
 abbrev μ-loop : tie.MeasureT-loop
-μ-loop layout parts m heads₀ first₀ from₀ i₀ heads first from i = parts - i
+μ-loop heads₀ layout parts m first₀ from₀ i₀ heads first from i = parts - i
 
 abbrev Start : Type 0
 Start = tie.Start Inv-loop μ-loop
 
 limits : (s : Start) → Bounds (s .args .layout)
-limits s = bound (s .args .layout) (s .pre)
+limits s = bound (s .args .layout) (s .pre .0)
 
 module _ (c : tie.After-piece-len Inv-loop μ-loop) where
   abbrev layout : Layout
@@ -60,7 +60,7 @@ module _ (c : tie.After-piece-len Inv-loop μ-loop) where
 loop-holds : tie.Need-loop-holds Inv-loop μ-loop
 loop-holds c =
     let l = c .args .layout in
-    (omega arith, omega arith, omega (arith, piece-zero (l .n) (l .parts)), omega arith, λ k h. absurd (omega arith))
+    (omega arith, omega arith, omega (arith, piece-zero (l .n) (l .parts)), c .pre .1, λ k h. absurd (omega arith))
 
 piece-len-requires : tie.Need-piece-len-requires Inv-loop μ-loop
 piece-len-requires c κs = omega arith
@@ -110,8 +110,8 @@ all c =
 mul-heads : tie.Need-mul-heads Inv-loop μ-loop
 mul-heads c = omega (arith, all c, limits (c .before .before .before))
 
-array-write-heads : tie.Need-array-write-heads Inv-loop μ-loop
-array-write-heads c = omega (arith, all c, limits (c .before .before .before))
+element-write-heads : tie.Need-element-write-heads Inv-loop μ-loop
+element-write-heads c = omega (arith, all c, limits (c .before .before .before))
 
 returns : tie.Need-returns Inv-loop μ-loop
 returns c =
@@ -120,14 +120,14 @@ returns c =
     let b = limits (s .before) in
     let e : s .loop .i ≡ l .parts = omega arith in
     let so-far : (k : ℕ) → k < l .parts * l .m → getD (s .loop .heads) k 0 ≡ blockHead (l .n) (l .parts) (l .m) k = rw e at (s .loop .inv .4) in
-    let is = s .before .pre .parts-is in
+    let is = s .before .pre .0 .parts-is in
     λ k h. rw (all c)
     (end-more (l .n) (l .parts) (l .m) (s .loop .heads) (omega (arith, b)) (omega (arith, b)) (omega (arith, b, s .loop .inv .3)) so-far k (rw (← is) at h))
     ∙ ap (λ (p : ℕ). blockHead (l .n) p (l .m) k) is
 
-pub heads-of-spec : {M : Type 1} → statement M
-heads-of-spec =
+pub put-heads-spec : {M : Type 1} → statement M
+put-heads-spec =
     tie.close
     (tie.spec
     Inv-loop μ-loop loop-holds piece-len-requires put-part-requires add-first add-from add-i loop-less loop-again cast-heads mul-heads
-    array-write-heads returns)
+    element-write-heads returns)
