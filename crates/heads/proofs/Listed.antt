@@ -1,32 +1,22 @@
 -- Laws of the search for a listed pattern: candidates, the later of two, and the index blocks as an array. Assumes nothing.
 use mathlib.Core.Path.{_≡_, refl, sym, ap, _∙_}
 use mathlib.Core.Logic.{_≢_}
-use mathlib.Core.Bool.{Bool, true, false, not, cond, _&&_}
+use mathlib.Core.Bool.{Bool, true, false, cond, _&&_}
 use mathlib.Core.List.{List, [], _∷_, _++_, append-nil}
 use mathlib.Core.Option.{Option, none, some}
 use Prim.Native.Nat.{ℕ, zero, suc, _+_, _*_, _≤_, _<_}
-use native.Mathlib.Nat.{mul-le-mul, mul-le-mul-right}
 use native.Mathlib.Omega.{arith}
 use lib.Dec.{eqb}
 use lib.ListN.{length, getD, take, length-append}
-use Rattle.combinatorics.specs.Stretch.{count, has, members, consecutive}
+use Rattle.combinatorics.specs.Stretch.{count, members, consecutive}
 use Rattle.combinatorics.proofs.Cases.{by-le, eqb-same, eqb-other, leb-holds, leb-fails}
-use Rattle.combinatorics.proofs.Members.{members-on, members-most, none-has, length-members}
+use Rattle.combinatorics.proofs.Members.{members-on, members-most, length-members}
 use Rattle.combinatorics.proofs.Stretch.{count-le}
-use Rattle.cells.specs.Figures.{maxBursts}
-use Rattle.construction_a.specs.Writing.{row}
 use Rattle.cells.specs.Round.{later}
 use Rattle.construction_a.specs.Reading.{bareParts, openBlocks, indexInPart, consBoth, collect, indexBy, indexFound}
 use Rattle.heads.specs.declared.pattern.Candidates.{Candidates}
 use Rattle.heads.specs.declared.pattern.IndexBlocks.{IndexBlocks}
-use Rattle.params.specs.Given.{maxBlocks}
-use Rattle.heads.specs.Looks.{fixedLook, looksIn}
-use Rattle.heads.specs.Patterns.{Parted, candidatesOf, numbered, indexIn}
-
--- a part's blocks are among the blocks of the word
-pub part-fits : (p m i : ℕ) → Parted p m → i < p → i * m + m ≤ maxBlocks
-part-fits p m i h l =
-    omega (arith, mul-le-mul-right m l, mul-le-mul {n₂ = maxBursts} {m₂ = maxBursts} (h .few-parts) (h .few-blocks))
+use Rattle.heads.specs.Patterns.{candidatesOf, numbered, indexIn}
 
 -- ---- The candidates of a list
 
@@ -148,19 +138,6 @@ module _ (n : ℕ) (c : Candidates) (xs : List ℕ) (e : c ≡ candidatesOf xs) 
           (numbered-in n 0 (omega arith))
 
 -- ---- Parts
-
-pub look-fixed : (looks : List ℕ) (k : ℕ) → getD looks k 0 ≡ fixedLook → not (looksIn looks k) ≡ false
-unfolding looksIn
-look-fixed looks k e = rw (eqb-same (getD looks k 0) fixedLook e)
-
-pub look-open : (looks : List ℕ) (k : ℕ) → getD looks k 0 ≢ fixedLook → not (looksIn looks k) ≡ true
-unfolding looksIn
-look-open looks k f = rw (eqb-other (getD looks k 0) fixedLook f)
-
--- all blocks of a part are open exactly where it is bare
-pub bare-is : (m i : ℕ) (looks : ℕ → Bool) → not (has m 0 (row m looks i)) ≡ eqb (length (openBlocks m looks i)) m
-unfolding openBlocks
-bare-is m i looks = none-has m 0 (row m looks i) ∙ ap (λ (y : ℕ). eqb y m) (sym (length-members m 0 (λ j. not (row m looks i j))))
 
 -- the index block of a part, by its number within the part
 module _ (m i j : ℕ) (looks : ℕ → Bool) (found : numbered m j ≡ later m (openBlocks m looks i)) where

@@ -1,29 +1,26 @@
--- Laws of a found word's blocks, each as its own stretch of the word, and of an array that has their looks. Assumes nothing.
-use mathlib.Core.Path.{_≡_, refl, sym, ap, _∙_}
-use mathlib.Core.Logic.{_≢_}
-use mathlib.Core.Bool.{Bool, true, false, not, _&&_}
+-- Laws of a found word's blocks, each as its own stretch of the word. Assumes nothing.
+use mathlib.Core.Path.{_≡_, sym, ap, _∙_}
+use mathlib.Core.Bool.{Bool, true, not}
 use mathlib.Core.List.{List}
 use mathlib.Core.Option.{some}
-use Prim.Native.Nat.{ℕ, zero, suc, _+_, _-_, _*_, _<_}
-use native.Mathlib.Nat.{add-zero}
+use Prim.Native.Nat.{ℕ, _+_, _-_, _*_, _≤_, _<_}
+use native.Mathlib.Nat.{add-zero, mul-le-mul-right}
 use native.Mathlib.Omega.{arith}
-use lib.Dec.{ltb}
-use lib.ListN.{length, getD, take, drop, set, replicate, length-drop}
-use lib.Seq.{take-all, getD-take, getD-drop, getD-set-same, getD-set-other}
-use Rattle.combinatorics.specs.Stretch.{bit}
-use Rattle.combinatorics.proofs.Cases.{by-le, by-eq, by-bool, leb-holds, leb-fails}
+use lib.ListN.{length, getD, take, drop, length-drop}
+use lib.Seq.{take-all, getD-take, getD-drop}
+use Rattle.combinatorics.proofs.Cases.{leb-fails}
 use Rattle.combinatorics.proofs.Members.{each-at}
 use Rattle.cells.specs.Cut.{blockHead}
-use Rattle.construction_a.specs.Figures.{parts, blocks, headOf}
+use Rattle.construction_a.specs.Figures.{parts, headOf}
 use Rattle.construction_a.specs.Reading.{looksFixed, indexFound}
 use Rattle.construction_a.proofs.Pattern.{taken-bare, found-within, found-count}
 use Rattle.construction_a.proofs.Rule.{not-true}
 use Rattle.params.specs.declared.Layout.{Layout}
-use Rattle.params.proofs.Shape.{bound}
-use Rattle.params.specs.Given.{figuresOf, Shaped}
+use Rattle.params.proofs.Shape.{bound, blocks-fit, head-room, head-is}
+use Rattle.params.specs.Given.{figuresOf, maxBlocks, Shaped}
 use Rattle.heads.specs.Given.{CompleteWord}
 use Rattle.heads.specs.declared.pattern.IndexBlocks.{IndexBlocks}
-use Rattle.heads.specs.Looks.{startsFixed, looksIn}
+use Rattle.heads.specs.Looks.{startsFixed}
 use Rattle.heads.specs.Patterns.{Parted, indexIn}
 use Rattle.heads.specs.Written.{OpenHeads}
 
@@ -42,6 +39,14 @@ module _ (l : Layout) (h : Shaped l) where
         alike = λ g. h .parts-is ∙ (rw (leb-fails (l .m) 2 g));
       }
 
+  -- a part's blocks are among the blocks of the word
+  module _ (i : ℕ) (g : i < l .parts) where
+    pub part-block : (j : ℕ) → j < l .m → i * l .m + j < l .parts * l .m
+    part-block j s = omega (arith, mul-le-mul-right (l .m) g)
+
+    pub part-fits : i * l .m + l .m ≤ maxBlocks
+    part-fits = omega (arith, mul-le-mul-right (l .m) g, blocks-fit l h)
+
 -- ---- The part of a word from a position on
 
 module _ (at : ℕ) (w : List ℕ) where
@@ -57,50 +62,22 @@ module _ (at : ℕ) (w : List ℕ) where
   pub part-head : getD (take (length w - at) (drop at w)) 0 0 ≡ getD w at 0
   part-head = part-at 0 ∙ rw (add-zero at)
 
--- a block looks fixed by its own stretch exactly where it does in the word
-pub stretch-looks : (l : Layout) → Shaped l → (w : List ℕ) (k at : ℕ) → at ≡ blockHead (l .n) (l .parts) (l .m) k
-    → startsFixed (take (length w - at) (drop at w)) ≡ looksFixed (figuresOf l) w k
-unfolding looksFixed
-stretch-looks l h w k at e =
-    let d : at ≡ headOf (figuresOf l) k = e ∙ (rw (h .parts-is)) in
-    rw (part-head at w, d)
+-- a block of a found word, as the stretch from its first position on
+module _ {l : Layout} {w : List ℕ} (h : CompleteWord l w) where
+  module _ (k : ℕ) {at : ℕ} (e : at ≡ blockHead (l .n) (l .parts) (l .m) k) where
+    pub head-inside : k < l .parts * l .m → at < length w
+    head-inside g = omega (arith, h .complete, head-room l (h .layout) k g)
 
--- ---- A list of 0 and 1 that has the first k numbers of a set
+    -- it looks fixed by its own stretch exactly where it does in the word
+    pub stretch-looks : {r : Bool} → r ≡ startsFixed (take (length w - at) (drop at w)) → looksFixed (figuresOf l) w k ≡ r
+    unfolding looksFixed
+    stretch-looks s =
+        let d : at ≡ headOf (figuresOf l) k = e ∙ head-is l (h .layout) k in
+        sym (s ∙ rw (part-head at w, d))
 
-abbrev pub Marked : (ℕ → Bool) → ℕ → List ℕ → Type 0
-Marked S k xs = (x : ℕ) → getD xs x 0 ≡ bit (ltb x k && S x)
-
-zeros : (n x : ℕ) → _≡_ {A = ℕ} (getD (replicate n 0) x 0) 0
-zeros zero x = refl
-zeros (suc n) zero = refl
-zeros (suc n) (suc x) = zeros n x
-
-pub marked-none : (S : ℕ → Bool) (n : ℕ) → Marked S 0 (replicate n 0)
-marked-none S n x = rw (zeros n x, leb-fails (suc x) 0 (omega arith))
-
-module _ (S : ℕ → Bool) (k : ℕ) (xs : List ℕ) (so-far : Marked S k xs) where
-  others : (x : ℕ) → x ≢ k → bit (ltb x k && S x) ≡ bit (ltb x (k + 1) && S x)
-  others x f =
-      by-le (suc x) k (λ t. bit (t && S x) ≡ bit (ltb x (k + 1) && S x)) (λ l. rw (leb-holds (suc x) (k + 1) (omega arith)))
-      (λ l. rw (leb-fails (suc x) (k + 1) (omega arith)))
-
-  pub marked-in : k < length xs → S k ≡ true → Marked S (k + 1) (set xs k 1)
-  marked-in h t x =
-      by-eq x k (λ _. getD (set xs k 1) x 0 ≡ bit (ltb x (k + 1) && S x))
-      (λ e. rw (e, getD-set-same xs k 1 0 h, leb-holds (suc k) (k + 1) (omega arith), t)) (λ f. getD-set-other xs k x 1 0 f ∙ so-far x ∙ others x f)
-
-  pub marked-out : S k ≡ false → Marked S (k + 1) xs
-  marked-out t x =
-      by-eq x k (λ _. getD xs x 0 ≡ bit (ltb x (k + 1) && S x))
-      (λ e. so-far x ∙ rw (e, leb-holds (suc k) (k + 1) (omega arith), leb-fails (suc k) k (omega arith), t)) (λ f. so-far x ∙ others x f)
-
-  pub marked-all : (x : ℕ) → x < k → getD xs x 0 ≡ bit (S x)
-  marked-all x l = so-far x ∙ rw (leb-holds (suc x) k l)
-
--- an array that has a bit for each number below n is the set of those numbers
-pub looks-set : (n : ℕ) (S : ℕ → Bool) (looks : List ℕ) → ((k : ℕ) → k < n → getD looks k 0 ≡ bit (S k)) → (k : ℕ) → k < n → looksIn looks k ≡ S k
-unfolding looksIn
-looks-set n S looks h k l = rw (h k l) (by-bool (S k) (λ t. rw t) (λ t. rw t))
+  -- block j of part i
+  pub part-head-inside : (i j : ℕ) {at : ℕ} → i < l .parts → j < l .m → at ≡ blockHead (l .n) (l .parts) (l .m) (i * l .m + j) → at < length w
+  part-head-inside i j g s e = head-inside (i * l .m + j) e (part-block l (h .layout) i g j s)
 
 -- ---- The index blocks read are blocks of the word, and none looks fixed
 

@@ -1,20 +1,19 @@
-// The listed patterns: from the blocks that look fixed to the index blocks. Assumes nothing.
+// The listed patterns: from the blocks that look fixed to the index blocks. Each block is examined as its own stretch of the word. Assumes nothing.
 ghost use mathlib.Core.Path.{_≡_};
-ghost use mathlib.Core.Bool.{false};
+ghost use mathlib.Core.Bool.{not, false};
 ghost use mathlib.Core.List.{List, [], _∷_, _++_};
 ghost use mathlib.Core.Option.{some};
 ghost use Prim.Native.Nat.{ℕ, _+_, _*_, _≤_, _<_};
-ghost use Rattle.combinatorics.specs.Stretch.{consecutive};
+ghost use Rattle.combinatorics.specs.Stretch.{has, consecutive};
 ghost use Rattle.cells.specs.Figures.{maxBursts};
 ghost use Rattle.construction_a.specs.Figures.{parts as partsOf};
+ghost use Rattle.construction_a.specs.Writing.{row};
 ghost use Rattle.cells.specs.Round.{later};
 ghost use Rattle.construction_a.specs.Reading.{looksFixed, bareParts, openBlocks, indexInPart, collect, indexFound};
 ghost use Rattle.params.specs.Given.{figuresOf, maxBlocks, HeadsOf};
 ghost use Rattle.heads.specs.Given.{CompleteWord};
-ghost use Rattle.heads.specs.Looks.{looksIn};
-ghost use Rattle.heads.specs.Patterns.{Parted, candidatesOf, numbered, indexIn};
-use crate::looks::LOOKS_FIXED;
-use crate::looks::looks_of;
+ghost use Rattle.heads.specs.Patterns.{candidatesOf, numbered, indexIn};
+use crate::looks::looks_fixed;
 use params::Layout;
 use placements::Placement;
 
@@ -31,21 +30,15 @@ struct Candidates {
     second: usize,
 }
 
-// The index blocks that a found word shows: otherwise refusal 7.
+// The index blocks that a found word shows: every block of the part without a block that looks fixed, or of the later of two such parts, or one block
+// of each part; otherwise refusal 7.
 pub fn index_read(layout: Layout, heads: &[u16; Layout::MAX_HEADS], word: &[u8]) -> IndexBlocks
     requires { ⌜ CompleteWord layout (now word) × HeadsOf (figuresOf layout) (now heads) ⌝ }
     ensures { λ r. ⌜ indexIn (layout .m) r ≡ indexFound (partsOf (figuresOf layout)) (layout .m) (looksFixed (figuresOf layout) (now (word .entry))) ⌝ }
 {
-    index_found(&looks_of(layout, heads, word), layout.parts, layout.m)
-}
-
-// The index blocks that the blocks which look fixed show: every block of the part without such a block, or of the later of two such parts, or one
-// block of each part.
-pub fn index_found(looks: &[u8; Layout::MAX_BLOCKS], parts: usize, m: usize) -> IndexBlocks
-    requires { ⌜ Parted parts m ⌝ }
-    ensures { λ r. ⌜ indexIn m r ≡ indexFound parts m (looksIn (now (looks .entry))) ⌝ }
-{
-    let bare = bare_parts(looks, parts, m);
+    let parts = layout.parts;
+    let m = layout.m;
+    let bare = bare_parts(layout, heads, word);
     let part = bare.later(parts);
     if part < parts {
         return whole_part(m, part);
@@ -56,7 +49,7 @@ pub fn index_found(looks: &[u8; Layout::MAX_BLOCKS], parts: usize, m: usize) -> 
     if m <= 2 {
         return IndexBlocks::none();
     }
-    one_each(looks, parts, m)
+    one_each(layout, heads, word)
 }
 
 // Every block of a part.
@@ -78,14 +71,15 @@ fn whole_part(m: usize, part: usize) -> IndexBlocks
 }
 
 // One block of each part, where each part shows one.
-fn one_each(looks: &[u8; Layout::MAX_BLOCKS], parts: usize, m: usize) -> IndexBlocks
-    requires { ⌜ Parted parts m ⌝ }
-    ensures { λ r. ⌜ indexIn parts r ≡ collect parts 0 (indexInPart m (looksIn (now (looks .entry)))) ⌝ }
+fn one_each(layout: Layout, heads: &[u16; Layout::MAX_HEADS], word: &[u8]) -> IndexBlocks
+    requires { ⌜ CompleteWord layout (now word) × HeadsOf (figuresOf layout) (now heads) ⌝ }
+    ensures { λ r. ⌜ indexIn (layout .parts) r ≡ collect (layout .parts) 0 (indexInPart (layout .m) (looksFixed (figuresOf layout) (now (word .entry)))) ⌝ }
 {
+    let m = layout.m;
     let mut blocks = [0u8; Placement::MAX];
     let mut i: usize = 0;
-    while i < parts {
-        let j = open_blocks(looks, m, i).later(m);
+    while i < layout.parts {
+        let j = open_blocks(layout, heads, word, i).later(m);
         if m <= j {
             return IndexBlocks::none();
         }
@@ -98,16 +92,15 @@ fn one_each(looks: &[u8; Layout::MAX_BLOCKS], parts: usize, m: usize) -> IndexBl
     }
 }
 
-// The parts without a block that looks fixed: all their blocks are open.
-fn bare_parts(looks: &[u8; Layout::MAX_BLOCKS], parts: usize, m: usize) -> Candidates
-    requires { ⌜ Parted parts m ⌝ }
-    ensures { λ r. ⌜ r ≡ candidatesOf (bareParts parts m (looksIn (now (looks .entry)))) ⌝ }
+// The parts without a block that looks fixed.
+fn bare_parts(layout: Layout, heads: &[u16; Layout::MAX_HEADS], word: &[u8]) -> Candidates
+    requires { ⌜ CompleteWord layout (now word) × HeadsOf (figuresOf layout) (now heads) ⌝ }
+    ensures { λ r. ⌜ r ≡ candidatesOf (bareParts (layout .parts) (layout .m) (looksFixed (figuresOf layout) (now (word .entry)))) ⌝ }
 {
     let mut bare = Candidates::none();
     let mut i: usize = 0;
-    while i < parts {
-        let shown = open_blocks(looks, m, i);
-        if shown.count == m {
+    while i < layout.parts {
+        if is_bare(layout, heads, word, i) {
             bare = bare.with_next(i);
         }
         i += 1;
@@ -115,16 +108,39 @@ fn bare_parts(looks: &[u8; Layout::MAX_BLOCKS], parts: usize, m: usize) -> Candi
     bare
 }
 
-// The blocks of a part that don't look fixed, counted within the part.
-fn open_blocks(looks: &[u8; Layout::MAX_BLOCKS], m: usize, part: usize) -> Candidates
-    requires { ⌜ part * m + m ≤ maxBlocks ⌝ }
-    ensures { λ r. ⌜ r ≡ candidatesOf (openBlocks m (looksIn (now (looks .entry))) part) ⌝ }
+// Whether no block of a part looks fixed: left at the first that does.
+fn is_bare(layout: Layout, heads: &[u16; Layout::MAX_HEADS], word: &[u8], part: usize) -> bool
+    requires { ⌜ CompleteWord layout (now word) × HeadsOf (figuresOf layout) (now heads) × (part < layout .parts) ⌝ }
+    ensures { λ r. ⌜ r ≡ not (has (layout .m) 0 (row (layout .m) (looksFixed (figuresOf layout) (now (word .entry))) part)) ⌝ }
 {
-    let from = part * m;
+    let from = part * layout.m;
+    let mut j: usize = 0;
+    while j < layout.m {
+        let head = layout.block_head(heads, from + j);
+        if looks_fixed(&word[head..]) {
+            return false;
+        }
+        j += 1;
+    }
+    true
+}
+
+// The blocks of a part that don't look fixed, counted within the part.
+fn open_blocks(
+    layout: Layout,
+    heads: &[u16; Layout::MAX_HEADS],
+    word: &[u8],
+    part: usize,
+) -> Candidates
+    requires { ⌜ CompleteWord layout (now word) × HeadsOf (figuresOf layout) (now heads) × (part < layout .parts) ⌝ }
+    ensures { λ r. ⌜ r ≡ candidatesOf (openBlocks (layout .m) (looksFixed (figuresOf layout) (now (word .entry))) part) ⌝ }
+{
+    let from = part * layout.m;
     let mut shown = Candidates::none();
     let mut j: usize = 0;
-    while j < m {
-        if looks[from + j] != LOOKS_FIXED {
+    while j < layout.m {
+        let head = layout.block_head(heads, from + j);
+        if !looks_fixed(&word[head..]) {
             shown = shown.with_next(j);
         }
         j += 1;

@@ -12,10 +12,10 @@ use Rattle.combinatorics.proofs.StretchLoops.{has-start, has-here, has-on, has-
 use Rattle.cells.specs.Cut.{blockHead}
 use Rattle.construction_a.specs.Figures.{blocks as blocksOf}
 use Rattle.construction_a.specs.Reading.{looksFixed}
-use Rattle.params.proofs.Shape.{bound, blocks-is, head-room}
+use Rattle.params.proofs.Shape.{bound, blocks-is}
 use Rattle.params.specs.Given.{figuresOf}
 use Rattle.blocks.specs.Blocks.{fixedKind}
-use Rattle.heads.proofs.Looking.{part-length, stretch-looks}
+use Rattle.heads.proofs.Looking.{part-length, head-inside, stretch-looks}
 use Rattle.decoder.specs.Reader.{ofKind}
 use Rattle.decoder.proofs.Agreeing.{marked, unmarked}
 use Rattle.decoder.proofs.agree.fixed_heads.Statement.{statement}
@@ -43,7 +43,7 @@ by-blocks s = ap (λ (n : ℕ). has n 0 (Off s)) (blocks-is (s .args .layout) (s
 room : (s : Start) (k at : ℕ) → k < s .args .layout .parts * s .args .layout .m
     → at ≡ blockHead (s .args .layout .n) (s .args .layout .parts) (s .args .layout .m) k
     → at < length (s .args .word .now)
-room s k at h e = omega (arith, s .pre .0 .complete, head-room (s .args .layout) (s .pre .0 .layout) k h)
+room s k at h e = head-inside (s .pre .0) k e h
 
 mul-blocks : tie.Need-mul-blocks Inv-loop μ-loop
 mul-blocks c = omega (arith, bound (c .before .before .args .layout) (c .before .before .pre .0 .layout))
@@ -86,8 +86,7 @@ returns c =
     let l = s .args .layout in
     let w = s .args .word .now in
     let e : looksFixed (figuresOf l) w (t .k) ≡ false =
-    sym (stretch-looks l (s .pre .0 .layout) w (t .k) (c .before .before .before .block-head .result) (c .before .before .before .block-head .ensures))
-    ∙ sym (c .before .looks-fixed .ensures) ∙ not-true _ (c .if2 .taken) in
+    stretch-looks (s .pre .0) (t .k) (c .before .before .before .block-head .ensures) (c .before .looks-fixed .ensures) ∙ not-true _ (c .if2 .taken) in
     let off : Off s (t .k) ≡ true = rw (marked fixedKind (s .args .kinds .now) (t .k) (c .before .before .before .before .if1 .taken), e) in
     ap not (sym (has-here (l .parts * l .m) (t .k) (Off s) (omega arith) off) ∙ t .inv .2 ∙ by-blocks s)
 
@@ -109,7 +108,7 @@ loop-again c =
     ⊎-elim
     (λ u.
     let e : looksFixed (figuresOf l) w (t .k) ≡ true =
-    sym (stretch-looks l (s .pre .0 .layout) w (t .k) (u .1 .result) (u .1 .ensures)) ∙ sym (u .3 .ensures) ∙ not-false _ (u .4 .left) in
+    stretch-looks (s .pre .0) (t .k) (u .1 .ensures) (u .3 .ensures) ∙ not-false _ (u .4 .left) in
     (omega arith, refl, on (rw (marked fixedKind (s .args .kinds .now) (t .k) (u .0 .taken), e))))
     (λ u. (omega arith, refl, on (rw (unmarked fixedKind (s .args .kinds .now) (t .k) (u .left)))))
     (c .if1 .came)
