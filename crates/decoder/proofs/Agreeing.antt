@@ -1,4 +1,4 @@
--- Laws of comparing what a placement's rule gives with what a word shows, as loops over the blocks go. Assumes nothing.
+-- Laws of comparing what a placement's rule gives with what a word shows, as a loop over the blocks goes. Assumes nothing.
 use mathlib.Core.Path.{_≡_, refl, sym, ap, ap₂, _∙_}
 use mathlib.Core.Logic.{_≢_}
 use mathlib.Core.Bool.{Bool, true, false, not, _&&_}
@@ -13,6 +13,7 @@ use Rattle.combinatorics.specs.Lists.{sameList}
 use Rattle.combinatorics.specs.Stretch.{has, members}
 use Rattle.combinatorics.proofs.Cases.{by-eq, eqb-same, eqb-other}
 use Rattle.combinatorics.proofs.Stretch.{has-ext, members-ext}
+use Rattle.combinatorics.proofs.StretchLoops.{has-here, has-on, has-over}
 use Rattle.cells.specs.Figures.{Params}
 use Rattle.construction_a.specs.Figures.{blocks}
 use Rattle.construction_a.specs.Reading.{looksFixed, agrees}
@@ -41,51 +42,67 @@ fixed-kind true b = refl
 fixed-kind false true = refl
 fixed-kind false false = refl
 
--- ---- The index blocks against those read: what is left of both
+-- the fixed blocks that don't start with 0
+abbrev pub Off : Params → List ℕ → List ℕ → ℕ → Bool
+Off f w kinds k = ofKind fixedKind kinds k && not (looksFixed f w k)
 
-abbrev pub SameLeft : ℕ → (ℕ → Bool) → List ℕ → ℕ → ℕ → Bool
-SameLeft n S ks i met = sameList (members (n - i) i S) (drop met ks)
+module _ (f : Params) (w kinds : List ℕ) (k : ℕ) where
+  pub fixed-off : getD kinds k 0 ≡ fixedKind → Off f w kinds k ≡ not (looksFixed f w k)
+  fixed-off e = rw (marked fixedKind kinds k e)
 
-module _ (n : ℕ) (S : ℕ → Bool) (ks : List ℕ) where
-  pub same-start : SameLeft n S ks 0 0 ≡ sameList (members n 0 S) ks
-  same-start =
-      let e : n - 0 ≡ n = omega arith in
-      rw e
+  pub other-off : getD kinds k 0 ≢ fixedKind → Off f w kinds k ≡ false
+  other-off e = rw (unmarked fixedKind kinds k e)
 
-  module _ (i met : ℕ) where
-    pub same-skip : i < n → S i ≡ false → SameLeft n S ks i met ≡ SameLeft n S ks (i + 1) met
-    unfolding members
-    same-skip h t =
-        let e : n - i ≡ suc (n - suc i) = omega arith in
-        rw (e, t, add-one i)
+-- ---- The walk over the blocks
 
-    here : i < n → S i ≡ true → members (n - i) i S ≡ i ∷ members (n - suc i) (suc i) S
-    unfolding members
-    here h t =
-        let e : n - i ≡ suc (n - suc i) = omega arith in
-        rw (e, t)
+-- from block i on, with `met` index blocks before it: whether the index blocks, S, are the others of those read, and no block is in O
+abbrev pub AgreesLeft : ℕ → (ℕ → Bool) → (ℕ → Bool) → List ℕ → ℕ → ℕ → Bool
+AgreesLeft n S O ks i met = sameList (members (n - i) i S) (drop met ks) && not (has (n - i) i O)
 
-    -- more than were read
-    pub same-more : i < n → S i ≡ true → length ks ≤ met → SameLeft n S ks i met ≡ false
-    unfolding sameList
-    same-more h t l = rw (here h t, drop-of-length-le ks l)
+and-false : (b : Bool) → (b && false) ≡ false
+and-false true = refl
+and-false false = refl
 
-    -- another than was read
-    pub same-other : i < n → S i ≡ true → met < length ks → getD ks met 0 ≢ i → SameLeft n S ks i met ≡ false
-    unfolding sameList
-    same-other h t l f = rw (here h t, drop-cons ks met 0 l, eqb-other i (getD ks met 0) (λ e. f (sym e)))
+module _ (n : ℕ) (S O : ℕ → Bool) (ks : List ℕ) (i met : ℕ) where
+  -- a fixed block that doesn't look so
+  pub left-off : i < n → O i ≡ true → AgreesLeft n S O ks i met ≡ false
+  left-off h o = rw (has-here n i O h o) (and-false (sameList (members (n - i) i S) (drop met ks)))
 
-    pub same-next : i < n → S i ≡ true → met < length ks → getD ks met 0 ≡ i → SameLeft n S ks i met ≡ SameLeft n S ks (i + 1) (met + 1)
-    unfolding sameList
-    same-next h t l f = rw (here h t, drop-cons ks met 0 l, eqb-same i (getD ks met 0) (sym f), add-one i, add-one met)
+  pub left-skip : i < n → S i ≡ false → O i ≡ false → AgreesLeft n S O ks i met ≡ AgreesLeft n S O ks (i + 1) met
+  unfolding members
+  left-skip h t o =
+      let e : n - i ≡ suc (n - suc i) = omega arith in
+      rw (has-on n i O h o, e, t, add-one i)
 
-    -- fewer than were read, or as many
-    pub same-over : n ≤ i → met ≤ length ks → SameLeft n S ks i met ≡ eqb met (length ks)
-    unfolding sameList members
-    same-over h l =
-        let e : n - i ≡ 0 = omega arith in
-        rw e (by-eq met (length ks) (λ t. sameList [] (drop met ks) ≡ t) (λ d. rw (drop-of-length-le ks {i = met} (omega arith)))
-        (λ d. rw (drop-cons ks met 0 (omega arith))))
+  here : i < n → S i ≡ true → members (n - i) i S ≡ i ∷ members (n - suc i) (suc i) S
+  unfolding members
+  here h t =
+      let e : n - i ≡ suc (n - suc i) = omega arith in
+      rw (e, t)
+
+  -- more than were read
+  pub left-more : i < n → S i ≡ true → length ks ≤ met → AgreesLeft n S O ks i met ≡ false
+  unfolding sameList
+  left-more h t l = rw (here h t, drop-of-length-le ks l)
+
+  -- another than was read
+  pub left-other : i < n → S i ≡ true → met < length ks → getD ks met 0 ≢ i → AgreesLeft n S O ks i met ≡ false
+  unfolding sameList
+  left-other h t l f = rw (here h t, drop-cons ks met 0 l, eqb-other i (getD ks met 0) (λ e. f (sym e)))
+
+  pub left-next : i < n → S i ≡ true → O i ≡ false → met < length ks → getD ks met 0 ≡ i
+      → AgreesLeft n S O ks i met ≡ AgreesLeft n S O ks (i + 1) (met + 1)
+  unfolding sameList
+  left-next h t o l f = rw (has-on n i O h o, here h t, drop-cons ks met 0 l, eqb-same i (getD ks met 0) (sym f), add-one i, add-one met)
+
+  -- fewer than were read, or as many
+  pub left-over : n ≤ i → met ≤ length ks → AgreesLeft n S O ks i met ≡ eqb met (length ks)
+  unfolding sameList members
+  left-over h l =
+      let e : n - i ≡ 0 = omega arith in
+      rw (has-over n i O h, e) (by-eq met (length ks) (λ t. (sameList [] (drop met ks) && true) ≡ t)
+      (λ d. rw (drop-of-length-le ks {i = met} (omega arith)))
+      (λ d. rw (drop-cons ks met 0 (omega arith))))
 
 -- ---- By the kinds of a placement's blocks
 
@@ -100,10 +117,11 @@ module _ (f : Params) (ss kinds : List ℕ) (is : KindsOf f ss kinds) where
   unfolding ofKind isFixed
   fixed-marked k l = ap (λ (x : ℕ). eqb x fixedKind) (is k l) ∙ fixed-kind (isIndex f ss k) (isBurst f ss k)
 
-  pub agrees-by : (w ks : List ℕ) → agrees f w ks ss ≡ (sameList (members (blocks f) 0 (ofKind indexKind kinds)) ks
-      && not (has (blocks f) 0 (λ k. ofKind fixedKind kinds k && not (looksFixed f w k))))
+  -- before the first block all is left
+  pub agrees-by : (w ks : List ℕ) (n : ℕ) → n ≡ blocks f → AgreesLeft n (ofKind indexKind kinds) (Off f w kinds) ks 0 0 ≡ agrees f w ks ss
   unfolding agrees
-  agrees-by w ks =
-      ap₂ {C = Bool} (λ a b. sameList a ks && not b) (sym index-marked)
-      (has-ext (blocks f) 0 (λ k. isFixed f ss k && not (looksFixed f w k)) (λ k. ofKind fixedKind kinds k && not (looksFixed f w k))
-      (λ k _ l. ap (λ (x : Bool). x && not (looksFixed f w k)) (sym (fixed-marked k (omega arith)))))
+  agrees-by w ks n e =
+      let d : n - 0 ≡ blocks f = omega arith in
+      rw d (ap₂ {C = Bool} (λ a b. sameList a ks && not b) index-marked
+      (has-ext (blocks f) 0 (Off f w kinds) (λ k. isFixed f ss k && not (looksFixed f w k))
+      (λ k _ l. ap (λ (x : Bool). x && not (looksFixed f w k)) (fixed-marked k (omega arith)))))
