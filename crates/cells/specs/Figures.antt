@@ -18,6 +18,10 @@ pub record Params : Type 0 where
 abbrev pub params : ℕ → ℕ → ℕ → ℕ → Params
 params n q m b = record { n = n; q = q; m = m; b = b }
 
+-- "A placement is m disjoint runs of exactly b consecutive positions, given by ascending starts .."
+unfoldable pub isPlacement : Params → List ℕ → Bool
+isPlacement f ss = eqb (length ss) (f .m) && apart (f .b) (f .n) 0 ss
+
 -- "The largest figures .. are named once"
 abbrev pub maxWord : ℕ
 maxWord = 4096
@@ -33,11 +37,7 @@ unfoldable pub inRange : Params → Bool
 inRange f =
     leb 3 (f .n) && leb (f .n) maxWord && leb 2 (f .q) && leb (f .q) maxAlphabet && leb 1 (f .m) && leb (f .m) maxBursts && leb 1 (f .b)
 
--- ---- Placements
-
--- "A placement is m disjoint runs of exactly b consecutive positions, given by ascending starts .."
-unfoldable pub isPlacement : Params → List ℕ → Bool
-isPlacement f ss = eqb (length ss) (f .m) && apart (f .b) (f .n) 0 ss
+-- ---- Placements counted
 
 -- "T counts all placements: the ways to choose m things out of n − m × b + m."
 abbrev pub placementCount : Params → ℕ
@@ -54,14 +54,6 @@ pub data Counted : Type 0 where
 abbrev pub countOut : ℕ → Counted
 countOut t = cond (leb t maxCount) (counted t) tooMany
 
--- "The rank is the sum, over the runs, of the ways to choose as many things as the run's number out of its reduced start; it lies from 0 to T − 1."
-abbrev pub rank : Params → List ℕ → ℕ
-rank f ss = rankOf (f .b) ss
-
--- "Then the rank gives the placement"
-abbrev pub placementOf : Params → ℕ → List ℕ
-placementOf f v = startsOf (f .n) (f .m) (f .b) v
-
 -- ---- The symbols that spell a value
 
 -- "An I-block's first 1 + r symbols can spell q − 1 values in the first place and q in each of the r others": what m of them spell
@@ -72,3 +64,13 @@ indexValues q m r = ((q - 1) * q ^ r) ^ m
 -- none does
 unfoldable pub leastTail : ℕ → ℕ → ℕ → ℕ → ℕ
 leastTail q m count limit = first limit 0 (λ r. leb count (indexValues q m r))
+
+-- ---- Ranks
+
+-- "The rank is the sum, over the runs, of the ways to choose as many things as the run's number out of its reduced start; it lies from 0 to T − 1."
+abbrev pub rank : Params → List ℕ → ℕ
+rank f ss = rankOf (f .b) ss
+
+-- "Then the rank gives the placement"
+abbrev pub placementOf : Params → ℕ → List ℕ
+placementOf f v = startsOf (f .n) (f .m) (f .b) v

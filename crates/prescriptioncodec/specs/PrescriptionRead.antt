@@ -10,8 +10,6 @@ use Rattle.combinatorics.specs.Lists.{allBelow}
 use Rattle.cells.specs.Codec.{Codec, Reading, accepted}
 use Rattle.cells.specs.Codec as codec
 use Rattle.cells.specs.Outcomes.{Coding}
-use Rattle.cells.specs.Figures.{Params}
-use Rattle.construction_a.specs.Outcomes.{coding}
 use Rattle.jobs.specs.declared.Entry.{Entry}
 use Rattle.jobs.specs.Table.{twice}
 use Rattle.payloads.specs.Payload.{carriesJob, jobNumber, payloadIn, spellsPayload}
@@ -60,11 +58,6 @@ prescriptionReadUnder d es w =
     must (d .inRange && not (twice es)) (refused invalid)
     (must (d .fits) (refused unfit)
     (prescriptionReading (d .codec) es w))
-
--- ---- Under Construction A
-
-unfoldable pub prescriptionReadOut : Params → List Entry → List ℕ → Answered HandedOut
-prescriptionReadOut f = prescriptionReadUnder (coding f)
 
 -- ---- What an answer says, case by case: 0, the number and the prescription, or the refusal
 

@@ -10,8 +10,6 @@ use Rattle.combinatorics.specs.Bursts.{apart}
 use Rattle.cells.specs.Bytes.{byteValues, payloadLen}
 use Rattle.cells.specs.Digits.{plain, spell}
 use Rattle.cells.specs.Outcomes.{Coding, Held, inUse, Encoded, unwritten}
-use Rattle.cells.specs.Figures.{Params}
-use Rattle.construction_a.specs.Outcomes.{coding}
 use Rattle.jobs.specs.declared.Entry.{Entry}
 use Rattle.jobs.specs.Jobs.{isJob}
 use Rattle.jobs.specs.Table.{twice}
@@ -68,8 +66,3 @@ prescriptionWriteUnder d es at n p out =
 abbrev pub asJob : Coding → List Entry → Held → ℕ → ℕ → List ℕ → Option Prescribed → Encoded
 asJob d es at n K out none = unwritten out badPrescription
 asJob d es at n K out (some x) = jobWriteUnder d es at (prescriptionPayload K n x) out
-
--- ---- Under Construction A
-
-unfoldable pub prescriptionWriteOut : Params → List Entry → Held → ℕ → Prescription → List ℕ → Encoded
-prescriptionWriteOut f = prescriptionWriteUnder (coding f)
