@@ -15,20 +15,20 @@ use Rattle.combinatorics.proofs.Stretch.{sum-append, count-le, some-false, firs
 use Rattle.construction_a.specs.Writing.{becomes, withBurst, row, chosen, isIndexIn, isIndex, isBurst}
 use Rattle.cells.specs.Figures.{Params}
 use Rattle.construction_a.specs.Figures.{parts}
-use Rattle.blocks.specs.Blocks.{fixedKind, burstKind, indexKind, bursts, marked, blockKind, BurstsOf}
+use Rattle.blocks.specs.Blocks.{fixedKind, burstKind, indexKind, burstSet, marked, blockKind, BurstsOf}
 
-pub is-burst : (kinds : List ℕ) (k : ℕ) → getD kinds k 0 ≡ 1 → bursts kinds k ≡ true
-unfolding bursts
+pub is-burst : (kinds : List ℕ) (k : ℕ) → getD kinds k 0 ≡ 1 → burstSet kinds k ≡ true
+unfolding burstSet
 is-burst kinds k e = eqb-same (getD kinds k 0) 1 e
 
-pub no-burst : (kinds : List ℕ) (k : ℕ) → getD kinds k 0 ≢ 1 → bursts kinds k ≡ false
-unfolding bursts
+pub no-burst : (kinds : List ℕ) (k : ℕ) → getD kinds k 0 ≢ 1 → burstSet kinds k ≡ false
+unfolding burstSet
 no-burst kinds k e = eqb-other (getD kinds k 0) 1 e
 
 -- one block more
-pub set-burst : (kinds : List ℕ) (blocks last at : ℕ) → at < length kinds → at ≡ becomes blocks (bursts kinds) last
-    → bursts (set kinds at 1) ≡ withBurst blocks (bursts kinds) last
-unfolding bursts withBurst
+pub set-burst : (kinds : List ℕ) (blocks last at : ℕ) → at < length kinds → at ≡ becomes blocks (burstSet kinds) last
+    → burstSet (set kinds at 1) ≡ withBurst blocks (burstSet kinds) last
+unfolding burstSet withBurst
 set-burst kinds blocks last at h e =
     fun-ext (λ x. rw (← e)
     (by-eq x at (λ t. eqb (getD (set kinds at 1) x 0) 1 ≡ (t || eqb (getD kinds x 0) 1)) (λ d. rw (d, getD-set-same kinds at 1 0 h))
@@ -36,16 +36,16 @@ set-burst kinds blocks last at h e =
 
 -- ---- A part, block by block
 
-module _ (kinds : List ℕ) (m i j found : ℕ) (so-far : found ≡ count j 0 (row m (bursts kinds) i)) where
-  pub one-more : getD kinds (i * m + j) 0 ≡ 1 → found + 1 ≡ count (j + 1) 0 (row m (bursts kinds) i)
+module _ (kinds : List ℕ) (m i j found : ℕ) (so-far : found ≡ count j 0 (row m (burstSet kinds) i)) where
+  pub one-more : getD kinds (i * m + j) 0 ≡ 1 → found + 1 ≡ count (j + 1) 0 (row m (burstSet kinds) i)
   one-more e =
       let t = ap bit (is-burst kinds (i * m + j) e) in
-      omega (arith, count-on j (row m (bursts kinds) i))
+      omega (arith, count-on j (row m (burstSet kinds) i))
 
-  pub none-more : getD kinds (i * m + j) 0 ≢ 1 → found ≡ count (j + 1) 0 (row m (bursts kinds) i)
+  pub none-more : getD kinds (i * m + j) 0 ≢ 1 → found ≡ count (j + 1) 0 (row m (burstSet kinds) i)
   none-more e =
       let t = ap bit (no-burst kinds (i * m + j) e) in
-      omega (arith, count-on j (row m (bursts kinds) i))
+      omega (arith, count-on j (row m (burstSet kinds) i))
 
 -- ---- How many of a part's blocks are burst blocks, once some are seen
 
@@ -59,30 +59,30 @@ count-rest j m w h =
 -- ---- Which block becomes a burst block
 
 module _ (kinds : List ℕ) (blocks last : ℕ) where
-  pub spare-taken : getD kinds last 0 ≡ 1 → becomes blocks (bursts kinds) last ≡ first blocks 0 (λ k. not (bursts kinds k))
+  pub spare-taken : getD kinds last 0 ≡ 1 → becomes blocks (burstSet kinds) last ≡ first blocks 0 (λ k. not (burstSet kinds k))
   unfolding becomes
   spare-taken e = rw (is-burst kinds last e)
 
-  pub last-taken : getD kinds last 0 ≢ 1 → becomes blocks (bursts kinds) last ≡ last
+  pub last-taken : getD kinds last 0 ≢ 1 → becomes blocks (burstSet kinds) last ≡ last
   unfolding becomes
   last-taken e = rw (no-burst kinds last e)
 
-  pub spare-in : count blocks 0 (bursts kinds) < blocks → first blocks 0 (λ k. not (bursts kinds k)) < blocks
+  pub spare-in : count blocks 0 (burstSet kinds) < blocks → first blocks 0 (λ k. not (burstSet kinds k)) < blocks
   spare-in h =
-      let s = some-false blocks 0 (bursts kinds) h in
-      omega (arith, s .2, first-most blocks 0 (s .0) (λ k. not (bursts kinds k)) (s .1) (s .2) (rw (s .3)))
+      let s = some-false blocks 0 (burstSet kinds) h in
+      omega (arith, s .2, first-most blocks 0 (s .0) (λ k. not (burstSet kinds k)) (s .1) (s .2) (rw (s .3)))
 
-  pub becomes-in : last < blocks → count blocks 0 (bursts kinds) < blocks → becomes blocks (bursts kinds) last < blocks
+  pub becomes-in : last < blocks → count blocks 0 (burstSet kinds) < blocks → becomes blocks (burstSet kinds) last < blocks
   unfolding becomes
-  becomes-in l h = by-bool (bursts kinds last) (λ t. rw t (spare-in h)) (λ t. rw t l)
+  becomes-in l h = by-bool (burstSet kinds last) (λ t. rw t (spare-in h)) (λ t. rw t l)
 
 -- ---- From marks to kinds
 
 -- where the burst blocks are marked and no others, the index blocks marked over them give each block's kind
 pub kind-is : (f : Params) (ss kinds : List ℕ) → BurstsOf f ss kinds → (k : ℕ)
-    → marked (isIndexIn (f .m) (bursts kinds) (chosen (parts f) (f .m) (bursts kinds))) kinds k ≡ blockKind (isIndex f ss k) (isBurst f ss k)
-unfolding marked isIndex bursts
-kind-is f ss kinds h k = rw (← h .set) (ap (cond (isIndexIn (f .m) (bursts kinds) (chosen (parts f) (f .m) (bursts kinds)) k) indexKind) plainly)
+    → marked (isIndexIn (f .m) (burstSet kinds) (chosen (parts f) (f .m) (burstSet kinds))) kinds k ≡ blockKind (isIndex f ss k) (isBurst f ss k)
+unfolding marked isIndex burstSet
+kind-is f ss kinds h k = rw (← h .set) (ap (cond (isIndexIn (f .m) (burstSet kinds) (chosen (parts f) (f .m) (burstSet kinds)) k) indexKind) plainly)
   where
-    plainly : getD kinds k 0 ≡ cond (bursts kinds k) burstKind fixedKind
+    plainly : getD kinds k 0 ≡ cond (burstSet kinds k) burstKind fixedKind
     plainly = by-eq (getD kinds k 0) 1 (λ t. getD kinds k 0 ≡ cond t burstKind fixedKind) (λ e. e) (λ e. omega (arith, h .two k))

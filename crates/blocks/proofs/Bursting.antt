@@ -16,15 +16,15 @@ use Rattle.construction_a.specs.Figures.{blocks, blockOf}
 use Rattle.construction_a.specs.Writing.{becomes, withBurst, withBursts, lastBlocks, isBurst}
 use Rattle.construction_a.proofs.Rule.{withBurst-count}
 use Rattle.params.specs.Given.{maxBlocks}
-use Rattle.blocks.specs.Blocks.{burstKind, bursts, BurstsOf}
+use Rattle.blocks.specs.Blocks.{burstKind, burstSet, BurstsOf}
 use Rattle.blocks.proofs.BlockSets.{set-burst, becomes-in}
 
 -- ---- The loop over the bursts
 
 -- the first j bursts have their blocks
 pub record Bursting (f : Params) (ss : List ℕ) (j : ℕ) (kinds : List ℕ) : Type 0 where
-  pub rest : withBursts (blocks f) (drop j (lastBlocks f ss)) (bursts kinds) ≡ isBurst f ss
-  pub marked : count (blocks f) 0 (bursts kinds) ≡ j
+  pub rest : withBursts (blocks f) (drop j (lastBlocks f ss)) (burstSet kinds) ≡ isBurst f ss
+  pub marked : count (blocks f) 0 (burstSet kinds) ≡ j
   pub two : (k : ℕ) → getD kinds k 0 ≤ burstKind
   pub size : length kinds ≡ maxBlocks
 
@@ -33,8 +33,8 @@ zeros zero k = refl
 zeros (suc n) zero = refl
 zeros (suc n) (suc k) = zeros n k
 
-none-marked : (n : ℕ) → bursts (replicate n 0) ≡ (λ _. false)
-unfolding bursts
+none-marked : (n : ℕ) → burstSet (replicate n 0) ≡ (λ _. false)
+unfolding burstSet
 none-marked n = fun-ext (λ k. rw (zeros n k) (eqb-other 0 1 (omega arith)))
 
 pub bursting-start : (f : Params) (ss : List ℕ) → Bursting f ss 0 (replicate maxBlocks 0)
@@ -53,15 +53,15 @@ next-of g (s ∷ ss) zero h = refl
 next-of g (s ∷ ss) (suc j) h = next-of g ss j (omega arith)
 
 pub bursting-turn : (f : Params) (ss : List ℕ) (j last : ℕ) (kinds : List ℕ) → Bursting f ss j kinds → j < length ss → last ≡ blockOf f (getD ss j 0 + f .b - 1)
-    → last < blocks f → j < blocks f → blocks f ≤ maxBlocks → Bursting f ss (j + 1) (set kinds (becomes (blocks f) (bursts kinds) last) burstKind)
+    → last < blocks f → j < blocks f → blocks f ≤ maxBlocks → Bursting f ss (j + 1) (set kinds (becomes (blocks f) (burstSet kinds) last) burstKind)
 unfolding withBursts
 bursting-turn f ss j last kinds s h e l c m =
     let n = blocks f in
-    let B = bursts kinds in
+    let B = burstSet kinds in
     let at = becomes n B last in
     let room : count n 0 B < n = omega (arith, s .marked) in
     let in-array : at < length kinds = omega (arith, s .size, becomes-in kinds n last l room) in
-    let more : bursts (set kinds at burstKind) ≡ withBurst n B last = set-burst kinds n last at in-array refl in
+    let more : burstSet (set kinds at burstKind) ≡ withBurst n B last = set-burst kinds n last at in-array refl in
     record {
       rest = rw (add-one j, more) (rw (next-of (λ x. blockOf f (x + f .b - 1)) ss j h, ← e) at (s .rest));
       marked = rw more (withBurst-count n last B l room ∙ omega (arith, s .marked));

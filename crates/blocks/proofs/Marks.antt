@@ -16,7 +16,7 @@ use Rattle.cells.specs.Round.{next}
 use Rattle.construction_a.specs.Writing.{row, partCount, partWith, Chosen, whole, oneEach, chosen, beside, isChosen, isIndexIn}
 use Rattle.cells.proofs.Round.{next-lt}
 use Rattle.construction_a.proofs.Rule.{at-row, chosen-by}
-use Rattle.blocks.specs.Blocks.{bursts, marked}
+use Rattle.blocks.specs.Blocks.{burstSet, marked}
 
 -- none yet
 pub mark-none : (I : ℕ → Bool) (kinds : List ℕ) (k : ℕ) → I k ≡ false → getD kinds k 0 ≡ marked I kinds k
@@ -92,8 +92,8 @@ module _ (m : ℕ) (B : ℕ → Bool) where
   before-all parts k l = rw (leb-holds (suc k) (parts * m) l)
 
 -- which block that is goes by the part's own entries
-pub beside-same : (m i : ℕ) (old new : List ℕ) → ((k : ℕ) → i * m ≤ k → getD new k 0 ≡ getD old k 0) → beside m (bursts new) i ≡ beside m (bursts old) i
-unfolding beside bursts
+pub beside-same : (m i : ℕ) (old new : List ℕ) → ((k : ℕ) → i * m ≤ k → getD new k 0 ≡ getD old k 0) → beside m (burstSet new) i ≡ beside m (burstSet old) i
+unfolding beside burstSet
 beside-same m i old new same =
     ap (λ (w : ℕ → Bool). next m (first m 0 w)) (fun-ext (λ j. ap (λ (y : ℕ). eqb y 1) (same (i * m + j) (omega arith))))
 

@@ -19,8 +19,8 @@ abbrev pub indexKind : ℕ
 indexKind = 2
 
 -- the blocks marked as burst blocks, as a set
-unfoldable pub bursts : List ℕ → ℕ → Bool
-bursts kinds k = eqb (getD kinds k 0) burstKind
+unfoldable pub burstSet : List ℕ → ℕ → Bool
+burstSet kinds k = eqb (getD kinds k 0) burstKind
 
 -- a block's kind by what it is
 abbrev pub blockKind : Bool → Bool → ℕ
@@ -32,7 +32,7 @@ marked I kinds k = cond (I k) indexKind (getD kinds k 0)
 
 -- the burst blocks of a placement marked, and no others
 pub record BurstsOf (f : Params) (ss kinds : List ℕ) : Type 0 where
-  pub set : bursts kinds ≡ isBurst f ss
+  pub set : burstSet kinds ≡ isBurst f ss
   pub two : (k : ℕ) → getD kinds k 0 ≤ burstKind
 
 -- an array that has the kind of each block

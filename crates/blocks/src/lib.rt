@@ -10,7 +10,7 @@ ghost use Rattle.cells.specs.Round.{next};
 ghost use Rattle.construction_a.specs.Writing.{becomes, partCount, partWith, Chosen, chosen, isIndexIn};
 ghost use Rattle.placements.specs.Bridge.{startsIn, PlacesBursts};
 ghost use Rattle.params.specs.Given.{maxBlocks, figuresOf, HeadsOf};
-ghost use Rattle.blocks.specs.Blocks.{fixedKind, bursts, marked, BurstsOf, KindsOf};
+ghost use Rattle.blocks.specs.Blocks.{fixedKind, burstSet, marked, BurstsOf, KindsOf};
 use params::Layout;
 use placements::Placement;
 
@@ -45,7 +45,7 @@ fn mark_bursts(
 )
     requires { ⌜ PlacesBursts layout at × HeadsOf (figuresOf layout) (now heads) × (now kinds ≡ replicate maxBlocks fixedKind) ⌝ }
     ensures size { λ _. ⌜ length (now (kinds .exit)) ≡ maxBlocks ⌝ }
-    ensures bursts { λ _. ⌜ BurstsOf (figuresOf layout) (startsIn at) (now (kinds .exit)) ⌝ }
+    ensures burstSet { λ _. ⌜ BurstsOf (figuresOf layout) (startsIn at) (now (kinds .exit)) ⌝ }
 {
     let blocks = layout.parts * layout.m;
     let mut last: usize = 0;
@@ -63,9 +63,9 @@ fn mark_bursts(
 // The index blocks marked, in an array with the burst blocks, by the three cases of the rule.
 fn mark_index(kinds: &mut [u8; Layout::MAX_BLOCKS], parts: usize, m: usize)
     requires { ⌜ (0 < m) × (parts * m ≤ maxBlocks) × (parts ≤ maxBlocks) × (m ≤ maxBlocks) × (length (now kinds) ≡ maxBlocks)
-        × (count (parts * m) 0 (bursts (now kinds)) ≡ m) ⌝ }
+        × (count (parts * m) 0 (burstSet (now kinds)) ≡ m) ⌝ }
     ensures { λ _. ⌜ ((k : ℕ) → k < parts * m → getD (now (kinds .exit)) k 0
-        ≡ marked (isIndexIn m (bursts (now (kinds .entry))) (chosen parts m (bursts (now (kinds .entry))))) (now (kinds .entry)) k) ⌝ }
+        ≡ marked (isIndexIn m (burstSet (now (kinds .entry))) (chosen parts m (burstSet (now (kinds .entry))))) (now (kinds .entry)) k) ⌝ }
 {
     let full = part_with(kinds, parts, m, m);
     if full < parts {
@@ -84,7 +84,7 @@ fn mark_index(kinds: &mut [u8; Layout::MAX_BLOCKS], parts: usize, m: usize)
 fn mark_part(kinds: &mut [u8; Layout::MAX_BLOCKS], m: usize, part: usize)
     requires { ⌜ (0 < m) × (part * m + m ≤ maxBlocks) × (length (now kinds) ≡ maxBlocks) ⌝ }
     ensures { λ _. ⌜ ((k : ℕ) → getD (now (kinds .exit)) k 0
-        ≡ marked (isIndexIn m (bursts (now (kinds .entry))) (Chosen.whole part)) (now (kinds .entry)) k) ⌝ }
+        ≡ marked (isIndexIn m (burstSet (now (kinds .entry))) (Chosen.whole part)) (now (kinds .entry)) k) ⌝ }
 {
     let from = part * m;
     let mut j: usize = 0;
@@ -96,9 +96,9 @@ fn mark_part(kinds: &mut [u8; Layout::MAX_BLOCKS], m: usize, part: usize)
 
 // Of each part the block beside its burst block marked as index block. A part is looked at before a block of it is marked.
 fn mark_one_each(kinds: &mut [u8; Layout::MAX_BLOCKS], parts: usize, m: usize)
-    requires { ⌜ (parts * m ≤ maxBlocks) × (length (now kinds) ≡ maxBlocks) × ((i : ℕ) → i < parts → 0 < partCount m (bursts (now kinds)) i) ⌝ }
+    requires { ⌜ (parts * m ≤ maxBlocks) × (length (now kinds) ≡ maxBlocks) × ((i : ℕ) → i < parts → 0 < partCount m (burstSet (now kinds)) i) ⌝ }
     ensures { λ _. ⌜ ((k : ℕ) → k < parts * m → getD (now (kinds .exit)) k 0
-        ≡ marked (isIndexIn m (bursts (now (kinds .entry))) Chosen.oneEach) (now (kinds .entry)) k) ⌝ }
+        ≡ marked (isIndexIn m (burstSet (now (kinds .entry))) Chosen.oneEach) (now (kinds .entry)) k) ⌝ }
 {
     let mut i: usize = 0;
     while i < parts {
@@ -110,8 +110,8 @@ fn mark_one_each(kinds: &mut [u8; Layout::MAX_BLOCKS], parts: usize, m: usize)
 
 // The next burst block: block `last`, in which a burst ends, or the leftmost spare where it is one already.
 fn burst_block(kinds: &[u8; Layout::MAX_BLOCKS], blocks: usize, last: usize) -> usize
-    requires { ⌜ (last < blocks) × (blocks ≤ maxBlocks) × (count blocks 0 (bursts (now kinds)) < blocks) ⌝ }
-    ensures { λ r. ⌜ (r ≡ becomes blocks (bursts (now (kinds .entry))) last) × (r < blocks) ⌝ }
+    requires { ⌜ (last < blocks) × (blocks ≤ maxBlocks) × (count blocks 0 (burstSet (now kinds)) < blocks) ⌝ }
+    ensures { λ r. ⌜ (r ≡ becomes blocks (burstSet (now (kinds .entry))) last) × (r < blocks) ⌝ }
 {
     if kinds[last] == BURST {
         return first_spare(kinds, blocks);
@@ -122,7 +122,7 @@ fn burst_block(kinds: &[u8; Layout::MAX_BLOCKS], blocks: usize, last: usize) -> 
 // The leftmost block that is no burst block, or `blocks`.
 fn first_spare(kinds: &[u8; Layout::MAX_BLOCKS], blocks: usize) -> usize
     requires { ⌜ blocks ≤ maxBlocks ⌝ }
-    ensures { λ r. ⌜ r ≡ first blocks 0 (λ k. not (bursts (now (kinds .entry)) k)) ⌝ }
+    ensures { λ r. ⌜ r ≡ first blocks 0 (λ k. not (burstSet (now (kinds .entry)) k)) ⌝ }
 {
     let mut k: usize = 0;
     while k < blocks {
@@ -137,7 +137,7 @@ fn first_spare(kinds: &[u8; Layout::MAX_BLOCKS], blocks: usize) -> usize
 // Whether part `part` has so many burst blocks: it is left as soon as it has more, or too few blocks to come.
 fn has_bursts(kinds: &[u8; Layout::MAX_BLOCKS], m: usize, part: usize, wanted: usize) -> bool
     requires { ⌜ part * m + m ≤ maxBlocks ⌝ }
-    ensures { λ r. ⌜ r ≡ eqb (partCount m (bursts (now (kinds .entry))) part) wanted ⌝ }
+    ensures { λ r. ⌜ r ≡ eqb (partCount m (burstSet (now (kinds .entry))) part) wanted ⌝ }
 {
     let from = part * m;
     let mut missing = wanted;
@@ -160,7 +160,7 @@ fn has_bursts(kinds: &[u8; Layout::MAX_BLOCKS], m: usize, part: usize, wanted: u
 // The first part that has so many burst blocks, or `parts`.
 fn part_with(kinds: &[u8; Layout::MAX_BLOCKS], parts: usize, m: usize, wanted: usize) -> usize
     requires { ⌜ parts * m ≤ maxBlocks ⌝ }
-    ensures { λ r. ⌜ r ≡ partWith parts m (bursts (now (kinds .entry))) wanted ⌝ }
+    ensures { λ r. ⌜ r ≡ partWith parts m (burstSet (now (kinds .entry))) wanted ⌝ }
 {
     let mut i: usize = 0;
     while i < parts {
@@ -175,7 +175,7 @@ fn part_with(kinds: &[u8; Layout::MAX_BLOCKS], parts: usize, m: usize, wanted: u
 // The block of a part that comes after its first burst block, 0 after the last; counted within the part.
 fn beside(kinds: &[u8; Layout::MAX_BLOCKS], m: usize, part: usize) -> usize
     requires { ⌜ part * m + m ≤ maxBlocks ⌝ }
-    ensures { λ r. ⌜ r ≡ Rattle.construction_a.specs.Writing.beside m (bursts (now (kinds .entry))) part ⌝ }
+    ensures { λ r. ⌜ r ≡ Rattle.construction_a.specs.Writing.beside m (burstSet (now (kinds .entry))) part ⌝ }
 {
     let from = part * m;
     let mut j: usize = 0;

@@ -22,7 +22,7 @@ use Rattle.cells.proofs.Erasures.{below-whole}
 use Rattle.cells.specs.Figures.{Params, placementCount, rank}
 use Rattle.construction_a.specs.Figures.{parts, headOf, indexTail}
 use Rattle.construction_a.specs.Writing.{isBurst, chosen, isIndex, indexBlocks, isFixed, frame, kindAt, plan, word}
-use Rattle.construction_a.specs.Reading.{looksFixed, heads, written, agrees, readRank, read}
+use Rattle.construction_a.specs.Reading.{looksFixed, firstSymbols, written, agrees, readRank, read}
 use Rattle.construction_a.proofs.Figures.{Served, span-enough}
 use Rattle.construction_a.proofs.Rule.{at-row, i-list}
 use Rattle.construction_a.proofs.Pattern.{Seen, read-back}
@@ -43,8 +43,8 @@ module _ (f : Params) (ok : Served f) (ss : List ℕ) (h : Placed (f .b) (f .n) 
   -- a word that agrees with the written one outside the bursts
   module _ (ms w : List ℕ) (k : length ms + f .m * (f .b + parts f + indexTail f - 1) ≡ f .n) (small : allBelow (f .q) ms ≡ true)
       (outside : (x : ℕ) → x < f .n → inBurst (f .b) ss x ≡ false → getD w x 0 ≡ getD (word f ss ms) x 0) where
-    digits-read : heads f w (indexBlocks f ss) ≡ digits
-    unfolding heads word plan kindAt indexBlocks digits
+    digits-read : firstSymbols f w (indexBlocks f ss) ≡ digits
+    unfolding firstSymbols word plan kindAt indexBlocks digits
     digits-read =
         digits-back (frame f ss) (framed f ok ss h e) digits ms w outside
         (length-spell (f .q) (places (f .m) (indexTail f)) (rank f ss) ∙ length-places (f .m) (indexTail f)
@@ -56,9 +56,9 @@ module _ (f : Params) (ok : Served f) (ss : List ℕ) (h : Placed (f .b) (f .n) 
 
     -- an I-block starts with a digit of 1 or more, and an F-block with 0
     index-shown : (x : ℕ) → x < parts f * f .m → isIndex f ss x ≡ true → looksFixed f w x ≡ false
-    unfolding looksFixed heads indexBlocks
+    unfolding looksFixed firstSymbols indexBlocks
     index-shown x l t =
-        let s : Spelled (f .q) (places (length (indexBlocks f ss)) (indexTail f)) (heads f w (indexBlocks f ss)) =
+        let s : Spelled (f .q) (places (length (indexBlocks f ss)) (indexTail f)) (firstSymbols f w (indexBlocks f ss)) =
         rw (index-blocks f (ok .range) ss h e, digits-read) spelled in
         let b : 1 ≤ getD w (headOf f x) 0 =
         each-member (λ y. 1 ≤ getD w (headOf f y) 0) (parts f * f .m) 0 (isIndex f ss)

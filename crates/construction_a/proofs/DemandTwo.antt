@@ -21,7 +21,7 @@ use Rattle.cells.proofs.Erasures.{found-least}
 use Rattle.cells.specs.Figures.{Params, placementCount, rank, placementOf}
 use Rattle.construction_a.specs.Figures.{parts, indexTail, messageLen}
 use Rattle.construction_a.specs.Writing.{kindAt, plan, word}
-use Rattle.construction_a.specs.Reading.{looksFixed, indexFound, heads, written, agrees, readRank, readFrom, read}
+use Rattle.construction_a.specs.Reading.{looksFixed, indexFound, firstSymbols, written, agrees, readRank, readFrom, read}
 use Rattle.construction_a.specs.DemandTwo.{constructionA, found, IndexRead, Listed, no-pattern, erased-index, too-large, disagreeing, erased-message}
 use Rattle.construction_a.specs.DemandTwo.{DemandTwo}
 use Rattle.cells.proofs.Figures.{placed-starts, starts-placed}
@@ -71,7 +71,7 @@ module _ (f : Params) (w : List ℕ) where
     ms : List ℕ
     ms = pick message (plan f ss) w
 
-    at-message : (b : Bool) → hasErasure (f .q) (heads f w ks) ≡ false → v < placementCount f → agrees f w ks ss ≡ true → hasErasure (f .q) ms ≡ b
+    at-message : (b : Bool) → hasErasure (f .q) (firstSymbols f w ks) ≡ false → v < placementCount f → agrees f w ks ss ≡ true → hasErasure (f .q) ms ≡ b
         → must (not b) (refused erased) (accepted ss ms) ≡ refused a → Listed f w a
     unfolding v ss ms
     at-message false h l c d e = not-accepted (sym e)
@@ -79,13 +79,13 @@ module _ (f : Params) (w : List ℕ) where
         subst (Listed f w) (same-number erased a e)
         (erased-message ks ss (record { index = record { pattern = pattern; whole = h }; below = l; starts = refl; agreed = c }) d)
 
-    at-blocks : (b : Bool) → hasErasure (f .q) (heads f w ks) ≡ false → v < placementCount f → agrees f w ks ss ≡ b
+    at-blocks : (b : Bool) → hasErasure (f .q) (firstSymbols f w ks) ≡ false → v < placementCount f → agrees f w ks ss ≡ b
         → must b (refused disagrees) (must (not (hasErasure (f .q) ms)) (refused erased) (accepted ss ms)) ≡ refused a → Listed f w a
     unfolding v ss
     at-blocks true h l c e = at-message (hasErasure (f .q) ms) h l c refl e
     at-blocks false h l c e = subst (Listed f w) (same-number disagrees a e) (disagreeing ks (record { pattern = pattern; whole = h }) l c)
 
-    at-index : (b : Bool) → hasErasure (f .q) (heads f w ks) ≡ b → must (not b) (refused erased) (readRank f w ks v) ≡ refused a → Listed f w a
+    at-index : (b : Bool) → hasErasure (f .q) (firstSymbols f w ks) ≡ b → must (not b) (refused erased) (readRank f w ks v) ≡ refused a → Listed f w a
     unfolding readRank v ss ms
     at-index true h = λ e. subst (Listed f w) (same-number erased a e) (erased-index ks pattern h)
     at-index false h =
@@ -101,7 +101,7 @@ module _ (f : Params) (w : List ℕ) where
     where
       go : (o : Option (List ℕ)) → found f w ≡ o → readFrom f w o ≡ refused a → Listed f w a
       go none pattern = λ e. subst (Listed f w) (same-number noPattern a e) (no-pattern pattern)
-      go (some ks) pattern = at-index a ks pattern (hasErasure (f .q) (heads f w ks)) refl
+      go (some ks) pattern = at-index a ks pattern (hasErasure (f .q) (firstSymbols f w ks)) refl
 
   by-listed : (a : ℕ) → Listed f w a → read f w ≡ refused a
   unfolding read readRank

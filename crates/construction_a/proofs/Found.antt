@@ -13,10 +13,10 @@ use Rattle.cells.specs.Cells.{message, pick}
 use Rattle.cells.proofs.Cells.{pick-below}
 use Rattle.cells.specs.Figures.{Params}
 use Rattle.construction_a.specs.Figures.{headOf}
-use Rattle.construction_a.specs.Reading.{headsWith}
+use Rattle.construction_a.specs.Reading.{firstSymbolsWith}
 use Rattle.construction_a.specs.Writing.{kindAt, plan}
 
-pub heads-below : (r : ℕ) (f : Params) (q : ℕ) (w ks : List ℕ) → ((x : ℕ) → getD w x 0 < q) → allBelow q (headsWith r f w ks) ≡ true
+pub heads-below : (r : ℕ) (f : Params) (q : ℕ) (w ks : List ℕ) → ((x : ℕ) → getD w x 0 < q) → allBelow q (firstSymbolsWith r f w ks) ≡ true
 heads-below r f q w ks small =
     rw (flat-map (λ x. getD w x 0) (suc r) (headOf f) ks) (map-below q (λ x. getD w x 0) small (flatMap (λ k. tabulate (suc r) (headOf f k) same) ks))
 

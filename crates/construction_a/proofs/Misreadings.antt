@@ -23,7 +23,7 @@ use Rattle.construction_a.specs.Figures.{blocks, parts, blockMin, indexT
 use Rattle.cells.specs.Round.{next, later}
 use Rattle.construction_a.specs.Writing.{becomes, withBurst, withBursts, isBurst, partCount, partWith, chosen, beside, isChosen, isIndexIn}
 use Rattle.construction_a.specs.Writing.{isIndex, indexBlocks, isFixed, kindAt, plan, word}
-use Rattle.construction_a.specs.Reading.{looksFixed, bareParts, openBlocks, indexInPart, collect, indexFound, heads, written, agrees, readRank}
+use Rattle.construction_a.specs.Reading.{looksFixed, bareParts, openBlocks, indexInPart, collect, indexFound, firstSymbols, written, agrees, readRank}
 use Rattle.construction_a.specs.Reading.{read}
 
 -- the B-blocks, ascending
@@ -56,7 +56,7 @@ rows =
     -- "the leftmost block of the word that is not yet B": blocks 0 and 1 where three runs end in block 4
     ∷ example (burstBlocks 3 (40 ∷ 43 ∷ 46 ∷ [])) (0 ∷ 1 ∷ 4 ∷ [])
     -- and such a block's head holds the message, not 0
-    ∷ example (heads (params 90 3 3 3) (word (params 90 3 3 3) (40 ∷ 43 ∷ 46 ∷ []) (replicate 66 2)) (0 ∷ [])) (2 ∷ 2 ∷ 2 ∷ 2 ∷ [])
+    ∷ example (firstSymbols (params 90 3 3 3) (word (params 90 3 3 3) (40 ∷ 43 ∷ 46 ∷ []) (replicate 66 2)) (0 ∷ [])) (2 ∷ 2 ∷ 2 ∷ 2 ∷ [])
     -- "shorter ones first": parts of 30, 30, 31 positions
     ∷ example (tabulate 4 0 (λ i. headOf (params 91 3 3 3) (i * 3))) (0 ∷ 30 ∷ 60 ∷ 91 ∷ [])
     -- "neighbours i and i+1 give i+1; parts 0 and p−1 give part 0", and no other pair gives one
@@ -92,5 +92,5 @@ rows-hold : all comesTrue rows ≡ true
 unfolding all sameList sum has first members tabulate top choose rankFrom unrankDown unrank inBurst placements reduceFrom expandFrom rankOf startsOf
     pieceLen pieceStart blockAt blockHead blockWith weave pick span spell value places parts blockMin leastTail indexTail becomes withBurst withBursts
     isBurst next partCount partWith chosen beside isChosen isIndexIn isIndex indexBlocks isFixed cellOf kindAt plan word looksFixed later bareParts
-    openBlocks indexInPart collect indexFound heads written agrees hasErasure any readRank read rows comesTrue flatMap
+    openBlocks indexInPart collect indexFound firstSymbols written agrees hasErasure any readRank read rows comesTrue flatMap
 rows-hold = refl

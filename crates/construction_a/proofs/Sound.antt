@@ -29,7 +29,7 @@ use Rattle.cells.proofs.Figures.{Accepted}
 use Rattle.cells.specs.Figures.{Params, placementCount, rank, placementOf}
 use Rattle.construction_a.specs.Figures.{parts, headOf, indexTail, messageLen}
 use Rattle.construction_a.specs.Writing.{indexBlocks, isFixed, frame, kindAt, plan, word}
-use Rattle.construction_a.specs.Reading.{looksFixed, indexFound, heads, written, agrees, readRank, readFrom, read}
+use Rattle.construction_a.specs.Reading.{looksFixed, indexFound, firstSymbols, written, agrees, readRank, readFrom, read}
 use Rattle.construction_a.proofs.Found.{heads-below, message-below}
 use Rattle.construction_a.proofs.Figures.{Served}
 use Rattle.construction_a.proofs.Pattern.{taken-bare}
@@ -44,10 +44,10 @@ not-zero f w (k ∷ ks) h = (eqb-false (getD w (headOf f k) 0) 0 (not-true (look
 
 module _ (f : Params) (ok : Served f) (w : List ℕ) (small : (x : ℕ) → getD w x 0 < foundBound (f .q)) where
   -- the placement of the value read, where that is below T, the blocks agree and no erasure was read
-  kernel : (ks : List ℕ) → indexFound (parts f) (f .m) (looksFixed f w) ≡ some ks → hasErasure (f .q) (heads f w ks) ≡ false → written f w ks < placementCount f
+  kernel : (ks : List ℕ) → indexFound (parts f) (f .m) (looksFixed f w) ≡ some ks → hasErasure (f .q) (firstSymbols f w ks) ≡ false → written f w ks < placementCount f
       → agrees f w ks (placementOf f (written f w ks)) ≡ true → hasErasure (f .q) (pick message (plan f (placementOf f (written f w ks))) w) ≡ false
       → Accepted f (messageLen f) (word f) w (placementOf f (written f w ks)) (pick message (plan f (placementOf f (written f w ks))) w)
-  unfolding agrees heads word plan kindAt written messageLen indexBlocks isFixed looksFixed
+  unfolding agrees firstSymbols word plan kindAt written messageLen indexBlocks isFixed looksFixed
   kernel ks found whole l a clear =
       let v = written f w ks in
       let ss = placementOf f v in
@@ -58,12 +58,12 @@ module _ (f : Params) (ok : Served f) (w : List ℕ) (small : (x : ℕ) → getD
       let ag = both (sameList I ks) (not (has (parts f * f .m) 0 (λ k. isFixed f ss k && not (looksFixed f w k)))) a in
       let same-I : I ≡ ks = list-same I ks (ag .0) in
       let lk : length ks ≡ f .m = sym (ap length same-I) ∙ index-blocks f (ok .range) ss (s .placed) (s .count) in
-      let sp : Spelled (f .q) ps (heads f w ks) =
+      let sp : Spelled (f .q) ps (firstSymbols f w ks) =
       rw lk at (heads-spelled (f .q) (indexTail f) (headOf f) (λ x. getD w x 0) ks
-      (whole-below (f .q) (heads f w ks) (heads-below (indexTail f) f (foundBound (f .q)) w ks small) whole)
+      (whole-below (f .q) (firstSymbols f w ks) (heads-below (indexTail f) f (foundBound (f .q)) w ks small) whole)
       (not-zero f w ks (taken-bare (parts f) (f .m) (looksFixed f w) ks found))) in
-      let spelled : spell (f .q) ps (rank f ss) ≡ heads f w ks = ap (spell (f .q) ps) (s .rank) ∙ spell-value (f .q) ps (heads f w ks) sp in
-      let digits : spell (f .q) ps (rank f ss) ≡ heads f w I = spelled ∙ ap (heads f w) (sym same-I) in
+      let spelled : spell (f .q) ps (rank f ss) ≡ firstSymbols f w ks = ap (spell (f .q) ps) (s .rank) ∙ spell-value (f .q) ps (firstSymbols f w ks) sp in
+      let digits : spell (f .q) ps (rank f ss) ≡ firstSymbols f w I = spelled ∙ ap (firstSymbols f w) (sym same-I) in
       let zeros : (k : ℕ) → k < parts f * f .m → isFixed f ss k ≡ true → getD w (headOf f k) 0 ≡ 0 =
       λ k lk t. by-bool (looksFixed f w k) (λ u. eqb-true (getD w (headOf f k) 0) 0 u)
       (λ u. absurd
@@ -88,7 +88,7 @@ module _ (f : Params) (ok : Served f) (w : List ℕ) (small : (x : ℕ) → getD
     taken : List ℕ
     taken = pick message (plan f at) w
 
-    past-message : (b : Bool) → hasErasure (f .q) (heads f w ks) ≡ false → v < placementCount f → agrees f w ks at ≡ true → hasErasure (f .q) taken ≡ b
+    past-message : (b : Bool) → hasErasure (f .q) (firstSymbols f w ks) ≡ false → v < placementCount f → agrees f w ks at ≡ true → hasErasure (f .q) taken ≡ b
         → must (not b) (refused erased) (accepted at taken) ≡ accepted ss ms → Accepted f (messageLen f) (word f) w ss ms
     unfolding v at taken
     past-message true h l a c e = not-accepted e
@@ -97,13 +97,13 @@ module _ (f : Params) (ok : Served f) (w : List ℕ) (small : (x : ℕ) → getD
         let e₂ : pick message (plan f (placementOf f (written f w ks))) w ≡ ms = cc in
         rw (e₂, e₁) at (kernel ks found h l a c)
 
-    past-blocks : (b : Bool) → hasErasure (f .q) (heads f w ks) ≡ false → v < placementCount f → agrees f w ks at ≡ b
+    past-blocks : (b : Bool) → hasErasure (f .q) (firstSymbols f w ks) ≡ false → v < placementCount f → agrees f w ks at ≡ b
         → must b (refused disagrees) (must (not (hasErasure (f .q) taken)) (refused erased) (accepted at taken)) ≡ accepted ss ms
         → Accepted f (messageLen f) (word f) w ss ms
     past-blocks true h l a e = past-message (hasErasure (f .q) taken) h l a refl e
     past-blocks false h l a e = not-accepted e
 
-    past-index : (b : Bool) → hasErasure (f .q) (heads f w ks) ≡ b → must (not b) (refused erased) (readRank f w ks v) ≡ accepted ss ms
+    past-index : (b : Bool) → hasErasure (f .q) (firstSymbols f w ks) ≡ b → must (not b) (refused erased) (readRank f w ks v) ≡ accepted ss ms
         → Accepted f (messageLen f) (word f) w ss ms
     unfolding readRank v at taken
     past-index true h = λ e. not-accepted e
@@ -121,4 +121,4 @@ module _ (f : Params) (ok : Served f) (w : List ℕ) (small : (x : ℕ) → getD
       go : (o : Option (List ℕ)) → indexFound (parts f) (f .m) (looksFixed f w) ≡ o → readFrom f w o ≡ accepted ss ms
           → Accepted f (messageLen f) (word f) w ss ms
       go none found = λ e. not-accepted e
-      go (some ks) found = past-index ss ms ks found (hasErasure (f .q) (heads f w ks)) refl
+      go (some ks) found = past-index ss ms ks found (hasErasure (f .q) (firstSymbols f w ks)) refl

@@ -13,7 +13,7 @@ use Rattle.cells.specs.Erasures.{hasErasure}
 use Rattle.cells.specs.Figures.{Params, inRange, isPlacement, placementCount, placementOf}
 use Rattle.construction_a.specs.Figures.{fits, parts, messageLen}
 use Rattle.construction_a.specs.Writing.{plan, word}
-use Rattle.construction_a.specs.Reading.{looksFixed, indexFound, heads, written, agrees, read}
+use Rattle.construction_a.specs.Reading.{looksFixed, indexFound, firstSymbols, written, agrees, read}
 
 abbrev pub constructionA : Params → Codec
 constructionA f = burstCodec (f .n) (f .q) (f .b) (messageLen f) (isPlacement f) (word f) (read f)
@@ -25,7 +25,7 @@ found f w = indexFound (parts f) (f .m) (looksFixed f w)
 -- I-blocks were found, and none of their first r + 1 symbols is q
 pub record IndexRead (f : Params) (w ks : List ℕ) : Type 0 where
   pub pattern : found f w ≡ some ks
-  pub whole : hasErasure (f .q) (heads f w ks) ≡ false
+  pub whole : hasErasure (f .q) (firstSymbols f w ks) ≡ false
 
 -- the value that they spell is below T, and its placement agrees
 pub record PlacementRead (f : Params) (w ks ss : List ℕ) : Type 0 where
@@ -38,7 +38,7 @@ pub record PlacementRead (f : Params) (w ks ss : List ℕ) : Type 0 where
 pub data Listed (f : Params) (w : List ℕ) : ℕ → Type 0 where
   no-pattern : found f w ≡ none → Listed f w noPattern
   -- "a q in an I-block's first r + 1 symbols"
-  erased-index : (ks : List ℕ) → found f w ≡ some ks → hasErasure (f .q) (heads f w ks) ≡ true → Listed f w erased
+  erased-index : (ks : List ℕ) → found f w ≡ some ks → hasErasure (f .q) (firstSymbols f w ks) ≡ true → Listed f w erased
   too-large : (ks : List ℕ) → IndexRead f w ks → placementCount f ≤ written f w ks → Listed f w valueTooLarge
   disagreeing : (ks : List ℕ) → IndexRead f w ks → written f w ks < placementCount f
       → agrees f w ks (placementOf f (written f w ks)) ≡ false → Listed f w disagrees

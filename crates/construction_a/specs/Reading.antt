@@ -61,18 +61,18 @@ indexFound p m looks = indexBy p m looks (bareParts p m looks) (later p (barePar
 -- ---- From the I-blocks to the answer
 
 -- the first 1 + r symbols of the I-blocks, from left to right
-abbrev pub headsWith : ℕ → Params → List ℕ → List ℕ → List ℕ
-headsWith r f w ks = flatMap (λ k. tabulate (suc r) (headOf f k) (λ x. getD w x 0)) ks
+abbrev pub firstSymbolsWith : ℕ → Params → List ℕ → List ℕ → List ℕ
+firstSymbolsWith r f w ks = flatMap (λ k. tabulate (suc r) (headOf f k) (λ x. getD w x 0)) ks
 
-unfoldable pub heads : Params → List ℕ → List ℕ → List ℕ
-heads f = headsWith (indexTail f) f
+unfoldable pub firstSymbols : Params → List ℕ → List ℕ → List ℕ
+firstSymbols f = firstSymbolsWith (indexTail f) f
 
 -- and what they spell
 abbrev pub writtenWith : ℕ → Params → List ℕ → List ℕ → ℕ
-writtenWith r f w ks = value (f .q) (places (f .m) r) (headsWith r f w ks)
+writtenWith r f w ks = value (f .q) (places (f .m) r) (firstSymbolsWith r f w ks)
 
 unfoldable pub written : Params → List ℕ → List ℕ → ℕ
-written f w ks = value (f .q) (places (f .m) (indexTail f)) (heads f w ks)
+written f w ks = value (f .q) (places (f .m) (indexTail f)) (firstSymbols f w ks)
 
 -- "the I-blocks the rule gives for it must be those read, and each F-block it gives must start with 0"
 unfoldable pub agrees : Params → List ℕ → List ℕ → List ℕ → Bool
@@ -92,7 +92,7 @@ readRank f w ks v =
 abbrev pub readFrom : Params → List ℕ → Option (List ℕ) → Reading
 readFrom f w none = refused noPattern
 readFrom f w (some ks) =
-    must (not (hasErasure (f .q) (heads f w ks))) (refused erased)
+    must (not (hasErasure (f .q) (firstSymbols f w ks))) (refused erased)
     (readRank f w ks (written f w ks))
 
 unfoldable pub read : Params → List ℕ → Reading

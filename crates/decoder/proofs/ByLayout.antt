@@ -16,7 +16,7 @@ use Rattle.cells.specs.Erasures.{foundBound, hasErasure}
 use Rattle.cells.proofs.Erasures.{erasure-is}
 use Rattle.cells.specs.Figures.{Params}
 use Rattle.construction_a.specs.Figures.{parts, headOf}
-use Rattle.construction_a.specs.Reading.{looksFixed, indexFound, headsWith, written, readRank, readFrom, read}
+use Rattle.construction_a.specs.Reading.{looksFixed, indexFound, firstSymbolsWith, written, readRank, readFrom, read}
 use Rattle.construction_b.specs.DemandTwo.{found}
 use Rattle.construction_b.specs.Figures.{LongParams, indexTail}
 use Rattle.construction_b.specs.Reading as B
@@ -27,7 +27,7 @@ use Rattle.params.specs.declared.Spells.{Spells}
 use Rattle.params.specs.declared.Spells.the-variants.{Rank, EndOffset}
 use Rattle.params.proofs.Fitting.{heads-are}
 use Rattle.params.proofs.LongFitting.{base-is}
-use Rattle.heads.specs.Written.{headsIn}
+use Rattle.heads.specs.Written.{firstSymbolsIn}
 
 -- by the value that index blocks spell
 abbrev pub readValue : Spells → Layout → List ℕ → List ℕ → Reading
@@ -36,7 +36,7 @@ readValue EndOffset l w ks = let i = getD ks 0 0 in B.readPart (longOf (figuresO
 
 abbrev readIndex : Spells → Layout → List ℕ → Option (List ℕ) → Reading
 readIndex s l w none = refused noPattern
-readIndex s l w (some ks) = must (not (hasErasure (l .q) (headsIn l w ks))) (refused erased) (readValue s l w ks)
+readIndex s l w (some ks) = must (not (hasErasure (l .q) (firstSymbolsIn l w ks))) (refused erased) (readValue s l w ks)
 
 abbrev pub indexIn : Layout → List ℕ → Option (List ℕ)
 indexIn l w = indexFound (parts (figuresOf l)) (l .m) (looksFixed (figuresOf l) w)
@@ -62,7 +62,7 @@ looks-same f w k = ap (λ (x : ℕ). eqb (getD w x 0) 0) (head-same f k)
 found-same : (f : LongParams) (w : List ℕ) → indexFound (parts (asBase f)) 1 (looksFixed (asBase f) w) ≡ alone (found f w)
 found-same f w = ap₂ (λ (p : ℕ) looks. indexFound p 1 looks) (parts-same f) (λ i k. looks-same f w k i) ∙ pattern-same (B.looksFixed f w)
 
-heads-same : (f : LongParams) (w : List ℕ) (i : ℕ) → headsWith (indexTail f) (asBase f) w (i ∷ []) ≡ B.firstSymbols f w i
+heads-same : (f : LongParams) (w : List ℕ) (i : ℕ) → firstSymbolsWith (indexTail f) (asBase f) w (i ∷ []) ≡ B.firstSymbols f w i
 unfolding flatMap
 heads-same f w i = rw (append-nil (tabulate (suc (indexTail f)) (headOf (asBase f) i) (λ x. getD w x 0)), head-same f i)
 
@@ -70,8 +70,8 @@ module _ (l : Layout) (g : LongLayoutFits l) (w : List ℕ) where
   pub long-found-is : indexIn l w ≡ alone (found (longOf (figuresOf l)) w)
   long-found-is = ap (λ (f : Params). indexFound (parts f) (f .m) (looksFixed f w)) (base-is l g) ∙ found-same (longOf (figuresOf l)) w
 
-  pub long-heads-are : (i : ℕ) → headsIn l w (i ∷ []) ≡ B.firstSymbols (longOf (figuresOf l)) w i
-  long-heads-are i = ap₂ (λ (r : ℕ) (f : Params). headsWith r f w (i ∷ [])) (g .laid .tail-is) (base-is l g) ∙ heads-same (longOf (figuresOf l)) w i
+  pub long-heads-are : (i : ℕ) → firstSymbolsIn l w (i ∷ []) ≡ B.firstSymbols (longOf (figuresOf l)) w i
+  long-heads-are i = ap₂ (λ (r : ℕ) (f : Params). firstSymbolsWith r f w (i ∷ [])) (g .laid .tail-is) (base-is l g) ∙ heads-same (longOf (figuresOf l)) w i
 
   read-long : B.read (longOf (figuresOf l)) w ≡ readIndex EndOffset l w (indexIn l w)
   unfolding B.read
@@ -103,9 +103,9 @@ module _ (l : Layout) (g : Serves l) (w : List ℕ) where
 
   module _ (ks : List ℕ) (shown : indexIn l w ≡ some ks) where
     -- no value above q is left, so that an erasure is a symbol that is not below q
-    module _ (known : allBelow (foundBound (l .q)) (headsIn l w ks) ≡ true) where
-      pub read-erased : allBelow (l .q) (headsIn l w ks) ≡ false → codingIn l .codec .decode w ≡ refused erased
-      read-erased e = read-is ∙ ap (readIndex (l .spells) l w) shown ∙ rw (erasure-is (l .q) (headsIn l w ks) known, e)
+    module _ (known : allBelow (foundBound (l .q)) (firstSymbolsIn l w ks) ≡ true) where
+      pub read-erased : allBelow (l .q) (firstSymbolsIn l w ks) ≡ false → codingIn l .codec .decode w ≡ refused erased
+      read-erased e = read-is ∙ ap (readIndex (l .spells) l w) shown ∙ rw (erasure-is (l .q) (firstSymbolsIn l w ks) known, e)
 
-      pub read-shown : allBelow (l .q) (headsIn l w ks) ≡ true → codingIn l .codec .decode w ≡ readValue (l .spells) l w ks
-      read-shown e = read-is ∙ ap (readIndex (l .spells) l w) shown ∙ rw (erasure-is (l .q) (headsIn l w ks) known, e)
+      pub read-shown : allBelow (l .q) (firstSymbolsIn l w ks) ≡ true → codingIn l .codec .decode w ≡ readValue (l .spells) l w ks
+      read-shown e = read-is ∙ ap (readIndex (l .spells) l w) shown ∙ rw (erasure-is (l .q) (firstSymbolsIn l w ks) known, e)

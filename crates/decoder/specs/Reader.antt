@@ -41,7 +41,7 @@ pub record WordLent (l : Layout) (whole : Bool) (w out : List ℕ) : Type 0 wher
   pub room : length out ≡ l .«message_len»
 
 -- the same with the value that index blocks without an erasure spell, no further than T: of Construction A
-pub record Ranked (l : Layout) (ks : List ℕ) (v : ℕ) (whole : Bool) (w out : List ℕ) : Type 0 where
+pub record RankRead (l : Layout) (ks : List ℕ) (v : ℕ) (whole : Bool) (w out : List ℕ) : Type 0 where
   pub fitting : LayoutFits l
   pub lent : WordLent l whole w out
   pub index : IndexRead (figuresOf l) w ks

@@ -5,7 +5,7 @@ ghost use lib.ListN.{take};
 ghost use Rattle.combinatorics.specs.Lists.{allBelow};
 ghost use Rattle.cells.specs.Erasures.{foundBound};
 ghost use Rattle.params.specs.Given.{figuresOf, HeadsOf};
-ghost use Rattle.heads.specs.Written.{headsIn, OpenHeads};
+ghost use Rattle.heads.specs.Written.{firstSymbolsIn, OpenHeads};
 use params::Layout;
 use placements::Placement;
 
@@ -29,7 +29,7 @@ pub fn index_whole(
     word: &[u8],
 ) -> bool
     requires { ⌜ (whole ≡ allBelow (layout .q) (now word)) × OpenHeads layout (now word) index × HeadsOf (figuresOf layout) (now heads) ⌝ }
-    ensures { λ r. ⌜ r ≡ allBelow (layout .q) (headsIn layout (now (word .entry)) (take (layout .m) index)) ⌝ }
+    ensures { λ r. ⌜ r ≡ allBelow (layout .q) (firstSymbolsIn layout (now (word .entry)) (take (layout .m) index)) ⌝ }
 {
     if whole {
         return true;

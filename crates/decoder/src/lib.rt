@@ -11,7 +11,7 @@ ghost use Rattle.placements.specs.Bridge.{startsIn};
 ghost use Rattle.stretches.specs.ByBlock.{Tables};
 ghost use Rattle.decoder.specs.Answer.{wordNumber, decodedAs};
 ghost use Rattle.decoder.specs.DemandTwo.{DecodesExactly};
-ghost use Rattle.decoder.specs.Reader.{readMessage, WordLent, Ranked, Located};
+ghost use Rattle.decoder.specs.Reader.{readMessage, WordLent, RankRead, Located};
 use params::Figures;
 use params::Layout;
 use params::LayoutAnswer;
@@ -113,7 +113,7 @@ fn decode_rank(
     word: &[u8],
     message: &mut [u8],
 ) -> Decoded
-    requires { ⌜ Ranked layout (take (layout .m) index) rank whole (now word) (now message) × HeadsOf (figuresOf layout) (now heads) ⌝ }
+    requires { ⌜ RankRead layout (take (layout .m) index) rank whole (now word) (now message) × HeadsOf (figuresOf layout) (now heads) ⌝ }
     ensures { λ r. ⌜ decodedAs r (now (message .exit))
         ≡ decodedFrom (layout .b) (now (message .entry))
         (readRank (figuresOf layout) (now (word .entry)) (take (layout .m) index) (written (figuresOf layout) (now (word .entry)) (take (layout .m) index))) ⌝ }

@@ -17,7 +17,7 @@ use Rattle.cells.specs.Erasures.{hasErasure}
 use Rattle.cells.specs.Figures.{Params, placementCount, placementOf}
 use Rattle.construction_a.specs.Figures.{parts}
 use Rattle.construction_a.specs.Writing.{plan}
-use Rattle.construction_a.specs.Reading.{looksFixed, indexFound, heads, written, agrees, readRank, readFrom, read}
+use Rattle.construction_a.specs.Reading.{looksFixed, indexFound, firstSymbols, written, agrees, readRank, readFrom, read}
 use Rattle.construction_b.specs.Figures.{LongParams, partLen}
 use Rattle.construction_b.specs.Writing.{plan as planB}
 use Rattle.construction_b.specs.Reading as B
@@ -103,7 +103,7 @@ judges-a f w = go (indexFound (parts f) (f .m) (looksFixed f w))
     go none = seven
     go (some ks) =
         let v = written f w ks in
-        tested Judged (not (hasErasure (f .q) (heads f w ks))) nineteen
+        tested Judged (not (hasErasure (f .q) (firstSymbols f w ks))) nineteen
         (tested Judged (ltb v (placementCount f)) eight
         (tested Judged (agrees f w ks (placementOf f v)) nine
         (tested Judged (not (hasErasure (f .q) (pick message (plan f (placementOf f v)) w))) nineteen (taken _ _))))

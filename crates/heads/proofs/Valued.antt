@@ -14,7 +14,7 @@ use Rattle.cells.specs.Digits.{plain, span, value, places}
 use Rattle.cells.proofs.Digits.{horner, horner-is, horner-capped, horner-same, horner-blocks}
 use Rattle.cells.specs.Figures.{Params}
 use Rattle.construction_a.specs.Figures.{headOf}
-use Rattle.construction_a.specs.Reading.{looksFixed, headsWith, writtenWith}
+use Rattle.construction_a.specs.Reading.{looksFixed, firstSymbolsWith, writtenWith}
 use Rattle.heads.specs.Written.{plainPlaces}
 
 -- ---- Digit by digit
@@ -77,13 +77,13 @@ module _ (q r cap high : ℕ) (h : 2 ≤ q) where
 -- the digits of the first j of a list of blocks are taken in
 pub record Summed (r : ℕ) (f : Params) (w ks : List ℕ) (cap j v : ℕ) : Type 0 where
   pub most : v ≤ cap
-  pub same : min (horner (f .q) (places (f .m - j) r) (headsWith r f w (drop j (take (f .m) ks))) v) cap ≡ min (writtenWith r f w (take (f .m) ks)) cap
+  pub same : min (horner (f .q) (places (f .m - j) r) (firstSymbolsWith r f w (drop j (take (f .m) ks))) v) cap ≡ min (writtenWith r f w (take (f .m) ks)) cap
 
 module _ (r : ℕ) (f : Params) (w ks : List ℕ) (cap : ℕ) (h : 2 ≤ f .q) where
   pub summed-none : Summed r f w ks cap 0 0
   summed-none =
       let e : f .m - 0 ≡ f .m = omega arith in
-      let hs = headsWith r f w (take (f .m) ks) in
+      let hs = firstSymbolsWith r f w (take (f .m) ks) in
       record {
         most = omega arith;
         same = rw e (ap (λ (y : ℕ). min y cap) (horner-is (f .q) (places (f .m) r) hs 0 ∙ omega arith));
@@ -91,8 +91,8 @@ module _ (r : ℕ) (f : Params) (w ks : List ℕ) (cap : ℕ) (h : 2 ≤ f .q) w
 
   module _ (j v : ℕ) where
     one-block : (part : List ℕ) → j < f .m → f .m ≤ length ks → ((i : ℕ) → i < suc r → getD part i 0 ≡ getD w (headOf f (getD ks j 0) + i) 0)
-        → horner (f .q) (places (f .m - j) r) (headsWith r f w (drop j (take (f .m) ks))) v
-        ≡ horner (f .q) (places (f .m - (j + 1)) r) (headsWith r f w (drop (j + 1) (take (f .m) ks))) (horner (f .q) (places 1 r) part v)
+        → horner (f .q) (places (f .m - j) r) (firstSymbolsWith r f w (drop j (take (f .m) ks))) v
+        ≡ horner (f .q) (places (f .m - (j + 1)) r) (firstSymbolsWith r f w (drop (j + 1) (take (f .m) ks))) (horner (f .q) (places 1 r) part v)
     one-block part l g p =
         let e : f .m - j ≡ suc (f .m - (j + 1)) = omega arith in
         rw (e, left-next (f .m) j ks l g)
@@ -103,7 +103,7 @@ module _ (r : ℕ) (f : Params) (w ks : List ℕ) (cap : ℕ) (h : 2 ≤ f .q) w
     summed-on part l g p s =
         let ps = places 1 r in
         let rest = places (f .m - (j + 1)) r in
-        let hs = headsWith r f w (drop (j + 1) (take (f .m) ks)) in
+        let hs = firstSymbolsWith r f w (drop (j + 1) (take (f .m) ks)) in
         record {
           most = omega arith;
           same = rw (← horner-is (f .q) ps part v)

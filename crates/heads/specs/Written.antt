@@ -6,14 +6,14 @@ use Prim.Native.Nat.{ℕ, _≤_, _<_}
 use lib.ListN.{length, getD, replicate}
 use Rattle.cells.specs.Digits.{Place, plain}
 use Rattle.construction_a.specs.Figures.{blocks}
-use Rattle.construction_a.specs.Reading.{looksFixed, headsWith, writtenWith}
+use Rattle.construction_a.specs.Reading.{looksFixed, firstSymbolsWith, writtenWith}
 use Rattle.params.specs.declared.Layout.{Layout}
 use Rattle.params.specs.Given.{figuresOf}
 use Rattle.heads.specs.Given.{CompleteWord}
 
 -- the first 1 + r symbols of blocks, by the layout's own r, and what they spell
-abbrev pub headsIn : Layout → List ℕ → List ℕ → List ℕ
-headsIn l = headsWith (l .«index_tail») (figuresOf l)
+abbrev pub firstSymbolsIn : Layout → List ℕ → List ℕ → List ℕ
+firstSymbolsIn l = firstSymbolsWith (l .«index_tail») (figuresOf l)
 
 abbrev pub writtenIn : Layout → List ℕ → List ℕ → ℕ
 writtenIn l = writtenWith (l .«index_tail») (figuresOf l)

@@ -6,7 +6,7 @@ ghost use lib.ListN.{take};
 ghost use Rattle.cells.specs.Digits.{span, value, places};
 ghost use Rattle.combinatorics.specs.Lists.{allBelow};
 ghost use Rattle.params.specs.Given.{figuresOf, HeadsOf};
-ghost use Rattle.heads.specs.Written.{headsIn, writtenIn, OpenHeads, LeadsIn, plainPlaces};
+ghost use Rattle.heads.specs.Written.{firstSymbolsIn, writtenIn, OpenHeads, LeadsIn, plainPlaces};
 use params::Layout;
 use placements::Placement;
 use symbols::numbers::BYTE_VALUES;
@@ -41,7 +41,7 @@ pub fn heads_below(
     blocks: [u8; Placement::MAX],
 ) -> bool
     requires { ⌜ OpenHeads layout (now word) blocks × HeadsOf (figuresOf layout) (now heads) ⌝ }
-    ensures { λ r. ⌜ r ≡ allBelow (layout .q) (headsIn layout (now (word .entry)) (take (layout .m) blocks)) ⌝ }
+    ensures { λ r. ⌜ r ≡ allBelow (layout .q) (firstSymbolsIn layout (now (word .entry)) (take (layout .m) blocks)) ⌝ }
 {
     let mut j: usize = 0;
     while j < layout.m {

@@ -23,7 +23,7 @@ use Rattle.construction_a.specs.Figures.{parts, blockMin, indexTail, fits, mess
 use Rattle.cells.specs.Round.{next, later}
 use Rattle.construction_a.specs.Writing.{becomes, withBurst, withBursts, isBurst, partCount, partWith, chosen, beside, isChosen, isIndexIn, isIndex}
 use Rattle.construction_a.specs.Writing.{indexBlocks, isFixed, kindAt, plan, word}
-use Rattle.construction_a.specs.Reading.{looksFixed, bareParts, openBlocks, indexInPart, collect, indexFound, heads, written, agrees, readRank, read}
+use Rattle.construction_a.specs.Reading.{looksFixed, bareParts, openBlocks, indexInPart, collect, indexFound, firstSymbols, written, agrees, readRank, read}
 use Rattle.construction_a.specs.Outcomes.{Held, held, Encoded, coding}
 use Rattle.construction_a.specs.DemandTwo.{constructionA}
 use Rattle.jobs.specs.declared.Entry.{Entry}
@@ -197,7 +197,7 @@ pub computed : Computed
 unfolding all any sameList sum has first members tabulate top choose rankFrom unrankDown unrank apart inBurst placements reduceFrom expandFrom rankOf
     startsOf byteWidth payloadLen pieceLen pieceStart blockAt blockHead blockWith weave pick span spell value places inRange parts blockMin leastTail
     indexTail fits messageLen becomes withBurst withBursts isBurst next partCount partWith chosen beside isChosen isIndexIn isIndex indexBlocks isFixed
-    cellOf kindAt plan word looksFixed later bareParts openBlocks indexInPart collect indexFound heads written agrees foundBound hasErasure readRank read
+    cellOf kindAt plan word looksFixed later bareParts openBlocks indexInPart collect indexFound firstSymbols written agrees foundBound hasErasure readRank read
     comesTrue firstEntry replaceFirst put twice decide tableFrom carriesJob jobNumber messageOf payloadIn spellsPayload jobWriteOut jobReading jobReadOut
     transfer spelling writeOrder readOrder flatMap
 computed =

@@ -13,7 +13,7 @@ use Rattle.combinatorics.proofs.Cases.{by-bool, eqb-same, eqb-true, leb-holds}
 use Rattle.combinatorics.proofs.Stretch.{bit-le}
 use Rattle.jobs.specs.declared.Entry.{Entry}
 use Rattle.jobs.specs.declared.Entry.the-variants.{Free, Open, OnHold, Cancelled}
-use Rattle.jobs.specs.Jobs.{isHeld}
+use Rattle.jobs.specs.Jobs.{takesSlot}
 use Rattle.jobs.specs.Table.{standing, isFree, holds, firstEntry, lookup, used, replaceFirst, again, twice}
 
 -- ---- One entry
@@ -38,7 +38,7 @@ holds-only (OnHold x) n k t = ap (λ (y : ℕ). eqb y k) (eqb-true x n t)
 holds-only (Cancelled x was) n k t = ap (λ (y : ℕ). eqb y k) (eqb-true x n t)
 
 -- an entry that is not free is held, and counts
-counted : (e : Entry) → bit (isHeld (standing e)) ≡ bit (not (isFree e))
+counted : (e : Entry) → bit (takesSlot (standing e)) ≡ bit (not (isFree e))
 counted Free = refl
 counted (Open x) = refl
 counted (OnHold x) = refl
@@ -124,7 +124,7 @@ pub record Stored (es next : List Entry) (old new : Entry) : Type 0 where
   pub slots : length next ≡ length es
   pub at : (k : ℕ) → lookup next k ≡ cond (holds k new) new (cond (holds k old) Free (lookup es k))
   pub once : twice next ≡ false
-  pub count : used next + bit (isHeld (standing old)) ≡ used es + bit (isHeld (standing new))
+  pub count : used next + bit (takesSlot (standing old)) ≡ used es + bit (takesSlot (standing new))
 
 -- the new entry's number is the old one's, or the table doesn't hold it
 abbrev pub Fresh : List Entry → Entry → Entry → Type 0
@@ -175,7 +175,7 @@ module _ (new : Entry) where
 -- ---- How many are held
 
 -- a number that is held counts
-pub held-le : (es : List Entry) (n : ℕ) → bit (isHeld (standing (lookup es n))) ≤ used es
+pub held-le : (es : List Entry) (n : ℕ) → bit (takesSlot (standing (lookup es n))) ≤ used es
 unfolding used firstEntry
 held-le [] n = omega arith
 held-le (e ∷ es) n = by-bool (holds n e) (λ t. rw t (omega arith)) (λ t. rw t (omega (arith, held-le es n)))
@@ -183,7 +183,7 @@ held-le (e ∷ es) n = by-bool (holds n e) (λ t. rw t (omega arith)) (λ t. rw 
 used-le : (es : List Entry) → used es ≤ length es
 unfolding used
 used-le [] = omega arith
-used-le (e ∷ es) = omega (arith, bit-le (isHeld (standing e)), used-le es)
+used-le (e ∷ es) = omega (arith, bit-le (takesSlot (standing e)), used-le es)
 
 -- a free entry is there exactly where not all are used
 pub room-is : (es : List Entry) → any isFree es ≡ ltb (used es) (length es)
@@ -191,9 +191,9 @@ unfolding any used
 room-is [] = refl
 room-is (e ∷ es) =
     by-bool (isFree e)
-    (λ t. rw t (sym (leb-holds (suc (bit (isHeld (standing e)) + used es)) (suc (length es)) (omega (arith, rw t at (counted e), used-le es)))))
+    (λ t. rw t (sym (leb-holds (suc (bit (takesSlot (standing e)) + used es)) (suc (length es)) (omega (arith, rw t at (counted e), used-le es)))))
     (λ t.
-    let u : bit (isHeld (standing e)) + used es ≡ suc (used es) = omega (arith, rw t at (counted e)) in
+    let u : bit (takesSlot (standing e)) + used es ≡ suc (used es) = omega (arith, rw t at (counted e)) in
     rw (t, u, room-is es) (sym (leb·suc-suc (suc (used es)) (length es))))
 
 -- ---- One entry alone
@@ -226,7 +226,7 @@ module _ (e : Entry) where
   alone-once (suc m) zero l = once-more e (replicate m Free) (λ n _. free-lookup m n) (free-once m)
   alone-once (suc m) (suc i) l = alone-once m i (omega arith)
 
-  pub alone-used : (m i : ℕ) → i < m → used (set (replicate m Free) i e) ≡ bit (isHeld (standing e))
+  pub alone-used : (m i : ℕ) → i < m → used (set (replicate m Free) i e) ≡ bit (takesSlot (standing e))
   unfolding used
   alone-used zero i l = absurd (omega arith)
   alone-used (suc m) zero l = omega (arith, free-used m)

@@ -33,11 +33,11 @@ pub data Status : Type 0 where
   cancelled : Status → Status
 
 -- "open or cancelled"; document 02, ticket 10: "a held number counts among the 64 as an open one does": what counts among the 64
-abbrev pub isHeld : Status → Bool
-isHeld unknown = false
-isHeld opened = true
-isHeld onHold = true
-isHeld (cancelled s) = true
+abbrev pub takesSlot : Status → Bool
+takesSlot unknown = false
+takesSlot opened = true
+takesSlot onHold = true
+takesSlot (cancelled s) = true
 
 -- "Writing or reading a job requires it open", and finishing does too. "12: number cancelled. .. 14: not open."
 -- document 02, ticket 10: "It refuses with 23, after 12 and before 14, reading, writing, finishing or holding a held job"

@@ -13,7 +13,7 @@ use Rattle.jobs.specs.declared.Entry.the-variants.{Free, Open, OnHold, C
 use Rattle.jobs.specs.declared.Before.{Before}
 use Rattle.jobs.specs.declared.Before.the-variants.{WasAbsent, WasOpen, WasOnHold}
 use Rattle.jobs.specs.Jobs.{slotCount, Kind, opening, cancelling, finishing, reinstating, holding, releasing, isJob, Status, unknown, opened, onHold}
-use Rattle.jobs.specs.Jobs.{cancelled, isHeld, needsOpen}
+use Rattle.jobs.specs.Jobs.{cancelled, takesSlot, needsOpen}
 
 -- document 02, ticket 7: "what it was for that number before its cancellation: open, or absent if it was unknown"; ticket 10: "and reinstating gives back
 -- held"
@@ -53,7 +53,7 @@ lookup es n = firstEntry (holds n) es
 -- how many numbers the table holds
 unfoldable pub used : List Entry → ℕ
 used [] = 0
-used (e ∷ es) = bit (isHeld (standing e)) + used es
+used (e ∷ es) = bit (takesSlot (standing e)) + used es
 
 -- "the empty book"
 abbrev pub emptyTable : List Entry

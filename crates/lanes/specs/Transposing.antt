@@ -5,7 +5,7 @@ use Prim.Native.Nat.{ℕ, _+_, _*_, _≤_, _<_}
 use lib.ListN.{length, getD}
 
 -- two lent buffers, each with room for the table
-pub record HoldTable (rows columns : ℕ) (from to : List ℕ) : Type 0 where
+pub record SizedTables (rows columns : ℕ) (from to : List ℕ) : Type 0 where
   pub source : length from ≡ rows * columns
   pub room : length to ≡ rows * columns
 

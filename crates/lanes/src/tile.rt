@@ -3,7 +3,7 @@ ghost use mathlib.Core.Path.{_≡_};
 ghost use Prim.Native.Nat.{_+_, _≤_};
 ghost use lib.ListN.{length};
 ghost use Rattle.lanes.specs.Interleaving.{transposedTable};
-ghost use Rattle.lanes.specs.Transposing.{HoldTable, CellsMoved, LinesWithin, LinesCopied};
+ghost use Rattle.lanes.specs.Transposing.{SizedTables, CellsMoved, LinesWithin, LinesCopied};
 
 // The rows of a tile, and its columns.
 pub const TILE: usize = 16;
@@ -15,7 +15,7 @@ const HALF: usize = 128;
 
 // The tile whose first cell is in column `left` and row `top`.
 pub fn move_tile(rows: usize, columns: usize, left: usize, top: usize, from: &[u8], to: &mut [u8])
-    requires { ⌜ HoldTable rows columns (now from) (now to) × (left + 16 ≤ columns) × (top + 16 ≤ rows) ⌝ }
+    requires { ⌜ SizedTables rows columns (now from) (now to) × (left + 16 ≤ columns) × (top + 16 ≤ rows) ⌝ }
     ensures { λ _. ⌜ CellsMoved rows columns (now (from .entry)) (now (to .entry)) (now (to .exit)) left (left + 16) top (top + 16) ⌝ }
 {
     let mut cells = [0u8; CELLS];
@@ -34,7 +34,7 @@ fn move_by(
     cells: &mut [u8],
     spare: &mut [u8],
 )
-    requires { ⌜ HoldTable rows columns (now from) (now to) × (left + 16 ≤ columns) × (top + 16 ≤ rows) × (length (now cells) ≡ 256)
+    requires { ⌜ SizedTables rows columns (now from) (now to) × (left + 16 ≤ columns) × (top + 16 ≤ rows) × (length (now cells) ≡ 256)
         × (length (now spare) ≡ 256) ⌝ }
     ensures { λ _. ⌜ CellsMoved rows columns (now (from .entry)) (now (to .entry)) (now (to .exit)) left (left + 16) top (top + 16) ⌝ }
 {

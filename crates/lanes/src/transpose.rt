@@ -2,13 +2,13 @@
 ghost use mathlib.Core.Path.{_≡_};
 ghost use Prim.Native.Nat.{_+_, _*_, _≤_, _<_};
 ghost use Rattle.lanes.specs.Interleaving.{transposedTable};
-ghost use Rattle.lanes.specs.Transposing.{HoldTable, CellsMoved};
+ghost use Rattle.lanes.specs.Transposing.{SizedTables, CellsMoved};
 use crate::tile;
 use crate::tile::TILE;
 
 // `from` has so many rows of so many columns; `to` gets its columns one after another.
 pub fn transpose(rows: usize, columns: usize, from: &[u8], to: &mut [u8])
-    requires { ⌜ HoldTable rows columns (now from) (now to) ⌝ }
+    requires { ⌜ SizedTables rows columns (now from) (now to) ⌝ }
     ensures { λ _. ⌜ now (to .exit) ≡ transposedTable rows columns (now (from .entry)) ⌝ }
 {
     let across = columns / TILE;
@@ -20,7 +20,7 @@ pub fn transpose(rows: usize, columns: usize, from: &[u8], to: &mut [u8])
 
 // So many tiles across and so many down.
 fn move_tiles(rows: usize, columns: usize, across: usize, down: usize, from: &[u8], to: &mut [u8])
-    requires { ⌜ HoldTable rows columns (now from) (now to) × (across * 16 ≤ columns) × (down * 16 ≤ rows) ⌝ }
+    requires { ⌜ SizedTables rows columns (now from) (now to) × (across * 16 ≤ columns) × (down * 16 ≤ rows) ⌝ }
     ensures { λ _. ⌜ CellsMoved rows columns (now (from .entry)) (now (to .entry)) (now (to .exit)) 0 (across * 16) 0 (down * 16) ⌝ }
 {
     let mut k: usize = 0;
@@ -32,7 +32,7 @@ fn move_tiles(rows: usize, columns: usize, across: usize, down: usize, from: &[u
 
 // So many tiles down from the first row, in the columns from `left` on.
 fn move_band(rows: usize, columns: usize, left: usize, down: usize, from: &[u8], to: &mut [u8])
-    requires { ⌜ HoldTable rows columns (now from) (now to) × (left + 16 ≤ columns) × (down * 16 ≤ rows) ⌝ }
+    requires { ⌜ SizedTables rows columns (now from) (now to) × (left + 16 ≤ columns) × (down * 16 ≤ rows) ⌝ }
     ensures { λ _. ⌜ CellsMoved rows columns (now (from .entry)) (now (to .entry)) (now (to .exit)) left (left + 16) 0 (down * 16) ⌝ }
 {
     let mut k: usize = 0;
@@ -44,7 +44,7 @@ fn move_band(rows: usize, columns: usize, left: usize, down: usize, from: &[u8],
 
 // The rows from `top` on, below the tiles, as far as `right`. Row by row, so that the inner loop is the long one.
 fn move_rows(rows: usize, columns: usize, right: usize, top: usize, from: &[u8], to: &mut [u8])
-    requires { ⌜ HoldTable rows columns (now from) (now to) × (right ≤ columns) × (top ≤ rows) ⌝ }
+    requires { ⌜ SizedTables rows columns (now from) (now to) × (right ≤ columns) × (top ≤ rows) ⌝ }
     ensures { λ _. ⌜ CellsMoved rows columns (now (from .entry)) (now (to .entry)) (now (to .exit)) 0 right top rows ⌝ }
 {
     let mut j = top;
@@ -56,7 +56,7 @@ fn move_rows(rows: usize, columns: usize, right: usize, top: usize, from: &[u8],
 
 // Row j as far as `right`.
 fn move_row(rows: usize, columns: usize, right: usize, j: usize, from: &[u8], to: &mut [u8])
-    requires { ⌜ HoldTable rows columns (now from) (now to) × (right ≤ columns) × (j < rows) ⌝ }
+    requires { ⌜ SizedTables rows columns (now from) (now to) × (right ≤ columns) × (j < rows) ⌝ }
     ensures { λ _. ⌜ CellsMoved rows columns (now (from .entry)) (now (to .entry)) (now (to .exit)) 0 right j (j + 1) ⌝ }
 {
     let mut i: usize = 0;
@@ -68,7 +68,7 @@ fn move_row(rows: usize, columns: usize, right: usize, j: usize, from: &[u8], to
 
 // The columns from `left` on, beside the tiles. Column by column, for the same reason.
 fn move_columns(rows: usize, columns: usize, left: usize, from: &[u8], to: &mut [u8])
-    requires { ⌜ HoldTable rows columns (now from) (now to) × (left ≤ columns) ⌝ }
+    requires { ⌜ SizedTables rows columns (now from) (now to) × (left ≤ columns) ⌝ }
     ensures { λ _. ⌜ CellsMoved rows columns (now (from .entry)) (now (to .entry)) (now (to .exit)) left columns 0 rows ⌝ }
 {
     let mut i = left;
@@ -80,7 +80,7 @@ fn move_columns(rows: usize, columns: usize, left: usize, from: &[u8], to: &mut 
 
 // Column i.
 fn move_column(rows: usize, columns: usize, i: usize, from: &[u8], to: &mut [u8])
-    requires { ⌜ HoldTable rows columns (now from) (now to) × (i < columns) ⌝ }
+    requires { ⌜ SizedTables rows columns (now from) (now to) × (i < columns) ⌝ }
     ensures { λ _. ⌜ CellsMoved rows columns (now (from .entry)) (now (to .entry)) (now (to .exit)) i (i + 1) 0 rows ⌝ }
 {
     let mut j: usize = 0;

@@ -11,7 +11,7 @@ ghost use Rattle.larsson.specs.Reading.{read};
 ghost use Rattle.params.specs.Bridge.{given};
 ghost use Rattle.decoder.specs.Answer.{wordNumber, decodedAs};
 ghost use Rattle.decoder.specs.DemandTwo.{DecodesExactlyUnder};
-ghost use Rattle.larsson_params.specs.Given.{larssonFiguresOf, LarssonLayoutFits, StartsOf};
+ghost use Rattle.larsson_params.specs.Given.{larssonFiguresOf, LarssonLayoutFits, SubStartsOf};
 ghost use Rattle.larsson_decoder.specs.Located.{LarssonWordLent, LocatedAt};
 use crate::locate::locate;
 use decoder::Decoded;
@@ -81,7 +81,7 @@ fn decode_found(
     word: &[u8],
     message: &mut [u8],
 ) -> Decoded
-    requires { ⌜ LarssonWordLent layout (now word) (now message) × StartsOf (larssonFiguresOf layout) (now starts) ⌝ }
+    requires { ⌜ LarssonWordLent layout (now word) (now message) × SubStartsOf (larssonFiguresOf layout) (now starts) ⌝ }
     ensures { λ r. ⌜ decodedAs r (now (message .exit)) ≡ decodedFrom (layout .b) (now (message .entry)) (read (larssonFiguresOf layout) (now (word .entry))) ⌝ }
 {
     let located = locate(layout, starts, word);
@@ -106,7 +106,7 @@ fn decode_placed(
     word: &[u8],
     message: &mut [u8],
 ) -> Decoded
-    requires { ⌜ LarssonWordLent layout (now word) (now message) × StartsOf (larssonFiguresOf layout) (now starts)
+    requires { ⌜ LarssonWordLent layout (now word) (now message) × SubStartsOf (larssonFiguresOf layout) (now starts)
         × LocatedAt (larssonFiguresOf layout) (now word) rank placement (now kinds) ⌝ }
     ensures { λ r. ⌜ decodedAs r (now (message .exit)) ≡ decodedFrom (layout .b) (now (message .entry)) (read (larssonFiguresOf layout) (now (word .entry))) ⌝ }
 {

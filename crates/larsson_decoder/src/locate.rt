@@ -2,7 +2,7 @@
 ghost use mathlib.Core.Path.{_≡_};
 ghost use Prim.Native.Nat.{_<_};
 ghost use Rattle.decoder.specs.declared.WordAnswer.the-variants.{Refused};
-ghost use Rattle.larsson_params.specs.Given.{larssonFiguresOf, StartsOf};
+ghost use Rattle.larsson_params.specs.Given.{larssonFiguresOf, SubStartsOf};
 ghost use Rattle.sub_blocks.specs.Found.{FoundWord};
 ghost use Rattle.larsson_decoder.specs.Located.{MajorityValued, LocatedIn};
 use decoder::WordAnswer;
@@ -24,7 +24,7 @@ pub struct Located {
 
 // The placement that a found word shows, where sub-blocks have a symbol. Refusals: 21 8 9.
 pub fn locate(layout: LarssonLayout, starts: &[u16; Layout::MAX_HEADS], word: &[u8]) -> Located
-    requires { ⌜ FoundWord layout (now word) × StartsOf (larssonFiguresOf layout) (now starts) × (0 < layout .«sub_len») ⌝ }
+    requires { ⌜ FoundWord layout (now word) × SubStartsOf (larssonFiguresOf layout) (now starts) × (0 < layout .«sub_len») ⌝ }
     ensures { λ r. ⌜ LocatedIn (larssonFiguresOf layout) (now (word .entry)) r ⌝ }
 {
     let block = majority_block(layout, starts, word);
@@ -46,7 +46,7 @@ fn locate_rank(
     block: usize,
     rank: u64,
 ) -> Located
-    requires { ⌜ MajorityValued layout (now word) block rank × StartsOf (larssonFiguresOf layout) (now starts) ⌝ }
+    requires { ⌜ MajorityValued layout (now word) block rank × SubStartsOf (larssonFiguresOf layout) (now starts) ⌝ }
     ensures { λ r. ⌜ LocatedIn (larssonFiguresOf layout) (now (word .entry)) r ⌝ }
 {
     let placement = Placement::unrank(layout.n as u32, layout.m as u32, layout.b as u32, rank);

@@ -5,7 +5,7 @@ ghost use Prim.Native.Nat.{_<_};
 ghost use Rattle.larsson.specs.Writing;
 ghost use Rattle.larsson.specs.Writing.{rankDigits};
 ghost use Rattle.placements.specs.Bridge.{startsIn};
-ghost use Rattle.larsson_params.specs.Given.{larssonFiguresOf, StartsOf};
+ghost use Rattle.larsson_params.specs.Given.{larssonFiguresOf, SubStartsOf};
 ghost use Rattle.sub_blocks.specs.Given.{BearersOf};
 ghost use Rattle.larsson_encoder.specs.Writable.{LarssonWritable};
 use encoder::digits::spelled;
@@ -57,7 +57,7 @@ fn fill_digits(
     message: &[u8],
     word: &mut [u8],
 )
-    requires { ⌜ LarssonWritable layout at (now message) (now word) × (0 < layout .«sub_len») × StartsOf (larssonFiguresOf layout) (now starts)
+    requires { ⌜ LarssonWritable layout at (now message) (now word) × (0 < layout .«sub_len») × SubStartsOf (larssonFiguresOf layout) (now starts)
         × BearersOf (larssonFiguresOf layout) (startsIn at) (now kinds) × (now digits ≡ 1 ∷ rankDigits (larssonFiguresOf layout) (startsIn at)) ⌝ }
     ensures { λ _. ⌜ now (word .exit) ≡ Rattle.larsson.specs.Writing.word (larssonFiguresOf layout) (startsIn at) (now (message .entry)) ⌝ }
 {

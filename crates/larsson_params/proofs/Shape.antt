@@ -11,7 +11,7 @@ use Rattle.cells.proofs.Figures.{Ranged}
 use Rattle.larsson.specs.Figures.{subLen, subBlocks, subStart}
 use Rattle.larsson.proofs.Figures.{Served, serve, sub-within}
 use Rattle.larsson_params.specs.declared.LarssonLayout.{LarssonLayout}
-use Rattle.larsson_params.specs.Given.{larssonFiguresOf, LarssonLayoutFits, StartsOf}
+use Rattle.larsson_params.specs.Given.{larssonFiguresOf, LarssonLayoutFits, SubStartsOf}
 
 module _ (l : LarssonLayout) (g : LarssonLayoutFits l) where
   pub served : Served (larssonFiguresOf l)
@@ -37,6 +37,6 @@ module _ (l : LarssonLayout) (g : LarssonLayoutFits l) where
   sub-most i h = omega (arith, sub-room i h, bound .n-most)
 
   -- and so by the table
-  pub starts-room : (starts : List ℕ) → StartsOf (larssonFiguresOf l) starts → (i : ℕ) → i < subBlocks (larssonFiguresOf l)
+  pub starts-room : (starts : List ℕ) → SubStartsOf (larssonFiguresOf l) starts → (i : ℕ) → i < subBlocks (larssonFiguresOf l)
       → getD starts i 0 + l .«sub_len» ≤ l .n
   starts-room starts h i w = omega (arith, h .0 i w, sub-room i w)

@@ -20,5 +20,5 @@ pub record LarssonLayoutFits (l : LarssonLayout) : Type 0 where
   pub laid : LarssonLaidOut (larssonFiguresOf l) l
 
 -- the first position of each sub-block, and behind them the word's length
-abbrev pub StartsOf : Params → List ℕ → Type 0
-StartsOf f starts = ((i : ℕ) → i < subBlocks f → getD starts i 0 ≡ subStart f i) × (getD starts (subBlocks f) 0 ≡ f .n)
+abbrev pub SubStartsOf : Params → List ℕ → Type 0
+SubStartsOf f starts = ((i : ℕ) → i < subBlocks f → getD starts i 0 ≡ subStart f i) × (getD starts (subBlocks f) 0 ≡ f .n)

@@ -1,5 +1,5 @@
 // Where the sub-blocks of a word start, worked out once for a reading or a writing, which asks for it many times. Assumes nothing.
-ghost use Rattle.larsson_params.specs.Given.{larssonFiguresOf, LarssonLayoutFits, StartsOf};
+ghost use Rattle.larsson_params.specs.Given.{larssonFiguresOf, LarssonLayoutFits, SubStartsOf};
 use crate::LarssonLayout;
 use params::Layout;
 use params::cut;
@@ -7,7 +7,7 @@ use params::cut;
 // The first position of each sub-block, and behind them the word's length.
 pub fn starts_of(layout: LarssonLayout) -> [u16; Layout::MAX_HEADS]
     requires { ⌜ LarssonLayoutFits layout ⌝ }
-    ensures { λ r. ⌜ StartsOf (larssonFiguresOf layout) r ⌝ }
+    ensures { λ r. ⌜ SubStartsOf (larssonFiguresOf layout) r ⌝ }
 {
     let gaps = 2 * layout.m;
     let mut starts = [0u16; Layout::MAX_HEADS];

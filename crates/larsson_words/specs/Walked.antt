@@ -9,7 +9,7 @@ use Rattle.larsson.specs.Figures.{subLen, fits, messageLen}
 use Rattle.larsson.specs.Writing.{rankDigits}
 use Rattle.placements.specs.declared.Placement.{Placement}
 use Rattle.placements.specs.Bridge.{startsIn}
-use Rattle.larsson_params.specs.Given.{StartsOf}
+use Rattle.larsson_params.specs.Given.{SubStartsOf}
 use Rattle.sub_blocks.specs.Given.{BearersOf}
 use Rattle.stretches.specs.declared.Walk.{Walk}
 
@@ -29,7 +29,7 @@ pub record Walked (f : Params) (w : Walk) (at : Placement) (starts kinds : List 
   pub walk-is : w ≡ subBlocksOf (f .n) (f .m) (f .b) (subLen f)
   pub held : at .count ≡ f .m
   pub placed : isPlacement f (startsIn at) ≡ true
-  pub starts-are : StartsOf f starts
+  pub starts-are : SubStartsOf f starts
   pub kinds-are : BearersOf f (startsIn at) kinds
 
 -- with the digits of its rank, a message and room for the word

@@ -13,7 +13,7 @@ use Rattle.jobs.specs.declared.Entry.the-variants.{Open, OnHold, Cancelled}
 use Rattle.jobs.specs.declared.Before.the-variants.{WasAbsent, WasOpen, WasOnHold}
 use Rattle.jobs.specs.Jobs.{slotCount, Kind, opening, cancelling, finishing, reinstating, holding, releasing, on}
 use Rattle.jobs.specs.Table.{firstEntry, replaceFirst, put, twice, decide, emptyTable, callAs}
-use Rattle.ledger.specs.Ledger.{historyOf, statusOf, status, heldCount, verdict, enter, verdictsFrom}
+use Rattle.ledger.specs.Ledger.{historyOf, statusOf, status, slotsTaken, verdict, enter, verdictsFrom}
 
 -- "a book that holds 0 alone"
 abbrev alone : Entry → List Entry
@@ -76,5 +76,5 @@ calls =
     ∷ []
 
 pub calls-hold : all comesTrue calls ≡ true
-unfolding all any sameList comesTrue tabulate firstEntry replaceFirst put twice decide historyOf statusOf status heldCount verdict enter verdictsFrom calls
+unfolding all any sameList comesTrue tabulate firstEntry replaceFirst put twice decide historyOf statusOf status slotsTaken verdict enter verdictsFrom calls
 calls-hold = refl

@@ -11,8 +11,8 @@ use Rattle.combinatorics.specs.Lists.{any}
 use Rattle.combinatorics.specs.Stretch.{bit, keepIf}
 use Rattle.combinatorics.proofs.Lists.{both}
 use Rattle.combinatorics.proofs.Cases.{by-eq, by-bool, eqb-same, eqb-other}
-use Rattle.jobs.specs.Jobs.{Call, isHeld}
-use Rattle.ledger.specs.Ledger.{historyOf, statusOf, status, heldCount, distinct, CountsHeld, HeldCounts}
+use Rattle.jobs.specs.Jobs.{Call, takesSlot}
+use Rattle.ledger.specs.Ledger.{historyOf, statusOf, status, slotsTaken, distinct, CountsSlots, SlotsCount}
 
 unfoldable without : ℕ → List ℕ → List ℕ
 without n [] = []
@@ -21,7 +21,7 @@ without n (x ∷ xs) = keepIf (not (eqb x n)) x (without n xs)
 -- with each call its number goes, and comes again where it is held afterwards
 unfoldable heldNumbers : List Call → List ℕ
 heldNumbers [] = []
-heldNumbers (c ∷ h) = keepIf (isHeld (status (c ∷ h) (c .number))) (c .number) (without (c .number) (heldNumbers h))
+heldNumbers (c ∷ h) = keepIf (takesSlot (status (c ∷ h) (c .number))) (c .number) (without (c .number) (heldNumbers h))
 
 -- a number is in the list
 abbrev has : List ℕ → ℕ → Bool
@@ -69,7 +69,7 @@ length-without n (x ∷ xs) p =
     (λ d. rw (eqb-same n x (sym d)) (omega (arith, i, ap bit (rw d at (not-true (has xs x) (q .0))))))
     (λ d. rw (eqb-other n x (λ e. d (sym e))) (omega (arith, i)))
 
-none-held : (n : ℕ) → has [] n ≡ isHeld (status [] n)
+none-held : (n : ℕ) → has [] n ≡ takesSlot (status [] n)
 unfolding any historyOf statusOf status
 none-held n = refl
 
@@ -83,22 +83,22 @@ has-held b n k xs =
     has-keep b n k (without n xs) ∙ rw (has-without n k xs)
     (by-bool (eqb k n) (λ t. rw t (or-false b)) (λ t. rw t))
 
-counted : (h : List Call) → CountsHeld h (heldNumbers h)
-unfolding heldNumbers heldCount
+counted : (h : List Call) → CountsSlots h (heldNumbers h)
+unfolding heldNumbers slotsTaken
 counted [] = record { once = unfold distinct in refl; exactly = none-held; count = refl }
 counted (c ∷ h) =
     let n = c .number in
     let xs = heldNumbers h in
-    let b = isHeld (status (c ∷ h) n) in
+    let b = takesSlot (status (c ∷ h) n) in
     let i = counted h in
     record {
       once = distinct-keep b n (without n xs) (has-without n n xs ∙ rw (eqb-same n n refl)) (distinct-without n xs (i .once));
       exactly = λ k.
           has-held b n k xs
-          ∙ by-eq k n (λ t. cond t b (has xs k) ≡ isHeld (status (c ∷ h) k)) (λ d. ap (λ (x : ℕ). isHeld (status (c ∷ h) x)) (sym d))
-          (λ d. i .exactly k ∙ ap isHeld (sym (other-status c h k (eqb-other n k (λ e. d (sym e))))));
+          ∙ by-eq k n (λ t. cond t b (has xs k) ≡ takesSlot (status (c ∷ h) k)) (λ d. ap (λ (x : ℕ). takesSlot (status (c ∷ h) x)) (sym d))
+          (λ d. i .exactly k ∙ ap takesSlot (sym (other-status c h k (eqb-other n k (λ e. d (sym e))))));
       count = omega (arith, length-keep b n (without n xs), length-without n xs (i .once), i .count, ap bit (i .exactly n));
     }
 
-pub held-counts : HeldCounts
+pub held-counts : SlotsCount
 held-counts h = (heldNumbers h, counted h)

@@ -14,11 +14,11 @@ use Rattle.jobs.specs.declared.Entry.{Entry}
 use Rattle.jobs.specs.declared.Entry.the-variants.{Free, Open, OnHold, Cancelled}
 use Rattle.jobs.specs.declared.Before.{Before}
 use Rattle.jobs.specs.declared.Before.the-variants.{WasAbsent, WasOpen, WasOnHold}
-use Rattle.jobs.specs.Jobs.{slotCount, Kind, opening, cancelling, finishing, reinstating, holding, releasing, Call, on, isJob, Status, unknown, isHeld}
+use Rattle.jobs.specs.Jobs.{slotCount, Kind, opening, cancelling, finishing, reinstating, holding, releasing, Call, on, isJob, Status, unknown, takesSlot}
 use Rattle.jobs.specs.Table.{standing, isFree, holds, lookup, used, emptyTable, TableOut, refuse, accept, replaceFirst, put, add, twice, decide, openJob}
 use Rattle.jobs.specs.Table.{restored, callAs}
 use Rattle.ledger.specs.Calls.{callOut, answersFrom, tableFrom}
-use Rattle.ledger.specs.Ledger.{historyOf, after, statusOf, status, lawful, heldCount, judge, accepts, verdict, enter, verdictsFrom, ledgerFrom}
+use Rattle.ledger.specs.Ledger.{historyOf, after, statusOf, status, lawful, slotsTaken, judge, accepts, verdict, enter, verdictsFrom, ledgerFrom}
 use Rattle.ledger.specs.Ledger.{acceptedBy}
 use Rattle.ledger.specs.Simulation.{Agrees, Simulation, Start, empty, zero-open, zero-cancelled, zero-opened-cancelled, zero-on-hold-cancelled}
 use Rattle.ledger.specs.Simulation.{SimulationFromStart}
@@ -47,9 +47,9 @@ module _ (es : List Entry) (h : List Call) (g : Agrees es h) (c : Call) where
   accepted : (next : List Entry) (old new : Entry) → Stored es next old new → standing old ≡ standing (lookup es (c .number))
       → ((k : ℕ) → lookup next k ≡ cond (eqb (c .number) k) new (lookup es k)) → standing new ≡ after (c .kind) (standing (lookup es (c .number)))
       → accepts (c .kind) (standing (lookup es (c .number))) ≡ true → verdict h c ≡ served → Alike (accept next) h c
-  unfolding enter historyOf statusOf status lawful heldCount
+  unfolding enter historyOf statusOf status lawful slotsTaken
   accepted next old new s was at now taken v =
-      let share : Status → ℕ = λ x. bit (isHeld x) in
+      let share : Status → ℕ = λ x. bit (takesSlot x) in
       let found = g .same (c .number) in
       let new-is : standing new ≡ after (c .kind) (status h (c .number)) = now ∙ ap (after (c .kind)) found in
       record {
@@ -175,12 +175,12 @@ simulation es h g (c ∷ cs) =
 -- ---- Where a list starts
 
 pub empty-agrees : Agrees emptyTable []
-unfolding historyOf statusOf status lawful heldCount used twice
+unfolding historyOf statusOf status lawful slotsTaken used twice
 empty-agrees = record { slots = refl; same = λ n. ap standing (free-lookup slotCount n); once = refl; count = refl; accepted = λ n. refl }
 
 -- 0 alone, in slot i, and calls that made it what it is
 alone-agrees : (i : ℕ) → i < slotCount → (e : Entry) (h : List Call) → ((n : ℕ) → standing (cond (holds n e) e Free) ≡ status h n)
-    → bit (isHeld (standing e)) ≡ heldCount h
+    → bit (takesSlot (standing e)) ≡ slotsTaken h
     → ((n : ℕ) → lawful (historyOf h n) ≡ true) → Agrees (set emptyTable i e) h
 alone-agrees i l e h same count accepted =
     record {
@@ -192,7 +192,7 @@ alone-agrees i l e h same count accepted =
     }
 
 pub start-agrees : (es : List Entry) (before : List Call) → Start es before → Agrees es before
-unfolding historyOf statusOf status lawful heldCount
+unfolding historyOf statusOf status lawful slotsTaken
 start-agrees es before empty = empty-agrees
 start-agrees es before (zero-open i l) =
     alone-agrees i l (Open 0) (on opening 0 ∷ []) (λ n. by-bool (eqb 0 n) (λ t. rw t) (λ t. rw t)) refl

@@ -10,7 +10,7 @@ use Rattle.refusals.specs.Refusals.{served, jobCancelled, alreadyOpen, notOpen,
 use Rattle.combinatorics.specs.Lists.{any}
 use Rattle.combinatorics.specs.Stretch.{bit}
 use Rattle.jobs.specs.Jobs.{slotCount, Kind, opening, cancelling, finishing, reinstating, holding, releasing, Call, isJob, Status, unknown, opened, onHold}
-use Rattle.jobs.specs.Jobs.{cancelled, isHeld, needsOpen}
+use Rattle.jobs.specs.Jobs.{cancelled, takesSlot, needsOpen}
 
 -- the kinds of the accepted calls on a number, newest first
 unfoldable pub historyOf : List Call → ℕ → List Kind
@@ -101,13 +101,13 @@ answerAfter (some reinstating) = notOpen
 answerAfter (some releasing) = notOpen
 
 -- how many numbers are open, on hold or cancelled: with each call, its number's share before it goes and its share after it comes
-unfoldable pub heldCount : List Call → ℕ
-heldCount [] = 0
-heldCount (c ∷ h) = heldCount h - bit (isHeld (status h (c .number))) + bit (isHeld (status (c ∷ h) (c .number)))
+unfoldable pub slotsTaken : List Call → ℕ
+slotsTaken [] = 0
+slotsTaken (c ∷ h) = slotsTaken h - bit (takesSlot (status h (c .number))) + bit (takesSlot (status (c ∷ h) (c .number)))
 
 -- "unknown while 64 are open or cancelled": there is room for one more otherwise
 abbrev pub room : List Call → Bool
-room h = ltb (heldCount h) slotCount
+room h = ltb (slotsTaken h) slotCount
 
 -- "An opening that finds its number cancelled is refused with 12, open with 13, unknown while 64 are open or cancelled with 15; else it is accepted"
 -- document 02, ticket 10: "Opening a held number is 13."
@@ -190,10 +190,10 @@ distinct [] = true
 distinct (n ∷ ns) = not (any (eqb n) ns) && distinct ns
 
 -- a list without repetition of exactly the numbers that count, as long as the count says
-pub record CountsHeld (h : List Call) (numbers : List ℕ) : Type 0 where
+pub record CountsSlots (h : List Call) (numbers : List ℕ) : Type 0 where
   pub once : distinct numbers ≡ true
-  pub exactly : (n : ℕ) → any (eqb n) numbers ≡ isHeld (status h n)
-  pub count : length numbers ≡ heldCount h
+  pub exactly : (n : ℕ) → any (eqb n) numbers ≡ takesSlot (status h n)
+  pub count : length numbers ≡ slotsTaken h
 
-abbrev pub HeldCounts : Type 0
-HeldCounts = (h : List Call) → (numbers : List ℕ) × CountsHeld h numbers
+abbrev pub SlotsCount : Type 0
+SlotsCount = (h : List Call) → (numbers : List ℕ) × CountsSlots h numbers

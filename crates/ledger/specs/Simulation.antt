@@ -10,7 +10,7 @@ use Rattle.jobs.specs.declared.Before.the-variants.{WasAbsent, WasOpen, WasOnHo
 use Rattle.jobs.specs.Jobs.{slotCount, opening, cancelling, holding, Call, on}
 use Rattle.jobs.specs.Table.{standing, lookup, used, twice, emptyTable}
 use Rattle.ledger.specs.Calls.{answersFrom, tableFrom}
-use Rattle.ledger.specs.Ledger.{historyOf, status, lawful, heldCount, verdictsFrom, ledgerFrom}
+use Rattle.ledger.specs.Ledger.{historyOf, status, lawful, slotsTaken, verdictsFrom, ledgerFrom}
 
 -- The table holds exactly the numbers that the ledger has open, on hold or cancelled, each once, in that state.
 pub record Agrees (es : List Entry) (h : List Call) : Type 0 where
@@ -21,7 +21,7 @@ pub record Agrees (es : List Entry) (h : List Call) : Type 0 where
   -- none is there twice
   pub once : twice es ≡ false
   -- they are as many
-  pub count : used es ≡ heldCount h
+  pub count : used es ≡ slotsTaken h
   -- and every number's calls were accepted
   pub accepted : (n : ℕ) → lawful (historyOf h n) ≡ true
 

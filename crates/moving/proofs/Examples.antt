@@ -19,7 +19,7 @@ use Rattle.construction_a.specs.Figures.{parts, blockMin, indexTail, fits as fi
 use Rattle.cells.specs.Round.{next, later}
 use Rattle.construction_a.specs.Writing.{becomes, withBurst, withBursts, isBurst, partCount, partWith, chosen, beside, isChosen, isIndexIn}
 use Rattle.construction_a.specs.Writing.{isIndex, indexBlocks, isFixed, kindAt as kindAtA, plan as planA, word as wordA}
-use Rattle.construction_a.specs.Reading.{looksFixed, bareParts, openBlocks, indexInPart, collect, indexFound, heads, written}
+use Rattle.construction_a.specs.Reading.{looksFixed, bareParts, openBlocks, indexInPart, collect, indexFound, firstSymbols, written}
 use Rattle.construction_a.specs.Reading.{agrees as agreesA, readRank, read as readA}
 use Rattle.larsson.specs.Figures.{subLen, gapTotal, gapLen, subStart, fits, messageLen}
 use Rattle.larsson.specs.Writing.{untouched, bears, bearers, inSub, isBorne, kindAt, plan, rankDigits, digits, word}
@@ -34,7 +34,7 @@ pub examples-hold : ExamplesHold
 unfolding all any sameList sum firsts has first members tabulate top common majority choose rankFrom unrankDown unrank apart inBurst placements reduceFrom
     expandFrom rankOf startsOf pieceLen pieceStart blockAt blockHead blockWith byteWidth payloadLen weave pick span spell value places inRange parts
     blockMin leastTail indexTail fitsA messageLenA becomes withBurst withBursts isBurst next partCount partWith chosen beside isChosen isIndexIn
-    isIndex indexBlocks isFixed cellOf kindAtA planA wordA looksFixed later bareParts openBlocks indexInPart collect indexFound heads written agreesA
+    isIndex indexBlocks isFixed cellOf kindAtA planA wordA looksFixed later bareParts openBlocks indexInPart collect indexFound firstSymbols written agreesA
     readRank readA subLen gapTotal gapLen subStart fits messageLen untouched bears bearers inSub isBorne kindAt plan rankDigits digits word
     foundBound hasErasure subSymbols subValue found agrees readValue read firstEntry twice carriesJob jobNumber messageOf payloadIn spellsPayload
     resized hasRoom jobWord moveJob moveMessage move moveOut comesTrue examples flatMap

@@ -8,7 +8,7 @@ use Rattle.cells.specs.Plan.{planIn, Spares}
 use Rattle.cells.specs.Figures.{Params, params, inRange, isPlacement}
 use Rattle.construction_a.specs.Figures.{fits, blockMin, messageLen}
 use Rattle.construction_a.specs.Outcomes.{figuresOut}
-use Rattle.construction_a.specs.Reading.{headsWith, heads, writtenWith, written}
+use Rattle.construction_a.specs.Reading.{firstSymbolsWith, firstSymbols, writtenWith, written}
 use Rattle.construction_a.specs.Writing.{frameWith, kindAt, plan}
 use Rattle.cells.proofs.Figures.{placed-starts}
 use Rattle.construction_a.proofs.Figures.{Served, serve, message-room}
@@ -71,10 +71,10 @@ module _ (l : Layout) (g : LayoutFits l) where
   unfolding plan kindAt
   plan-is ss = ap (λ (r : ℕ). planIn (frameWith r (figuresOf l) ss)) (g .laid .tail-is)
 
-  pub heads-are : (w ks : List ℕ) → headsWith (l .«index_tail») (figuresOf l) w ks ≡ heads (figuresOf l) w ks
-  unfolding heads
-  heads-are w ks = ap (λ (r : ℕ). headsWith r (figuresOf l) w ks) (g .laid .tail-is)
+  pub heads-are : (w ks : List ℕ) → firstSymbolsWith (l .«index_tail») (figuresOf l) w ks ≡ firstSymbols (figuresOf l) w ks
+  unfolding firstSymbols
+  heads-are w ks = ap (λ (r : ℕ). firstSymbolsWith r (figuresOf l) w ks) (g .laid .tail-is)
 
   pub written-is : (w ks : List ℕ) → writtenWith (l .«index_tail») (figuresOf l) w ks ≡ written (figuresOf l) w ks
-  unfolding written heads
+  unfolding written firstSymbols
   written-is w ks = ap (λ (r : ℕ). writtenWith r (figuresOf l) w ks) (g .laid .tail-is)

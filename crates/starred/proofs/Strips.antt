@@ -16,7 +16,7 @@ use Rattle.construction_a.specs.Figures.{parts, blockMin, indexTail, fits, mess
 use Rattle.cells.specs.Round.{next}
 use Rattle.construction_a.specs.Writing.{becomes, withBurst, withBursts, isBurst, partCount, partWith, chosen, beside, isChosen, isIndexIn, isIndex}
 use Rattle.construction_a.specs.Writing.{indexBlocks, kindAt, plan, word}
-use Rattle.construction_a.specs.Reading.{heads}
+use Rattle.construction_a.specs.Reading.{firstSymbols}
 use Rattle.construction_a.specs.Outcomes.{figuresOut, encodeOut, coverOut}
 use Rattle.jobs.specs.Table.{firstEntry, replaceFirst, put, twice, decide}
 use Rattle.ledger.specs.Calls.{answersFrom}
@@ -26,5 +26,5 @@ pub starred-hold : StarredHold
 unfolding all any sameList sum has first members tabulate top choose rankFrom unrankDown unrank apart inBurst placements reduceFrom expandFrom rankOf
     startsOf covers coverRank pieceLen pieceStart blockAt blockHead blockWith weave span spell places inRange parts blockMin leastTail indexTail fits
     messageLen becomes withBurst withBursts isBurst next partCount partWith chosen beside isChosen isIndexIn isIndex indexBlocks cellOf kindAt plan word
-    heads figuresOut encodeOut coverOut comesTrue starred flatMap firstEntry replaceFirst put twice decide answersFrom
+    firstSymbols figuresOut encodeOut coverOut comesTrue starred flatMap firstEntry replaceFirst put twice decide answersFrom
 starred-hold = refl

@@ -11,7 +11,7 @@ use Rattle.combinatorics.specs.Stretch.{bit, tabulate}
 use Rattle.cells.specs.Figures.{Params, params, rank}
 use Rattle.construction_a.specs.Figures.{messageLen}
 use Rattle.construction_a.specs.Writing.{indexBlocks, word}
-use Rattle.construction_a.specs.Reading.{heads}
+use Rattle.construction_a.specs.Reading.{firstSymbols}
 use Rattle.construction_a.specs.Outcomes.{FiguresOut, figured, unserved, figuresNumber, figuresOut, held, Encoded, encodeOut, Covered, coverOut, inUse}
 use Rattle.jobs.specs.Jobs.{opening, cancelling, on}
 use Rattle.jobs.specs.Table.{emptyTable}
@@ -35,7 +35,7 @@ mapOf n worn = tabulate n 0 (λ x. bit (any (eqb x) worn))
 
 -- the first symbols of each I-block, in a word with message symbols 1
 abbrev begins : Params → List ℕ → List ℕ
-begins f ss = heads f (word f ss (replicate (messageLen f) 1)) (indexBlocks f ss)
+begins f ss = firstSymbols f (word f ss (replicate (messageLen f) 1)) (indexBlocks f ss)
 
 unfoldable pub starred : List Example
 starred =

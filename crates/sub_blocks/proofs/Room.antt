@@ -7,7 +7,7 @@ use Rattle.cells.specs.Figures.{maxWord, maxBursts}
 use Rattle.larsson.specs.Figures.{subBlocks}
 use Rattle.placements.specs.Bridge.{Room}
 use Rattle.larsson_params.specs.declared.LarssonLayout.{LarssonLayout}
-use Rattle.larsson_params.specs.Given.{larssonFiguresOf, LarssonLayoutFits, StartsOf}
+use Rattle.larsson_params.specs.Given.{larssonFiguresOf, LarssonLayoutFits, SubStartsOf}
 use Rattle.larsson_params.proofs.Shape.{served, bound, starts-room}
 
 pub room-of : (l : LarssonLayout) → LarssonLayoutFits l → Room (l .n) (l .m) (l .b)
@@ -21,6 +21,6 @@ pub record Reached (l : LarssonLayout) (starts : List ℕ) (i : ℕ) : Type 0 wh
   pub ends : getD starts i 0 + l .«sub_len» ≤ l .n
   pub short : l .n ≤ maxWord
 
-pub reached : (l : LarssonLayout) → LarssonLayoutFits l → (starts : List ℕ) → StartsOf (larssonFiguresOf l) starts
+pub reached : (l : LarssonLayout) → LarssonLayoutFits l → (starts : List ℕ) → SubStartsOf (larssonFiguresOf l) starts
     → (i : ℕ) → i < subBlocks (larssonFiguresOf l) → Reached l starts i
 reached l g starts h i w = record { listed = omega (arith, bound l g .m-most); ends = starts-room l g starts h i w; short = bound l g .n-most }

@@ -26,7 +26,7 @@ use Rattle.larsson.specs.Reading.{subSymbols, subValue, found}
 use Rattle.larsson.proofs.SubBlocks.{symbols-small}
 use Rattle.larsson.proofs.Walking.{holds-same, found-at, found-nowhere}
 use Rattle.larsson_params.specs.declared.LarssonLayout.{LarssonLayout}
-use Rattle.larsson_params.specs.Given.{larssonFiguresOf, StartsOf}
+use Rattle.larsson_params.specs.Given.{larssonFiguresOf, SubStartsOf}
 use Rattle.larsson_params.proofs.Shape.{bound, sub-room}
 use Rattle.sub_blocks.specs.Found.{FoundWord, spelledAt, MajorityAt}
 

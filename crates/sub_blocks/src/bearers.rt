@@ -9,7 +9,7 @@ ghost use Rattle.larsson.specs.Figures.{subBlocks};
 ghost use Rattle.larsson.specs.Writing.{untouched as untouchedIn};
 ghost use Rattle.placements.specs.Bridge.{startsIn};
 ghost use Rattle.blocks.specs.Blocks.{burstKind, indexKind};
-ghost use Rattle.larsson_params.specs.Given.{larssonFiguresOf, StartsOf};
+ghost use Rattle.larsson_params.specs.Given.{larssonFiguresOf, SubStartsOf};
 ghost use Rattle.sub_blocks.specs.Given.{BurstsOfLayout, BearersOf};
 use blocks::BURST;
 use blocks::INDEX;
@@ -23,7 +23,7 @@ pub fn bearers_of(
     starts: &[u16; Layout::MAX_HEADS],
     at: Placement,
 ) -> [u8; Layout::MAX_BLOCKS]
-    requires { ⌜ BurstsOfLayout layout at × StartsOf (larssonFiguresOf layout) (now starts) ⌝ }
+    requires { ⌜ BurstsOfLayout layout at × SubStartsOf (larssonFiguresOf layout) (now starts) ⌝ }
     ensures { λ r. ⌜ BearersOf (larssonFiguresOf layout) (startsIn at) r ⌝ }
 {
     let blocks = 2 * layout.m + 1;
@@ -61,7 +61,7 @@ fn is_untouched(
     at: Placement,
     i: usize,
 ) -> bool
-    requires { ⌜ BurstsOfLayout layout at × StartsOf (larssonFiguresOf layout) (now starts) × (i < subBlocks (larssonFiguresOf layout)) ⌝ }
+    requires { ⌜ BurstsOfLayout layout at × SubStartsOf (larssonFiguresOf layout) (now starts) × (i < subBlocks (larssonFiguresOf layout)) ⌝ }
     ensures { λ r. ⌜ r ≡ untouchedIn (larssonFiguresOf layout) (startsIn at) i ⌝ }
 {
     let from = starts[i] as usize;

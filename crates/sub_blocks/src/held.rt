@@ -4,7 +4,7 @@ ghost use mathlib.Core.List.{List};
 ghost use Prim.Native.Nat.{ℕ, _<_, min};
 ghost use Rattle.larsson.specs.Figures.{subBlocks};
 ghost use Rattle.larsson.specs.Reading;
-ghost use Rattle.larsson_params.specs.Given.{larssonFiguresOf, StartsOf};
+ghost use Rattle.larsson_params.specs.Given.{larssonFiguresOf, SubStartsOf};
 ghost use Rattle.sub_blocks.specs.Given.{BearersOf};
 ghost use Rattle.sub_blocks.specs.Found.{FoundWord, SubBlockValued, spelledAt};
 use crate::majority::same_symbols;
@@ -20,7 +20,7 @@ pub fn value_of(
     word: &[u8],
     i: usize,
 ) -> u64
-    requires { ⌜ FoundWord layout (now word) × StartsOf (larssonFiguresOf layout) (now starts) × (i < subBlocks (larssonFiguresOf layout)) ⌝ }
+    requires { ⌜ FoundWord layout (now word) × SubStartsOf (larssonFiguresOf layout) (now starts) × (i < subBlocks (larssonFiguresOf layout)) ⌝ }
     ensures { λ r. ⌜ r ≡ min (spelledAt (larssonFiguresOf layout) (now (word .entry)) i) (layout .«placement_count») ⌝ }
 {
     let from = starts[i] as usize;
@@ -36,7 +36,7 @@ pub fn agrees(
     word: &[u8],
     i: usize,
 ) -> bool
-    requires { ⌜ FoundWord layout (now word) × StartsOf (larssonFiguresOf layout) (now starts) × SubBlockValued (larssonFiguresOf layout) (now word) i ⌝ }
+    requires { ⌜ FoundWord layout (now word) × SubStartsOf (larssonFiguresOf layout) (now starts) × SubBlockValued (larssonFiguresOf layout) (now word) i ⌝ }
     ensures { λ r. ⌜ ((ss : List ℕ) → BearersOf (larssonFiguresOf layout) ss (now (kinds .entry)) → r
         ≡ Rattle.larsson.specs.Reading.agrees (larssonFiguresOf layout) (now (word .entry)) (spelledAt (larssonFiguresOf layout) (now (word .entry)) i) ss) ⌝ }
 {

@@ -8,7 +8,7 @@ ghost use Rattle.combinatorics.specs.Majority.{hasCommon};
 ghost use Rattle.combinatorics.specs.Stretch.{count, tabulate};
 ghost use Rattle.larsson.specs.Figures.{subBlocks};
 ghost use Rattle.larsson.specs.Reading.{subSymbols, subValue};
-ghost use Rattle.larsson_params.specs.Given.{larssonFiguresOf, StartsOf};
+ghost use Rattle.larsson_params.specs.Given.{larssonFiguresOf, SubStartsOf};
 ghost use Rattle.sub_blocks.specs.Found.{FoundWord, MajorityAt};
 use larsson_params::LarssonLayout;
 use params::Layout;
@@ -20,7 +20,7 @@ pub fn majority_block(
     starts: &[u16; Layout::MAX_HEADS],
     word: &[u8],
 ) -> usize
-    requires { ⌜ FoundWord layout (now word) × StartsOf (larssonFiguresOf layout) (now starts) ⌝ }
+    requires { ⌜ FoundWord layout (now word) × SubStartsOf (larssonFiguresOf layout) (now starts) ⌝ }
     ensures { λ r. ⌜ MajorityAt (larssonFiguresOf layout) (now (word .entry)) r ⌝ }
 {
     let m = layout.m;
@@ -41,7 +41,7 @@ fn has_majority(
     word: &[u8],
     i: usize,
 ) -> bool
-    requires { ⌜ FoundWord layout (now word) × StartsOf (larssonFiguresOf layout) (now starts) × (i < subBlocks (larssonFiguresOf layout)) ⌝ }
+    requires { ⌜ FoundWord layout (now word) × SubStartsOf (larssonFiguresOf layout) (now starts) × (i < subBlocks (larssonFiguresOf layout)) ⌝ }
     ensures { λ r. ⌜ r ≡ hasCommon (subBlocks (larssonFiguresOf layout)) (suc (layout .m)) (subValue (larssonFiguresOf layout) (now (word .entry)))
         (subValue (larssonFiguresOf layout) (now (word .entry)) i) ⌝ }
 {
@@ -55,7 +55,7 @@ fn has_majority(
 
 // How many sub-blocks have the symbols of sub-block i.
 fn votes(layout: LarssonLayout, starts: &[u16; Layout::MAX_HEADS], word: &[u8], i: usize) -> usize
-    requires { ⌜ FoundWord layout (now word) × StartsOf (larssonFiguresOf layout) (now starts) × (i < subBlocks (larssonFiguresOf layout)) ⌝ }
+    requires { ⌜ FoundWord layout (now word) × SubStartsOf (larssonFiguresOf layout) (now starts) × (i < subBlocks (larssonFiguresOf layout)) ⌝ }
     ensures { λ r. ⌜ r ≡ count (subBlocks (larssonFiguresOf layout)) 0
         (λ j. sameList (subSymbols (larssonFiguresOf layout) (now (word .entry)) j) (subSymbols (larssonFiguresOf layout) (now (word .entry)) i)) ⌝ }
 {
@@ -79,7 +79,7 @@ pub fn same_symbols(
     i: usize,
     j: usize,
 ) -> bool
-    requires { ⌜ FoundWord layout (now word) × StartsOf (larssonFiguresOf layout) (now starts) × (i < subBlocks (larssonFiguresOf layout))
+    requires { ⌜ FoundWord layout (now word) × SubStartsOf (larssonFiguresOf layout) (now starts) × (i < subBlocks (larssonFiguresOf layout))
         × (j < subBlocks (larssonFiguresOf layout)) ⌝ }
     ensures { λ r. ⌜ r ≡ sameList (subSymbols (larssonFiguresOf layout) (now (word .entry)) i) (subSymbols (larssonFiguresOf layout) (now (word .entry)) j) ⌝ }
 {

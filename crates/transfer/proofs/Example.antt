@@ -18,7 +18,7 @@ use Rattle.construction_a.specs.Figures.{parts, blockMin, indexTail, fits, mess
 use Rattle.cells.specs.Round.{next, later}
 use Rattle.construction_a.specs.Writing.{becomes, withBurst, withBursts, isBurst, partCount, partWith, chosen, beside, isChosen, isIndexIn, isIndex}
 use Rattle.construction_a.specs.Writing.{indexBlocks, isFixed, kindAt, plan, word}
-use Rattle.construction_a.specs.Reading.{looksFixed, bareParts, openBlocks, indexInPart, collect, indexFound, heads, written, agrees, readRank, read}
+use Rattle.construction_a.specs.Reading.{looksFixed, bareParts, openBlocks, indexInPart, collect, indexFound, firstSymbols, written, agrees, readRank, read}
 use Rattle.construction_b.specs.Figures as BFigures
 use Rattle.construction_b.specs.Writing as BWriting
 use Rattle.construction_b.specs.Reading as BReading
@@ -36,7 +36,7 @@ pub rows-hold : RowsHold
 unfolding all any sameList sum has first members tabulate top choose rankFrom unrankDown unrank apart inBurst placements reduceFrom expandFrom rankOf
     startsOf byteWidth payloadLen pieceLen pieceStart blockAt blockHead blockWith weave pick span spell value places foundBound hasErasure inRange parts
     blockMin leastTail indexTail fits messageLen becomes withBurst withBursts isBurst next partCount partWith chosen beside isChosen isIndexIn isIndex
-    indexBlocks isFixed cellOf kindAt plan word looksFixed later bareParts openBlocks indexInPart collect indexFound heads written agrees readRank read
+    indexBlocks isFixed cellOf kindAt plan word looksFixed later bareParts openBlocks indexInPart collect indexFound firstSymbols written agrees readRank read
     BFigures.inRange BFigures.partMin BFigures.partMost BFigures.placementCount BFigures.indexTail BFigures.fits BFigures.messageLen BWriting.burstPart
     BWriting.indexPart BWriting.endOffset BWriting.plan BWriting.wordFrom BReading.looksFixed BReading.indexFound BReading.before BReading.written
     BReading.endAt BReading.readPart BReading.read firstEntry replaceFirst put twice decide kindOf carriesJob jobNumber messageOf payloadIn spellsPayload

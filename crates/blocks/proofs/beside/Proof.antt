@@ -7,13 +7,13 @@ use Rattle.combinatorics.specs.Stretch.{first}
 use Rattle.combinatorics.proofs.StretchLoops.{first-start, first-here, first-on, first-over}
 use Rattle.cells.specs.Round.{next}
 use Rattle.construction_a.specs.Writing.{row, beside as besideIn}
-use Rattle.blocks.specs.Blocks.{bursts}
+use Rattle.blocks.specs.Blocks.{burstSet}
 use Rattle.blocks.proofs.BlockSets.{is-burst, no-burst}
 use Rattle.blocks.proofs.beside.Statement.{statement}
 use Rattle.blocks.proofs.beside.Tie as tie
 
 abbrev Inv-loop : tie.InvT-loop
-Inv-loop kinds m part from j₀ j = (j ≤ m) × (from ≡ part * m) × (first (m - j) j (row m (bursts kinds) part) ≡ first m 0 (row m (bursts kinds) part))
+Inv-loop kinds m part from j₀ j = (j ≤ m) × (from ≡ part * m) × (first (m - j) j (row m (burstSet kinds) part) ≡ first m 0 (row m (burstSet kinds) part))
 
 abbrev μ-loop : tie.MeasureT-loop
 μ-loop kinds m part from j₀ j = m - j
@@ -22,7 +22,7 @@ mul-from : tie.Need-mul-from Inv-loop μ-loop
 mul-from c = search needs
 
 loop-holds : tie.Need-loop-holds Inv-loop μ-loop
-loop-holds c = (omega arith, refl, first-start (c .args .m) (row (c .args .m) (bursts (c .args .kinds .now)) (c .args .part)))
+loop-holds c = (omega arith, refl, first-start (c .args .m) (row (c .args .m) (burstSet (c .args .kinds .now)) (c .args .part)))
 
 add-if1 : tie.Need-add-if1 Inv-loop μ-loop
 add-if1 c = search needs
@@ -38,7 +38,7 @@ unfolding besideIn
 returns c =
     let s = c .before .before .before .before in
     let a = s .before .args in
-    let w = row (a .m) (bursts (a .kinds .now)) (a .part) in
+    let w = row (a .m) (burstSet (a .kinds .now)) (a .part) in
     c .following .ensures
     ∙ ap (next (a .m)) (sym (first-here (a .m) (s .loop .j) w (omega arith) (is-burst (a .kinds .now) (a .part * a .m + s .loop .j) (c .before .if1 .taken)))
     ∙ s .loop .inv .2)
@@ -53,7 +53,7 @@ loop-again : tie.Need-loop-again Inv-loop μ-loop
 loop-again c =
     let s = c .before .before .before in
     let a = s .before .args in
-    let w = row (a .m) (bursts (a .kinds .now)) (a .part) in (
+    let w = row (a .m) (burstSet (a .kinds .now)) (a .part) in (
       omega arith,
       refl,
       sym (first-on (a .m) (s .loop .j) w (omega arith) (no-burst (a .kinds .now) (a .part * a .m + s .loop .j) (c .if1 .left)))
@@ -68,7 +68,7 @@ unfolding besideIn
 returns-2 c =
     let s = c .before .before in
     let a = s .before .args in
-    let w = row (a .m) (bursts (a .kinds .now)) (a .part) in
+    let w = row (a .m) (burstSet (a .kinds .now)) (a .part) in
     c .following2 .ensures ∙ ap (next (a .m)) (sym (first-over (a .m) (s .loop .j) w (omega arith)) ∙ s .loop .inv .2)
 
 pub beside-spec : {M : Type 1} → statement M

@@ -9,14 +9,14 @@ use lib.Dec.{eqb}
 use Rattle.combinatorics.specs.Stretch.{sum, count}
 use Rattle.combinatorics.proofs.Cases.{by-eq, eqb-same, eqb-other}
 use Rattle.construction_a.specs.Writing.{row, partCount}
-use Rattle.blocks.specs.Blocks.{bursts}
+use Rattle.blocks.specs.Blocks.{burstSet}
 use Rattle.blocks.proofs.BlockSets.{one-more, none-more, count-rest}
 use Rattle.blocks.proofs.has_bursts.Statement.{statement}
 use Rattle.blocks.proofs.has_bursts.Tie as tie
 
 abbrev Inv-loop : tie.InvT-loop
 Inv-loop kinds m part wanted from missing₀ j₀ missing j =
-    (j ≤ m) × (from ≡ part * m) × (count j 0 (row m (bursts kinds) part) + missing ≡ wanted)
+    (j ≤ m) × (from ≡ part * m) × (count j 0 (row m (burstSet kinds) part) + missing ≡ wanted)
 
 abbrev μ-loop : tie.MeasureT-loop
 μ-loop kinds m part wanted from missing₀ j₀ missing j = m - j
@@ -29,7 +29,7 @@ abbrev Start : Type 0
 Start = tie.Start Inv-loop μ-loop
 
 abbrev blocks : Start → ℕ → Bool
-blocks s = row (s .args .m) (bursts (s .args .kinds .now)) (s .args .part)
+blocks s = row (s .args .m) (burstSet (s .args .kinds .now)) (s .args .part)
 
 -- one block more is seen
 seen : (c : tie.Joined1 Inv-loop μ-loop)

@@ -8,7 +8,7 @@ use lib.ListN.{getD}
 use Rattle.cells.specs.Round.{next}
 use Rattle.construction_a.specs.Writing.{Chosen, whole, chosen, isIndexIn, partWith}
 use Rattle.cells.proofs.Round.{next-lt}
-use Rattle.blocks.specs.Blocks.{bursts, marked}
+use Rattle.blocks.specs.Blocks.{burstSet, marked}
 use Rattle.blocks.proofs.Marks.{chosen-full, chosen-bare, chosen-each, each-some}
 use Rattle.blocks.proofs.mark_index.Statement.{statement}
 use Rattle.blocks.proofs.mark_index.Tie as tie
@@ -32,7 +32,7 @@ returns c =
     let b = c .before .before .before .before in
     let s = b .before .before in
     let a = s .args in
-    let B = bursts (a .kinds .now) in
+    let B = burstSet (a .kinds .now) in
     let l : partWith (a .parts) (a .m) B (a .m) < a .parts = omega (arith, b .part-with .ensures) in
     let e : whole (c .before .following .result) ≡ chosen (a .parts) (a .m) B =
     ap whole (c .before .following .ensures ∙ ap (next (a .parts)) (b .part-with .ensures)) ∙ sym (chosen-full (a .parts) (a .m) B (s .pre .5) l) in
@@ -52,7 +52,7 @@ returns-2 c =
     let b = c .before .before .before .before .before .before in
     let s = b .before .before in
     let a = s .args in
-    let B = bursts (a .kinds .now) in
+    let B = burstSet (a .kinds .now) in
     let bare = c .before .before .before .part-with2 in
     let e : whole (bare .result) ≡ chosen (a .parts) (a .m) B =
     ap whole (bare .ensures) ∙ sym (chosen-bare (a .parts) (a .m) B (s .pre .5) (omega (arith, b .part-with .ensures)) (omega (arith, bare .ensures))) in
@@ -62,14 +62,14 @@ mark-one-each-requires : tie.Need-mark-one-each-requires
 mark-one-each-requires c κs =
     let s = c .before .before .before .before .before .before .before in
     let a = s .args in
-    (s .pre .1, s .pre .4, each-some (a .parts) (a .m) (bursts (a .kinds .now)) (omega (arith, c .before .before .part-with2 .ensures)))
+    (s .pre .1, s .pre .4, each-some (a .parts) (a .m) (burstSet (a .kinds .now)) (omega (arith, c .before .before .part-with2 .ensures)))
 
 returns-3 : tie.Need-returns-3
 returns-3 c =
     let b = c .before .before .before .before .before .before in
     let s = b .before .before in
     let a = s .args in
-    let B = bursts (a .kinds .now) in
+    let B = burstSet (a .kinds .now) in
     let e = sym (chosen-each (a .parts) (a .m) B (s .pre .5) (omega (arith, b .part-with .ensures))
     (omega (arith, c .before .before .before .part-with2 .ensures))) in
     λ k l. subst (λ (x : Chosen). getD (c .mark-one-each .last .0) k 0 ≡ marked (isIndexIn (a .m) B x) (a .kinds .now) k) e (c .mark-one-each .ensures k l)

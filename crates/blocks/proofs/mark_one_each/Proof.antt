@@ -9,13 +9,13 @@ use lib.Dec.{eqb}
 use lib.ListN.{length, getD, length-set}
 use Rattle.construction_a.specs.Writing.{oneEach, isIndexIn, beside}
 use Rattle.params.specs.Given.{maxBlocks}
-use Rattle.blocks.specs.Blocks.{bursts, marked}
+use Rattle.blocks.specs.Blocks.{burstSet, marked}
 use Rattle.blocks.proofs.Marks.{mark-none, mark-more, mark-same, beside-lt, before, before-none, before-more, before-all, beside-same}
 use Rattle.blocks.proofs.mark_one_each.Statement.{statement}
 use Rattle.blocks.proofs.mark_one_each.Tie as tie
 
 abbrev Inv-loop : tie.InvT-loop
-Inv-loop kinds₀ parts m i₀ kinds i = (i ≤ parts) × (length kinds ≡ maxBlocks) × ((k : ℕ) → getD kinds k 0 ≡ marked (before m (bursts kinds₀) i) kinds₀ k)
+Inv-loop kinds₀ parts m i₀ kinds i = (i ≤ parts) × (length kinds ≡ maxBlocks) × ((k : ℕ) → getD kinds k 0 ≡ marked (before m (burstSet kinds₀) i) kinds₀ k)
 
 abbrev μ-loop : tie.MeasureT-loop
 μ-loop kinds₀ parts m i₀ kinds i = parts - i
@@ -23,7 +23,7 @@ abbrev μ-loop : tie.MeasureT-loop
 loop-holds : tie.Need-loop-holds Inv-loop μ-loop
 loop-holds c =
     let a = c .args in
-    let B = bursts (a .kinds .now) in
+    let B = burstSet (a .kinds .now) in
     (omega arith, c .pre .1, λ k. mark-none (before (a .m) B 0) (a .kinds .now) k (before-none (a .m) B 0 k (omega arith)))
 
 mul-at : tie.Need-mul-at Inv-loop μ-loop
@@ -50,7 +50,7 @@ module _ (c : tie.After-beside Inv-loop μ-loop) where
   m = s .before .args .m
 
   abbrev B : ℕ → Bool
-  B = bursts (s .before .args .kinds .now)
+  B = burstSet (s .before .args .kinds .now)
 
   -- no block of the part is marked yet, so it is the block that the part had at first
   beside-at : c .beside .result ≡ beside m B (s .loop .i)
@@ -87,7 +87,7 @@ returns : tie.Need-returns Inv-loop μ-loop
 returns c =
     let s = c .before in
     let a = s .before .args in
-    let B = bursts (a .kinds .now) in
+    let B = burstSet (a .kinds .now) in
     let e : s .loop .i ≡ a .parts = omega arith in
     λ k l. mark-same (before (a .m) B (s .loop .i)) (isIndexIn (a .m) B oneEach) (a .kinds .now) (s .loop .kinds) k (s .loop .inv .2 k)
     (rw e (before-all (a .m) B (a .parts) k l))

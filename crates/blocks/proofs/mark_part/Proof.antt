@@ -6,7 +6,7 @@ use borrow.Author.Needs.{needs}
 use lib.ListN.{length, getD, length-set}
 use Rattle.construction_a.specs.Writing.{whole, isIndexIn}
 use Rattle.params.specs.Given.{maxBlocks}
-use Rattle.blocks.specs.Blocks.{bursts, marked}
+use Rattle.blocks.specs.Blocks.{burstSet, marked}
 use Rattle.blocks.proofs.Marks.{mark-none, mark-more, mark-same, within, within-none, within-more, within-part}
 use Rattle.blocks.proofs.mark_part.Statement.{statement}
 use Rattle.blocks.proofs.mark_part.Tie as tie
@@ -54,9 +54,9 @@ returns c =
     let s = c .before in
     let a = s .before .args in
     let e : s .loop .j ≡ a .m = omega arith in
-    λ k. mark-same (within (a .part * a .m) (s .loop .j)) (isIndexIn (a .m) (bursts (a .kinds .now)) (whole (a .part))) (a .kinds .now) (s .loop .kinds) k
+    λ k. mark-same (within (a .part * a .m) (s .loop .j)) (isIndexIn (a .m) (burstSet (a .kinds .now)) (whole (a .part))) (a .kinds .now) (s .loop .kinds) k
     (s .loop .inv .3 k)
-    (rw e (within-part (a .m) (a .part) k (bursts (a .kinds .now)) (omega arith)))
+    (rw e (within-part (a .m) (a .part) k (burstSet (a .kinds .now)) (omega arith)))
 
 pub mark-part-spec : {M : Type 1} → statement M
 mark-part-spec =

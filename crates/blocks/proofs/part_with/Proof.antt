@@ -9,19 +9,19 @@ use lib.Dec.{eqb}
 use Rattle.combinatorics.specs.Stretch.{first}
 use Rattle.combinatorics.proofs.StretchLoops.{first-start, first-here, first-on, first-over}
 use Rattle.construction_a.specs.Writing.{partCount, partWith}
-use Rattle.blocks.specs.Blocks.{bursts}
+use Rattle.blocks.specs.Blocks.{burstSet}
 use Rattle.blocks.proofs.part_with.Statement.{statement}
 use Rattle.blocks.proofs.part_with.Tie as tie
 
 abbrev Inv-loop : tie.InvT-loop
-Inv-loop kinds parts m wanted i₀ i = (i ≤ parts) × (first (parts - i) i (λ x. eqb (partCount m (bursts kinds) x) wanted) ≡ first parts 0
-    (λ x. eqb (partCount m (bursts kinds) x) wanted))
+Inv-loop kinds parts m wanted i₀ i = (i ≤ parts) × (first (parts - i) i (λ x. eqb (partCount m (burstSet kinds) x) wanted) ≡ first parts 0
+    (λ x. eqb (partCount m (burstSet kinds) x) wanted))
 
 abbrev μ-loop : tie.MeasureT-loop
 μ-loop kinds parts m wanted i₀ i = parts - i
 
 loop-holds : tie.Need-loop-holds Inv-loop μ-loop
-loop-holds c = (omega arith, first-start (c .args .parts) (λ x. eqb (partCount (c .args .m) (bursts (c .args .kinds .now)) x) (c .args .wanted)))
+loop-holds c = (omega arith, first-start (c .args .parts) (λ x. eqb (partCount (c .args .m) (burstSet (c .args .kinds .now)) x) (c .args .wanted)))
 
 has-bursts-requires : tie.Need-has-bursts-requires Inv-loop μ-loop
 has-bursts-requires c κs =
@@ -35,7 +35,7 @@ unfolding partWith
 returns c =
     let s = c .before .before .before in
     let a = s .before .args in
-    let w : ℕ → Bool = λ x. eqb (partCount (a .m) (bursts (a .kinds .now)) x) (a .wanted) in
+    let w : ℕ → Bool = λ x. eqb (partCount (a .m) (burstSet (a .kinds .now)) x) (a .wanted) in
     sym (first-here (a .parts) (s .loop .i) w (omega arith) (sym (c .before .has-bursts .ensures) ∙ c .if1 .taken)) ∙ s .loop .inv .1
 
 add-i : tie.Need-add-i Inv-loop μ-loop
@@ -48,7 +48,7 @@ loop-again : tie.Need-loop-again Inv-loop μ-loop
 loop-again c =
     let s = c .before .before .before in
     let a = s .before .args in
-    let w : ℕ → Bool = λ x. eqb (partCount (a .m) (bursts (a .kinds .now)) x) (a .wanted) in
+    let w : ℕ → Bool = λ x. eqb (partCount (a .m) (burstSet (a .kinds .now)) x) (a .wanted) in
     (omega arith, sym (first-on (a .parts) (s .loop .i) w (omega arith) (sym (c .before .has-bursts .ensures) ∙ c .if1 .left)) ∙ s .loop .inv .1)
 
 returns-2 : tie.Need-returns-2 Inv-loop μ-loop
@@ -56,7 +56,7 @@ unfolding partWith
 returns-2 c =
     let s = c .before in
     let a = s .before .args in
-    sym (first-over (a .parts) (s .loop .i) (λ x. eqb (partCount (a .m) (bursts (a .kinds .now)) x) (a .wanted)) (omega arith)) ∙ s .loop .inv .1
+    sym (first-over (a .parts) (s .loop .i) (λ x. eqb (partCount (a .m) (burstSet (a .kinds .now)) x) (a .wanted)) (omega arith)) ∙ s .loop .inv .1
 
 pub part-with-spec : {M : Type 1} → statement M
 part-with-spec =

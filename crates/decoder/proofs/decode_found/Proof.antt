@@ -23,7 +23,7 @@ use Rattle.params.specs.declared.Spells.{Spells}
 use Rattle.params.proofs.Fitting.{heads-are, written-is}
 use Rattle.params.proofs.LongFitting.{long-written-is}
 use Rattle.params.proofs.Shape.{bound, blocks-most}
-use Rattle.heads.specs.Written.{headsIn, writtenIn, OpenHeads}
+use Rattle.heads.specs.Written.{firstSymbolsIn, writtenIn, OpenHeads}
 use Rattle.heads.proofs.Listed.{index-none}
 use Rattle.heads.proofs.Looking.{shown}
 use Rattle.decoder.proofs.Calls.{index-some}
@@ -66,7 +66,7 @@ unread-requires-2 : tie.Need-unread-requires-2
 unread-requires-2 c κs = search needs
 
 -- no value above q is left
-known : (s : tie.Start) (ks : List ℕ) → allBelow (foundBound (l s .q)) (headsIn (l s) (s .args .word .now) ks) ≡ true
+known : (s : tie.Start) (ks : List ℕ) → allBelow (foundBound (l s .q)) (firstSymbolsIn (l s) (s .args .word .now) ks) ≡ true
 known s ks =
     let q = l s .q in
     heads-below (l s .«index_tail») (figuresOf (l s)) (foundBound q) (s .args .word .now) ks
@@ -100,7 +100,7 @@ bare c =
     shown (l s) (s .args .word .now) (a .result) (s .pre .0 .finding) (not-false _ (c .before .before .before .if1 .left)) (a .ensures)
 
 -- their first symbols are below q
-whole : (c : tie.Else2) → allBelow (l (start c) .q) (headsIn (l (start c)) (start c .args .word .now) (ks c)) ≡ true
+whole : (c : tie.Else2) → allBelow (l (start c) .q) (firstSymbolsIn (l (start c)) (start c .args .word .now) (ks c)) ≡ true
 whole c = sym (c .before .index-whole .ensures) ∙ not-false _ (c .if2 .left)
 
 written-value-requires : tie.Need-written-value-requires
@@ -126,7 +126,7 @@ decode-rank-requires c κs =
         index =
             record {
               pattern = found (here .before .before .before);
-              whole = ap (hasErasure (l s .q)) (sym (heads-are (l s) g w (ks here))) ∙ below-whole (l s .q) (headsIn (l s) w (ks here)) (whole here);
+              whole = ap (hasErasure (l s .q)) (sym (heads-are (l s) g w (ks here))) ∙ below-whole (l s .q) (firstSymbolsIn (l s) w (ks here)) (whole here);
             };
         spelled = c .before .before .before .written-value .ensures ∙ ap (λ (v : ℕ). min v (l s .«placement_count»)) (written-is (l s) g w (ks here));
       },
@@ -182,8 +182,8 @@ decode-offset-requires c κs =
         index =
             record {
               pattern = one .0;
-              whole = ap (hasErasure (l s .q)) (sym (long-heads-are (l s) g w i) ∙ ap (headsIn (l s) w) (sym (one .1)))
-                  ∙ below-whole (l s .q) (headsIn (l s) w (ks here)) (whole here);
+              whole = ap (hasErasure (l s .q)) (sym (long-heads-are (l s) g w i) ∙ ap (firstSymbolsIn (l s) w) (sym (one .1)))
+                  ∙ below-whole (l s .q) (firstSymbolsIn (l s) w (ks here)) (whole here);
             };
         spelled = c .before .before .before .written-value .ensures
             ∙ ap (λ (v : ℕ). min v (l s .«placement_count»)) (ap (writtenIn (l s) w) (one .1) ∙ long-written-is (l s) g w i);
