@@ -1,16 +1,20 @@
 -- Laws of words on bytes, under any figures. Assumes nothing.
 use mathlib.Core.Path.{_≡_}
+use mathlib.Core.Logic.{_≢_}
 use mathlib.Core.Bool.{true}
 use mathlib.Core.List.{List}
 use Prim.Native.Nat.{ℕ, _*_, _≤_}
 use native.Mathlib.Nat.{div-le-self}
 use native.Mathlib.Omega.{arith}
+use lib.Dec.{eqb}
 use lib.ListN.{length}
+use Rattle.refusals.specs.Refusals.{must, wrongLength}
 use Rattle.combinatorics.proofs.Cases.{by-eq, by-bool, eqb-same, eqb-other, leb-holds}
 use Rattle.cells.specs.Bytes.{byteWidth, payloadLen}
 use Rattle.cells.specs.Figures.{maxBursts}
-use Rattle.cells.specs.Outcomes.{Coding, Held, encodeUnder}
-use Rattle.lent.specs.Starts.{placementFrom}
+use Rattle.cells.specs.Outcomes.{Coding, Held, held, unserved, figuresUnder, unwritten, encodeUnder}
+use Rattle.cells.proofs.Outcomes.{refused-alike}
+use Rattle.lent.specs.Starts.{startsFrom, placementFrom}
 use Rattle.lent.specs.Words.{encodeBytesUnder}
 
 -- ---- "word write 1 2 3 5 4": a placement without starts is refused where the bytes of the starts are
@@ -31,6 +35,27 @@ encode-bytes d some-bursts starts ms out =
   where
     at : Held
     at = placementFrom (d .bursts) starts
+
+-- ---- The same refusal by refusal
+
+module _ (d : Coding) (starts ms out : List ℕ) where
+  -- 1 and 2, with the number that the figures have alone
+  pub encode-unfit : (a : ℕ) → figuresUnder d ≡ unserved a → encodeBytesUnder d starts ms out ≡ unwritten out a
+  unfolding encodeBytesUnder
+  encode-unfit a e =
+      refused-alike d a (unwritten out)
+      (must (eqb (length starts) (2 * d .bursts)) (unwritten out wrongLength) (encodeUnder d (held (startsFrom starts)) ms out)) e
+
+  module _ (range : d .inRange ≡ true) (fit : d .fits ≡ true) where
+    -- 3 for the bytes of the starts
+    pub encode-length : length starts ≢ 2 * d .bursts → encodeBytesUnder d starts ms out ≡ unwritten out wrongLength
+    unfolding encodeBytesUnder
+    encode-length e = rw (range, fit, eqb-other (length starts) (2 * d .bursts) e)
+
+    -- and otherwise word write
+    pub encode-placed : length starts ≡ 2 * d .bursts → encodeBytesUnder d starts ms out ≡ encodeUnder d (held (startsFrom starts)) ms out
+    unfolding encodeBytesUnder
+    encode-placed e = rw (range, fit, eqb-same (length starts) (2 * d .bursts) e)
 
 -- ---- Lengths: no payload is longer than its message
 

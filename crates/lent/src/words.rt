@@ -3,13 +3,16 @@
 ghost use mathlib.Core.Path.{_≡_};
 ghost use Rattle.cells.specs.Outcomes.{unwritten};
 ghost use Rattle.params.specs.Bridge.{codingOf};
+ghost use Rattle.params.specs.Given.{codingIn, Serves};
 ghost use Rattle.decoder.specs.Exported.{lentAs, exportedUnder};
 ghost use Rattle.lent.specs.Words.{encodeBytesUnder, messageLenUnder, payloadLenUnder};
-use crate::starts;
 use decoder::starts::decode_bytes;
 use params::Figures;
+use params::Layout;
 use params::LayoutAnswer;
 use params::bytes;
+use placements::starts::placement_at;
+use refusals::Refusal;
 
 // A length that no message and no payload has.
 pub const NO_LENGTH: u32 = 4294967295;
@@ -40,8 +43,23 @@ pub fn payload_len(figures: Figures) -> u32
 pub fn encode(figures: Figures, starts: &[u8], message: &[u8], word: &mut [u8]) -> u8
     ensures { λ r. ⌜ unwritten (now (word .exit)) r ≡ encodeBytesUnder (codingOf figures) (now (starts .entry)) (now (message .entry)) (now (word .entry)) ⌝ }
 {
-    let at = starts::placement_under(figures, starts);
-    encoder::encode(figures, at, message, word)
+    let answer = figures.layout();
+    match answer {
+        LayoutAnswer::Refused(number) => number,
+        LayoutAnswer::Fit(layout) => encode_laid(layout, starts, message, word),
+    }
+}
+
+// The same for figures that fit. Refusals: 3 5 4.
+fn encode_laid(layout: Layout, starts: &[u8], message: &[u8], word: &mut [u8]) -> u8
+    requires { ⌜ Serves layout ⌝ }
+    ensures { λ r. ⌜ unwritten (now (word .exit)) r ≡ encodeBytesUnder (codingIn layout) (now (starts .entry)) (now (message .entry)) (now (word .entry)) ⌝ }
+{
+    if starts.len() != 2 * layout.m {
+        return Refusal::LENGTH;
+    }
+    let at = placement_at(starts, 0, layout.m);
+    encoder::encode_fitting(layout, at, message, word)
 }
 
 // Word read with the starts as bytes. Refusals: 1 2 3 4 7 19 8 9 19.

@@ -1,34 +1,58 @@
--- `encode` meets its contract: word write with the placement that the bytes are. Assumes nothing.
-use mathlib.Core.Path.{ap, _∙_}
+-- `encode` meets its contract: 1, 2, or what figures that fit give. Assumes nothing.
+use mathlib.Core.Path.{_≡_, sym, ap, _∙_}
 use borrow.Author.Needs.{needs}
+use Rattle.cells.specs.Outcomes.{Coding}
+use Rattle.params.specs.Answer.{figuredAs}
 use Rattle.params.specs.Bridge.{codingOf}
-use Rattle.cells.specs.Outcomes.{Held, encodeUnder}
-use Rattle.placements.specs.Bridge.{heldAs}
-use Rattle.lent.proofs.StartLaws.{some-bursts}
-use Rattle.lent.proofs.WithTable.{all-told}
-use Rattle.lent.proofs.WordLaws.{encode-bytes}
+use Rattle.params.specs.Given.{codingIn, Serves}
+use Rattle.params.specs.declared.Figures.{Figures}
+use Rattle.params.proofs.Either.{serves}
+use Rattle.lent.specs.Words.{encodeBytesUnder}
+use Rattle.lent.proofs.WordLaws.{encode-unfit}
 use Rattle.lent.proofs.words.encode.Statement.{statement}
 use Rattle.lent.proofs.words.encode.Tie as tie
 
-placement-under-requires : tie.Need-placement-under-requires
-placement-under-requires c κs = search needs
+abbrev f : tie.Start → Figures
+f s = s .args .figures
 
-encode-requires : tie.Need-encode-requires
-encode-requires c κs = search needs
+-- the layout that was answered
+learnt : (c : tie.After-answer2) → (codingIn (c .answer2 .given .0 .0) ≡ codingOf (f (c .before .before .before .before .before .before)))
+    × Serves (c .answer2 .given .0 .0)
+learnt c =
+    let r = c .before .before .layout in
+    serves (f (c .before .before .before .before .before .before)) (r .result) (c .answer2 .given .0 .0) (c .answer2 .given .1) (r .ensures .0) (r .ensures .1)
+
+layout-requires : tie.Need-layout-requires
+layout-requires c κs = search needs
+
+enum-known-answer : tie.Need-enum-known-answer
+enum-known-answer c = search needs
+
+enum-known-answer-2 : tie.Need-enum-known-answer-2
+enum-known-answer-2 c = search needs
+
+encode-laid-requires : tie.Need-encode-laid-requires
+encode-laid-requires c κs = learnt (c .before .before) .1
+
+returns : tie.Need-returns
+returns c =
+    let s = c .before .before .before .before .before .before .before in
+    let told = c .before .answer .given in
+    let r = c .before .before .before .layout in
+    sym (encode-unfit (codingOf (f s)) (s .args .starts .now) (s .args .message .now) (s .args .word .now) (told .0 .0)
+    (sym (r .ensures .0) ∙ ap figuredAs (told .1)))
 
 same-length : tie.Need-same-length
 same-length c = search needs
 
-returns : tie.Need-returns
-returns c =
-    let a = c .before .before .before .before .before .before .before .before .args in
-    let f = codingOf (a .figures) in
-    let call = c .before .before .encode in
-    all-told (encodeUnder f (heldAs (c .before .before .before .before .placement-under .result)) (a .message .now) (a .word .now)) (call .ensures .1)
-    (call .ensures .0)
-    ∙ ap (λ (h : Held). encodeUnder f h (a .message .now) (a .word .now)) (c .before .before .before .before .placement-under .ensures)
-    ∙ encode-bytes f (some-bursts (a .figures)) (a .starts .now) (a .message .now) (a .word .now)
+returns-2 : tie.Need-returns-2
+returns-2 c =
+    let s = c .before .before .before .before .before .before .before .before .before .before .before in
+    c .before .before .encode-laid .ensures ∙ ap (λ (d : Coding). encodeBytesUnder d (s .args .starts .now) (s .args .message .now)
+    (s .args .word .now)) (learnt (c .before .before .before .before .before) .0)
 
 pub encode-spec : {M : Type 1} → statement M
 encode-spec =
-    tie.close (tie.spec placement-under-requires encode-requires same-length returns)
+    tie.close
+    (tie.spec
+    layout-requires enum-known-answer enum-known-answer-2 encode-laid-requires returns same-length returns-2)
