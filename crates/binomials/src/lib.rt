@@ -50,7 +50,8 @@ pub fn choose(n: u64, k: u64) -> u64
     choices::entry(n, k)
 }
 
-// The same worked out: the first few by one product, each further one by a step.
+// The same worked out: the first few by one product, each further one by a step. Called by itself it is not inlined, and so leaves the loops that look
+// into the table their registers.
 pub fn worked_out(n: u64, k: u64) -> u64
     requires { ⌜ (n ≤ maxThings) × (k ≤ maxChosen) × (ways n k ≤ maxCount) ⌝ }
     ensures { λ r. ⌜ r ≡ ways n k ⌝ }
@@ -61,13 +62,8 @@ pub fn worked_out(n: u64, k: u64) -> u64
     if k <= MAX_TAKEN {
         return choose_few(n, k);
     }
-    let mut chosen = choose_few(n, MAX_TAKEN);
-    let mut i: u64 = MAX_TAKEN;
-    while i < k {
-        chosen = scaled(chosen, n - i, i + 1);
-        i += 1;
-    }
-    chosen
+    let fewer = k - 1;
+    scaled(worked_out(n, fewer), n - fewer, k)
 }
 
 // The most things out of which k can be chosen in at most CountAnswer::MAX ways.

@@ -179,17 +179,6 @@ members-most (suc n) k (suc x) w h =
     by-bool (w k) (λ t. rw t (omega (arith, members-most n (suc k) x w (omega arith))))
     (λ t. rw t (omega (arith, members-most n (suc k) (suc x) w (omega arith))))
 
--- none is in the set where all are outside it
-pub none-has : (n k : ℕ) (w : ℕ → Bool) → not (has n k w) ≡ eqb (count n k (λ x. not (w x))) n
-unfolding has sum
-none-has zero k w = refl
-none-has (suc n) k w =
-    let c = count n (suc k) (λ x. not (w x)) in
-    by-bool (w k)
-    (λ t. rw t (sym (eqb-other (0 + c) (suc n) (omega (arith, count-le n (suc k) (λ x. not (w x)))))))
-    (λ t. rw t (none-has n (suc k) w
-    ∙ by-eq c n (λ b. b ≡ eqb (1 + c) (suc n)) (λ e. sym (eqb-same (1 + c) (suc n) (omega arith))) (λ f. sym (eqb-other (1 + c) (suc n) (omega arith)))))
-
 -- the first n of a list, by what stands at each place
 pub take-is : (n k : ℕ) (xs : List ℕ) (f : ℕ → ℕ) → n ≤ length xs → ((j : ℕ) → j < n → getD xs j 0 ≡ f (k + j)) → take n xs ≡ tabulate n k f
 unfolding tabulate

@@ -61,7 +61,7 @@ loop-less c = let s = c .before .before in omega (arith, within s, blocks-fit (l
 loop-again : tie.Need-loop-again Inv-loop μ-loop
 loop-again c =
     let s = c .before .before in (
-      c .if1 .taken,
+      omega (arith, c .if1 .taken),
       λ later h g.
           let other : s .loop .k + 1 ≢ later = λ e. absurd (omega (arith, c .if1 .taken, rw (← e) at g)) in
           omega (arith, s .loop .inv .1 later h g, other),
