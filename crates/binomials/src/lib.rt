@@ -50,8 +50,8 @@ pub fn choose(n: u64, k: u64) -> u64
     choices::entry(n, k)
 }
 
-// The same worked out: the first few by one product, each further one by a step. Called by itself it is not inlined, and so leaves the loops that look
-// into the table their registers.
+// The same worked out: the first few by one product, each further one by a step. It calls itself, so that it is not inlined and leaves
+// the loops that look into the table their registers.
 pub fn worked_out(n: u64, k: u64) -> u64
     requires { ⌜ (n ≤ maxThings) × (k ≤ maxChosen) × (ways n k ≤ maxCount) ⌝ }
     ensures { λ r. ⌜ r ≡ ways n k ⌝ }

@@ -45,7 +45,7 @@ fn mark_bursts(
 )
     requires { ⌜ PlacesBursts layout at × HeadsOf (figuresOf layout) (now heads) × (now kinds ≡ replicate maxBlocks fixedKind) ⌝ }
     ensures size { λ _. ⌜ length (now (kinds .exit)) ≡ maxBlocks ⌝ }
-    ensures burstSet { λ _. ⌜ BurstsOf (figuresOf layout) (startsIn at) (now (kinds .exit)) ⌝ }
+    ensures bursts { λ _. ⌜ BurstsOf (figuresOf layout) (startsIn at) (now (kinds .exit)) ⌝ }
 {
     let blocks = layout.parts * layout.m;
     let mut last: usize = 0;

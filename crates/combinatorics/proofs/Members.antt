@@ -1,17 +1,17 @@
 -- Laws of lists over a stretch of numbers: its members, tables over it, and what holds of each number of a list. Assumes nothing.
 use mathlib.Core.Path.{_≡_, refl, sym, ap, _∙_, subst}
-use mathlib.Core.Bool.{Bool, true, false, not, _&&_, false≢true}
+use mathlib.Core.Bool.{Bool, true, false, _&&_, false≢true}
 use mathlib.Core.List.{List, [], _∷_, _++_, map, map-append, flatMap, append-nil}
 use Prim.Native.Nat.{ℕ, zero, suc, _+_, _-_, _*_, _≤_, _<_, min}
 use native.Mathlib.Nat.{add-zero, add-suc}
 use native.Mathlib.Numerals.{add-one}
 use native.Mathlib.Omega.{arith}
-use lib.Dec.{ltb, eqb}
+use lib.Dec.{ltb}
 use lib.ListN.{length, getD, take, drop, set, length-append}
 use lib.Seq.{take-nil, take-all, take-append-le, take-append-seam, drop-at, getD-set-same, getD-set-other}
-use Rattle.combinatorics.specs.Stretch.{sum, bit, count, firsts, has, keepIf, members, tabulate, top}
-use Rattle.combinatorics.proofs.Cases.{by-le, by-eq, by-bool, eqb-same, eqb-other}
-use Rattle.combinatorics.proofs.Stretch.{same, at-or-past, at-or-past, sum-next, count-le, count-le, members-none, members-none}
+use Rattle.combinatorics.specs.Stretch.{sum, bit, count, firsts, keepIf, members, tabulate, top}
+use Rattle.combinatorics.proofs.Cases.{by-le, by-eq, by-bool}
+use Rattle.combinatorics.proofs.Stretch.{same, at-or-past, sum-next, members-none}
 
 pub length-tabulate : {A : Type 0} (n k : ℕ) (f : ℕ → A) → length (tabulate n k f) ≡ n
 unfolding tabulate

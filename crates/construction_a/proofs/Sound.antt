@@ -44,7 +44,8 @@ not-zero f w (k ∷ ks) h = (eqb-false (getD w (headOf f k) 0) 0 (not-true (look
 
 module _ (f : Params) (ok : Served f) (w : List ℕ) (small : (x : ℕ) → getD w x 0 < foundBound (f .q)) where
   -- the placement of the value read, where that is below T, the blocks agree and no erasure was read
-  kernel : (ks : List ℕ) → indexFound (parts f) (f .m) (looksFixed f w) ≡ some ks → hasErasure (f .q) (firstSymbols f w ks) ≡ false → written f w ks < placementCount f
+  kernel : (ks : List ℕ) → indexFound (parts f) (f .m) (looksFixed f w) ≡ some ks → hasErasure (f .q) (firstSymbols f w ks) ≡ false
+      → written f w ks < placementCount f
       → agrees f w ks (placementOf f (written f w ks)) ≡ true → hasErasure (f .q) (pick message (plan f (placementOf f (written f w ks))) w) ≡ false
       → Accepted f (messageLen f) (word f) w (placementOf f (written f w ks)) (pick message (plan f (placementOf f (written f w ks))) w)
   unfolding agrees firstSymbols word plan kindAt written messageLen indexBlocks isFixed looksFixed

@@ -19,9 +19,12 @@ use Rattle.construction_a.specs.Figures.{blocks}
 use Rattle.construction_a.specs.Reading.{looksFixed, agrees}
 use Rattle.construction_a.specs.Writing.{isIndex, isBurst, isFixed, indexBlocks}
 use Rattle.blocks.specs.Blocks.{fixedKind, indexKind, blockKind, KindsOf}
-use Rattle.decoder.specs.Reader.{ofKind}
 
 -- ---- The blocks of a kind
+
+-- the blocks that an array marks with a kind, as a set
+unfoldable pub ofKind : ℕ → List ℕ → ℕ → Bool
+ofKind kind kinds k = eqb (getD kinds k 0) kind
 
 module _ (kind : ℕ) (kinds : List ℕ) (k : ℕ) where
   pub marked : getD kinds k 0 ≡ kind → ofKind kind kinds k ≡ true

@@ -3,8 +3,7 @@ use mathlib.Core.Path.{_≡_}
 use mathlib.Core.Bool.{Bool, true, not}
 use mathlib.Core.List.{List}
 use Prim.Native.Nat.{ℕ, _*_, _≤_, _<_, min}
-use lib.Dec.{eqb}
-use lib.ListN.{length, getD}
+use lib.ListN.{length}
 use Rattle.refusals.specs.Refusals.{must, erased}
 use Rattle.combinatorics.specs.Bursts.{rankOf}
 use Rattle.combinatorics.specs.Lists.{allBelow}
@@ -66,7 +65,3 @@ pub record Located (l : Layout) (at : Placement) (v : ℕ) (whole : Bool) (w out
 -- two bytes for each start of an accepted word
 abbrev pub StartsFit : Decoded → List ℕ → Type 0
 StartsFit d bytes = (v : ℕ) → d .answer ≡ Accepted v → (d .placement .count ≤ maxBursts) × (length bytes ≡ 2 * d .placement .count)
-
--- the blocks that an array marks with a kind, as a set
-unfoldable pub ofKind : ℕ → List ℕ → ℕ → Bool
-ofKind kind kinds k = eqb (getD kinds k 0) kind

@@ -27,7 +27,7 @@ use Rattle.prescription.specs.Lens.{transposed, equivalent}
 use Rattle.prescription.specs.Eyes.{lensOf, eyeOf, Prescribed, prescribedOf, prescriptionOf}
 use Rattle.prescription.specs.Stored.{storedLen, prescribedIn}
 use Rattle.prescription.specs.Outcomes.{Answered, refused, orRefused, transposeOut, equivalentOut, readTextOut, Written, writtenOr, writeTextOut}
-use Rattle.prescriptioncodec.specs.PrescriptionWrite.{numberLen, prescriptionPayload, minPrescribed, writePrescribed, prescriptionWriteUnder}
+use Rattle.prescriptioncodec.specs.PrescriptionWrite.{numberLen, prescriptionPayload, minPrescriptionLen, writePrescribed, prescriptionWriteUnder}
 use Rattle.prescriptioncodec.specs.PrescriptionRead.{HandedOut, handPrescription, prescriptionIn, prescriptionReading, prescriptionReadUnder}
 use Rattle.lent_prescriptions.specs.Eyes.{marksOf, powersOf, powersLent, answerLent, transposeLent, PowerLent, equivalentLentAs, equivalentLent}
 use Rattle.lent_prescriptions.specs.Prescriptions.{handedMarks, handedPowers, haveRoom, prescriptionWriteBytesUnder, prescriptionReadLent}
@@ -93,7 +93,7 @@ module _ (d : Coding) (es : List Entry) (at : Held) (n : ℕ) (out : List ℕ) w
       job-tests P d es (keep refl refl) (keep refl refl) (keep refl refl)
       (tested P (eqb (at .count) (d .bursts) && eqb (length out) (c .wordLen)) (keep refl refl)
       (tested P (apart (d .burstLen) (c .wordLen) 0 (inUse at)) (keep refl refl)
-      (tested P (leb minPrescribed (payloadLen q k)) (keep refl refl)
+      (tested P (leb minPrescriptionLen (payloadLen q k)) (keep refl refl)
       (write-prescribed (prescribedOf p)))))
 
 hand-prescription : (es : List Entry) (payload : List ℕ) (o : Option Prescribed) → Answers prescriptionRead (handPrescription es payload o)

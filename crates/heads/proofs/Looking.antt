@@ -11,6 +11,7 @@ use lib.Seq.{take-all, getD-take, getD-drop}
 use Rattle.combinatorics.proofs.Cases.{leb-fails}
 use Rattle.combinatorics.proofs.Members.{each-at}
 use Rattle.cells.specs.Cut.{blockHead}
+use Rattle.cells.specs.Figures.{maxBursts}
 use Rattle.construction_a.specs.Figures.{parts, headOf}
 use Rattle.construction_a.specs.Reading.{looksFixed, indexFound}
 use Rattle.construction_a.proofs.Pattern.{taken-bare, found-within, found-count}
@@ -21,10 +22,18 @@ use Rattle.params.specs.Given.{figuresOf, maxBlocks, Shaped}
 use Rattle.heads.specs.Given.{CompleteWord}
 use Rattle.heads.specs.declared.pattern.IndexBlocks.{IndexBlocks}
 use Rattle.heads.specs.Looks.{startsFixed}
-use Rattle.heads.specs.Patterns.{Parted, indexIn}
+use Rattle.heads.specs.Patterns.{indexIn}
 use Rattle.heads.specs.Written.{OpenHeads}
 
 -- ---- A layout's parts and blocks
+
+-- how many there can be
+pub record Parted (p m : ℕ) : Type 0 where
+  pub some-parts : 0 < p
+  pub some-blocks : 0 < m
+  pub few-parts : p ≤ maxBursts
+  pub few-blocks : m ≤ maxBursts
+  pub alike : 2 < m → p ≡ m
 
 module _ (l : Layout) (h : Shaped l) where
   pub parted : Parted (l .parts) (l .m)

@@ -3,20 +3,11 @@ use mathlib.Core.Path.{_≡_}
 use mathlib.Core.Bool.{cond}
 use mathlib.Core.List.{List}
 use mathlib.Core.Option.{Option, none, some}
-use Prim.Native.Nat.{ℕ, _≤_, _<_}
+use Prim.Native.Nat.{ℕ}
 use lib.Dec.{ltb}
 use lib.ListN.{length, getD, take}
-use Rattle.cells.specs.Figures.{maxBursts}
 use Rattle.heads.specs.declared.pattern.Candidates.{Candidates}
 use Rattle.heads.specs.declared.pattern.IndexBlocks.{IndexBlocks}
-
--- what the search needs of p and m
-pub record Parted (p m : ℕ) : Type 0 where
-  pub some-parts : 0 < p
-  pub some-blocks : 0 < m
-  pub few-parts : p ≤ maxBursts
-  pub few-blocks : m ≤ maxBursts
-  pub alike : 2 < m → p ≡ m
 
 -- the candidates of a list
 abbrev pub candidatesOf : List ℕ → Candidates

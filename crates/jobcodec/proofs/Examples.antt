@@ -197,8 +197,8 @@ pub computed : Computed
 unfolding all any sameList sum has first members tabulate top choose rankFrom unrankDown unrank apart inBurst placements reduceFrom expandFrom rankOf
     startsOf byteWidth payloadLen pieceLen pieceStart blockAt blockHead blockWith weave pick span spell value places inRange parts blockMin leastTail
     indexTail fits messageLen becomes withBurst withBursts isBurst next partCount partWith chosen beside isChosen isIndexIn isIndex indexBlocks isFixed
-    cellOf kindAt plan word looksFixed later bareParts openBlocks indexInPart collect indexFound firstSymbols written agrees foundBound hasErasure readRank read
-    comesTrue firstEntry replaceFirst put twice decide tableFrom carriesJob jobNumber messageOf payloadIn spellsPayload jobWriteOut jobReading jobReadOut
+    cellOf kindAt plan word looksFixed later bareParts openBlocks indexInPart collect indexFound firstSymbols written agrees foundBound hasErasure readRank
+    read comesTrue firstEntry replaceFirst put twice decide tableFrom carriesJob jobNumber messageOf payloadIn spellsPayload jobWriteOut jobReading jobReadOut
     transfer spelling writeOrder readOrder flatMap
 computed =
     record {

@@ -37,7 +37,7 @@ holds-only (Open x) n k t = ap (λ (y : ℕ). eqb y k) (eqb-true x n t)
 holds-only (OnHold x) n k t = ap (λ (y : ℕ). eqb y k) (eqb-true x n t)
 holds-only (Cancelled x was) n k t = ap (λ (y : ℕ). eqb y k) (eqb-true x n t)
 
--- an entry that is not free is held, and counts
+-- an entry that is not free takes a slot
 counted : (e : Entry) → bit (takesSlot (standing e)) ≡ bit (not (isFree e))
 counted Free = refl
 counted (Open x) = refl
@@ -172,13 +172,13 @@ module _ (new : Entry) where
       (store-there e es (replaceFirst t new es) (firstEntry t es) f o (not-found t es)
       (stored t es (rw p at a) (once-rest e es o) (λ k s q. free-there e es k (f k s q)))))
 
--- ---- How many are held
+-- ---- How many take a slot
 
--- a number that is held counts
-pub held-le : (es : List Entry) (n : ℕ) → bit (takesSlot (standing (lookup es n))) ≤ used es
+-- a number that takes a slot counts
+pub slots-le : (es : List Entry) (n : ℕ) → bit (takesSlot (standing (lookup es n))) ≤ used es
 unfolding used firstEntry
-held-le [] n = omega arith
-held-le (e ∷ es) n = by-bool (holds n e) (λ t. rw t (omega arith)) (λ t. rw t (omega (arith, held-le es n)))
+slots-le [] n = omega arith
+slots-le (e ∷ es) n = by-bool (holds n e) (λ t. rw t (omega arith)) (λ t. rw t (omega (arith, slots-le es n)))
 
 used-le : (es : List Entry) → used es ≤ length es
 unfolding used

@@ -1,6 +1,6 @@
 pub mod Examples
 pub mod Turns
 pub mod Simulates
-pub mod HeldNumbers
+pub mod SlotNumbers
 pub mod ReplayLaws
 pub mod Striking

@@ -22,7 +22,7 @@ use Rattle.ledger.specs.Ledger.{historyOf, after, statusOf, status, lawf
 use Rattle.ledger.specs.Ledger.{acceptedBy}
 use Rattle.ledger.specs.Simulation.{Agrees, Simulation, Start, empty, zero-open, zero-cancelled, zero-opened-cancelled, zero-on-hold-cancelled}
 use Rattle.ledger.specs.Simulation.{SimulationFromStart}
-use Rattle.jobs.proofs.Entries.{any-holds, entry-passes, holds-only, free-entry, Stored, stored, held-le, room-is, free-lookup, alone-lookup, alone-once}
+use Rattle.jobs.proofs.Entries.{any-holds, entry-passes, holds-only, free-entry, Stored, stored, slots-le, room-is, free-lookup, alone-lookup, alone-once}
 use Rattle.jobs.proofs.Entries.{alone-used}
 
 -- one call's outcome is what the ledger says
@@ -62,7 +62,7 @@ module _ (es : List Entry) (h : List Call) (g : Agrees es h) (c : Call) where
                   (λ d. new-is ∙ ap (λ (x : ℕ). after (c .kind) (status h x)) d) (λ _. g .same k));
               once = s .once;
               count = rw (eqb-same (c .number) (c .number) refl, ← new-is)
-                  (omega (arith, s .count, g .count, held-le es (c .number), ap share was, ap share found));
+                  (omega (arith, s .count, g .count, slots-le es (c .number), ap share was, ap share found));
               accepted = λ k.
                   by-eq (c .number) k (λ t. lawful (cond t (c .kind ∷ historyOf h k) (historyOf h k)) ≡ true)
                   (λ d. rw (g .accepted k, ← d, ← found, taken)) (λ _. g .accepted k);
@@ -82,7 +82,7 @@ module _ (es : List Entry) (h : List Call) (g : Agrees es h) (c : Call) where
       rw t (accepted (replaceFirst isFree new es) Free new s (ap standing (sym l)) (λ k. s .at k ∙ rw (own k)) (rw l now) (rw l taken) (judged l ∙ j ∙ rw t)))
       (λ t. rw t (refused tableFull refl (judged l ∙ j ∙ rw t)))
 
-  -- a number that is held: its entry changes, or goes
+  -- a number that takes a slot: its entry changes, or goes
   changed : (new : Entry) (e : Entry) → lookup es (c .number) ≡ e → isFree e ≡ false
       → ((k : ℕ) (r : Entry) → cond (holds k new) new (cond (eqb (c .number) k) Free r) ≡ cond (eqb (c .number) k) new r)
       → ((k : ℕ) → holds k new ≡ true → eqb (c .number) k ≡ true) → standing new ≡ after (c .kind) (standing e)

@@ -195,5 +195,5 @@ pub record CountsSlots (h : List Call) (numbers : List ℕ) : Type 0 where
   pub exactly : (n : ℕ) → any (eqb n) numbers ≡ takesSlot (status h n)
   pub count : length numbers ≡ slotsTaken h
 
-abbrev pub SlotsCount : Type 0
-SlotsCount = (h : List Call) → (numbers : List ℕ) × CountsSlots h numbers
+abbrev pub SlotsCounted : Type 0
+SlotsCounted = (h : List Call) → (numbers : List ℕ) × CountsSlots h numbers

@@ -7,6 +7,7 @@ ghost use Rattle.larsson_params.specs.Given.{larssonFiguresOf, LarssonLayoutFit
 ghost use Rattle.moving.specs.Both.{BothIn};
 use larsson_params::LarssonAnswer;
 use larsson_params::LarssonLayout;
+use params::Figures;
 use params::Layout;
 use params::LayoutAnswer;
 use params::Params;
@@ -24,7 +25,7 @@ pub enum BothAnswer {
 pub fn both_fit(figures: Params, strip: usize, moved: usize) -> BothAnswer
     ensures { λ r. ⌜ BothIn (given figures) strip moved r ⌝ }
 {
-    let answer = Params::figures(figures.n, figures.q, figures.m, figures.b);
+    let answer = Figures::Ranked(figures).layout();
     match answer {
         LayoutAnswer::Refused(number) => BothAnswer::Refused(number),
         LayoutAnswer::Fit(newer) => older_fits(figures, newer, strip, moved),

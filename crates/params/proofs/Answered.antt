@@ -1,30 +1,19 @@
 -- What a caller learns of a layout that was answered. Assumes nothing.
-use mathlib.Core.Path.{_≡_, sym, ap, _∙_, subst}
+use mathlib.Core.Path.{_≡_, sym, ap, _∙_}
 use Prim.Native.Nat.{ℕ, _*_, _≤_, _<_}
 use Rattle.cells.specs.Figures.{Params, maxWord, maxAlphabet, maxBursts}
 use Rattle.construction_a.specs.Outcomes.{unserved, figuresNumber, figuresOut}
-use Rattle.construction_a.proofs.Figures.{Served}
-use Rattle.construction_a.proofs.Outcomes.{figured-served}
 use Rattle.params.specs.declared.Layout.{Layout}
 use Rattle.params.specs.declared.LayoutAnswer.{LayoutAnswer}
 use Rattle.params.specs.declared.LayoutAnswer.the-variants.{Fit, Refused}
-use Rattle.params.specs.Answer.{figuredAs, layoutNumber, LaidOut, LaidIn}
+use Rattle.params.specs.Answer.{figuredAs, layoutNumber}
 
 -- an answer's number follows from its values
 pub number-is : (f : Params) (r : LayoutAnswer) → figuredAs r ≡ figuresOut f → layoutNumber r ≡ figuresNumber (figuresOut f)
 number-is f (Fit l) answer = ap figuresNumber answer
 number-is f (Refused a) answer = ap figuresNumber answer
 
--- what `figures` tells of an answer besides: its layout and its number
-abbrev pub Told : Params → LayoutAnswer → Type 0
-Told f r = LaidIn f r × (layoutNumber r ≡ figuresNumber (figuresOut f))
-
--- of an answer that was taken apart: a layout's figures can be served, and it is theirs
-pub fit-learnt : (f : Params) (r : LayoutAnswer) (l : Layout) → r ≡ Fit l → figuredAs r ≡ figuresOut f → Told f r → Served f × LaidOut f l
-fit-learnt f r l e answer told =
-    (figured-served f (l .«placement_count») (l .«index_tail») (l .«message_len») (sym answer ∙ ap figuredAs e), subst (LaidIn f) e (told .0))
-
--- and a refusal is that of the figures alone
+-- of an answer that was taken apart: a refusal is that of the figures alone
 pub refused-learnt : (f : Params) (r : LayoutAnswer) (a : ℕ) → r ≡ Refused a → figuredAs r ≡ figuresOut f → figuresOut f ≡ unserved a
 refused-learnt f r a e answer = sym answer ∙ ap figuredAs e
 

@@ -29,7 +29,7 @@ use Rattle.jobcodec.proofs.Outcomes.{both-false, figures-refused}
 use Rattle.prescription.specs.declared.texts.Prescription.{Prescription}
 use Rattle.prescription.specs.Eyes.{Prescribed, prescribedOf}
 use Rattle.prescription.specs.Stored.{textOf, storedLen}
-use Rattle.prescriptioncodec.specs.PrescriptionWrite.{numberLen, numberBytes, prescriptionPayload, minPrescribed, writeOpen, writePrescribed, asJob}
+use Rattle.prescriptioncodec.specs.PrescriptionWrite.{numberLen, numberBytes, prescriptionPayload, minPrescriptionLen, writeOpen, writePrescribed, asJob}
 use Rattle.prescriptioncodec.specs.PrescriptionWrite.{prescriptionWriteUnder}
 
 -- the text of t bytes has t
@@ -42,7 +42,7 @@ text-length t x h =
     back t h = omega arith
 
 -- the payload has K bytes
-pub payload-length : (K n : ℕ) (x : Prescribed) → minPrescribed ≤ K → length (prescriptionPayload K n x) ≡ K
+pub payload-length : (K n : ℕ) (x : Prescribed) → minPrescriptionLen ≤ K → length (prescriptionPayload K n x) ≡ K
 unfolding prescriptionPayload numberBytes
 payload-length K n x h =
     length-append (spell byteValues (replicate numberLen plain) n) (textOf (K - numberLen) x)
@@ -56,7 +56,7 @@ payload-length K n x h =
     total K h = omega arith
 
 pub writes-job : (d : Coding) (es : List Entry) (at : Held) (n : ℕ) (p : Prescription) (x : Prescribed) (out : List ℕ)
-    → minPrescribed ≤ payloadLen (d .codec .alphabet) (d .codec .messageLen) → prescribedOf p ≡ some x
+    → minPrescriptionLen ≤ payloadLen (d .codec .alphabet) (d .codec .messageLen) → prescribedOf p ≡ some x
     → prescriptionWriteUnder d es at n p out ≡ jobWriteUnder d es at (prescriptionPayload (payloadLen (d .codec .alphabet) (d .codec .messageLen)) n x) out
 writes-job d es at n p x out h e =
     let c = d .codec in
@@ -69,7 +69,8 @@ writes-job d es at n p x out h e =
     must (d .inRange && not (twice es)) (unwritten out invalid)
     (must (d .fits) (unwritten out unfit) (must (carriesJob (c .alphabet) k) (unwritten out badPayload)
     (must lengths (unwritten out wrongLength) (must (apart (d .burstLen) (c .wordLen) 0 (inUse at)) (unwritten out badStarts) rest)))) in
-    ap (λ (b : Bool). front (count && room) (must b (unwritten out badPrescription) (writePrescribed d es at n (prescribedOf p) out))) (le-leb minPrescribed K h)
+    ap (λ (b : Bool). front (count && room) (must b (unwritten out badPrescription) (writePrescribed d es at n (prescribedOf p) out)))
+    (le-leb minPrescriptionLen K h)
     ∙ ap (λ (o : Option Prescribed). front (count && room) (writePrescribed d es at n o out)) e
     ∙ ap (λ (b : Bool). front (b && room) (writeOpen d es at y out)) (lengths count (eqb (length y) K) (eqb-same (length y) K (payload-length K n x h)))
   where
@@ -100,7 +101,7 @@ module _ (d : Coding) (es : List Entry) (at : Held) (n : ℕ) (p : Prescription)
       module _ (lent : length out ≡ d .codec .wordLen) where
         past-lengths : prescriptionWriteUnder d es at n p out
             ≡ must (apart (d .burstLen) (d .codec .wordLen) 0 (inUse at)) (unwritten out badStarts)
-            (must (leb minPrescribed (payloadLen (d .codec .alphabet) (d .codec .messageLen))) (unwritten out badPrescription)
+            (must (leb minPrescriptionLen (payloadLen (d .codec .alphabet) (d .codec .messageLen))) (unwritten out badPrescription)
             (writePrescribed d es at n (prescribedOf p) out))
         past-lengths = rw (r .range, r .once, r .fit, r .carries, eqb-same (at .count) (d .bursts) counted, eqb-same (length out) (d .codec .wordLen) lent)
 
@@ -108,18 +109,18 @@ module _ (d : Coding) (es : List Entry) (at : Held) (n : ℕ) (p : Prescription)
         write-starts e = past-lengths ∙ rw e
 
         module _ (placed : apart (d .burstLen) (d .codec .wordLen) 0 (inUse at) ≡ true) where
-          pub write-short : payloadLen (d .codec .alphabet) (d .codec .messageLen) < minPrescribed
+          pub write-short : payloadLen (d .codec .alphabet) (d .codec .messageLen) < minPrescriptionLen
               → prescriptionWriteUnder d es at n p out ≡ unwritten out badPrescription
-          write-short h = past-lengths ∙ rw (placed, leb-fails minPrescribed (payloadLen (d .codec .alphabet) (d .codec .messageLen)) h)
+          write-short h = past-lengths ∙ rw (placed, leb-fails minPrescriptionLen (payloadLen (d .codec .alphabet) (d .codec .messageLen)) h)
 
           -- every test is passed but the prescription's own
-          pub write-as-job : minPrescribed ≤ payloadLen (d .codec .alphabet) (d .codec .messageLen)
+          pub write-as-job : minPrescriptionLen ≤ payloadLen (d .codec .alphabet) (d .codec .messageLen)
               → prescriptionWriteUnder d es at n p out ≡ asJob d es at n (payloadLen (d .codec .alphabet) (d .codec .messageLen)) out (prescribedOf p)
           write-as-job h = go (prescribedOf p) refl
             where
               go : (o : Option Prescribed) → prescribedOf p ≡ o
                   → prescriptionWriteUnder d es at n p out ≡ asJob d es at n (payloadLen (d .codec .alphabet) (d .codec .messageLen)) out o
-              go none e = past-lengths ∙ rw (placed, le-leb minPrescribed (payloadLen (d .codec .alphabet) (d .codec .messageLen)) h, e)
+              go none e = past-lengths ∙ rw (placed, le-leb minPrescriptionLen (payloadLen (d .codec .alphabet) (d .codec .messageLen)) h, e)
               go (some x) e = writes-job d es at n p x out h e
 
 -- "10: K below 5"

@@ -23,7 +23,7 @@ use Rattle.prescription.specs.declared.texts.Prescription.{Prescription}
 use Rattle.prescription.specs.Eyes.{Prescribed, prescribedOf}
 use Rattle.prescription.specs.Stored.{storedLen, textOf}
 use Rattle.prescription.specs.Outcomes.{Written, writtenText, writtenOr, writeTextOut}
-use Rattle.prescriptioncodec.specs.PrescriptionWrite.{numberLen, numberBytes, prescriptionPayload, minPrescribed, asJob}
+use Rattle.prescriptioncodec.specs.PrescriptionWrite.{numberLen, numberBytes, prescriptionPayload, minPrescriptionLen, asJob}
 
 -- ---- Lengths
 
@@ -38,7 +38,7 @@ lent-is count room le = length-take-le {A = ℕ} count (replicate room 0) (omega
 
 -- ---- The text behind the number
 
-module _ (p : Prescription) (y text : List ℕ) (r : ℕ) (long : minPrescribed ≤ length y)
+module _ (p : Prescription) (y text : List ℕ) (r : ℕ) (long : minPrescriptionLen ≤ length y)
     (told : writtenText r text ≡ writeTextOut p (take (length y - numberLen) (drop numberLen y))) where
   text-told : writtenText r text ≡ writtenOr (drop numberLen y) (prescribedOf p)
   unfolding writeTextOut
@@ -81,7 +81,7 @@ module _ (p : Prescription) (y text : List ℕ) (r : ℕ) (long : minPrescribed 
 
 -- ---- The number
 
-module _ (y text : List ℕ) (n : ℕ) (long : minPrescribed ≤ length y) where
+module _ (y text : List ℕ) (n : ℕ) (long : minPrescriptionLen ≤ length y) where
   pub number-room : length (take numberLen (putMid numberLen (length y - numberLen) y text)) ≡ numberLen
   number-room = ap length (take-put numberLen (length y - numberLen) y text (omega arith)) ∙ length-take-le numberLen y (omega arith)
 

@@ -40,7 +40,8 @@ use Rattle.prescription.proofs.Lenses.{toric-kept, sphere-kept, cylinder-in}
 use Rattle.prescription.proofs.InMemory.{held-exactly}
 use Rattle.prescription.proofs.TextBack.{text-back}
 use Rattle.prescription.specs.declared.fields.StoredEye.{StoredEye}
-use Rattle.prescriptioncodec.specs.PrescriptionWrite.{numberLen, numberBytes, prescriptionPayload, minPrescribed, writePrescribed, prescriptionWriteUnder}
+use Rattle.prescriptioncodec.specs.PrescriptionWrite.{numberLen, numberBytes, prescriptionPayload, minPrescriptionLen, writePrescribed}
+use Rattle.prescriptioncodec.specs.PrescriptionWrite.{prescriptionWriteUnder}
 use Rattle.prescriptioncodec.specs.PrescriptionRead.{prescriptionReadUnder}
 use Rattle.prescriptioncodec.specs.Laws.{ReadBackUnder, PrescriptionsReadBack}
 use Rattle.prescriptioncodec.proofs.Calls.{writes-job}
@@ -117,14 +118,14 @@ found-prescribed d es at n out none e = not-served badPrescription refl e
 found-prescribed d es at n out (some x) e = (x, refl)
 
 written-told : (d : Coding) (es : List Entry) (at : Held) (n : ℕ) (p : Prescription) (out : List ℕ) → prescriptionWriteUnder d es at n p out .answer ≡ served
-    → (minPrescribed ≤ payloadLen (d .codec .alphabet) (d .codec .messageLen)) × ((x : Prescribed) × (prescribedOf p ≡ some x))
+    → (minPrescriptionLen ≤ payloadLen (d .codec .alphabet) (d .codec .messageLen)) × ((x : Prescribed) × (prescribedOf p ≡ some x))
 unfolding isRefusal any
 written-told d es at n p out e =
     let c = d .codec in
     let k = c .messageLen in
     let K = payloadLen (c .alphabet) k in
     let last = writePrescribed d es at n (prescribedOf p) out in
-    let enough = must (leb minPrescribed K) (unwritten out badPrescription) last in
+    let enough = must (leb minPrescriptionLen K) (unwritten out badPrescription) last in
     let starts = must (apart (d .burstLen) (c .wordLen) 0 (inUse at)) (unwritten out badStarts) enough in
     let lengths = must (eqb (at .count) (d .bursts) && eqb (length out) (c .wordLen)) (unwritten out wrongLength) starts in
     let five = must (carriesJob (c .alphabet) k) (unwritten out badPayload) lengths in
@@ -133,13 +134,13 @@ written-told d es at n p out e =
     let p₃ = passed (carriesJob (c .alphabet) k) out badPayload lengths refl (p₂ .1) in
     let p₄ = passed (eqb (at .count) (d .bursts) && eqb (length out) (c .wordLen)) out wrongLength starts refl (p₃ .1) in
     let p₅ = passed (apart (d .burstLen) (c .wordLen) 0 (inUse at)) out badStarts enough refl (p₄ .1) in
-    let p₆ = passed (leb minPrescribed K) out badPrescription last refl (p₅ .1) in
-    (leb→le minPrescribed K (subst T (sym (p₆ .0)) tt), found-prescribed d es at n out (prescribedOf p) (p₆ .1))
+    let p₆ = passed (leb minPrescriptionLen K) out badPrescription last refl (p₅ .1) in
+    (leb→le minPrescriptionLen K (subst T (sym (p₆ .0)) tt), found-prescribed d es at n out (prescribedOf p) (p₆ .1))
 
 -- ---- Reading it back
 
 module _ (d : Coding) (reads : ReadsWhereFit d) (es : List Entry) (at : Held) (n : ℕ) (p : Prescription) (x : Prescribed) (out : List ℕ)
-    (enough : minPrescribed ≤ payloadLen (d .codec .alphabet) (d .codec .messageLen)) (number : n < 2 ^ 32) (is : prescribedOf p ≡ some x)
+    (enough : minPrescriptionLen ≤ payloadLen (d .codec .alphabet) (d .codec .messageLen)) (number : n < 2 ^ 32) (is : prescribedOf p ≡ some x)
     (sized : length (at .starts) ≡ maxBursts) where
   prescription-reads : (w : List ℕ) → prescriptionWriteUnder d es at n p out .answer ≡ served → Word (d .codec) w
       → ((i : ℕ) → i < d .codec .wordLen → d .codec .spoilt (inUse at) i ≡ false → getD w i 0 ≡ getD (prescriptionWriteUnder d es at n p out .word) i 0)

@@ -31,8 +31,8 @@ unfoldable pub prescriptionPayload : ℕ → ℕ → Prescribed → List ℕ
 prescriptionPayload K n x = numberBytes n ++ textOf (K - numberLen) x
 
 -- "a payload below 17 bytes" is too short: number and thirteen bytes
-abbrev pub minPrescribed : ℕ
-minPrescribed = 17
+abbrev pub minPrescriptionLen : ℕ
+minPrescriptionLen = 17
 
 -- ---- Under any figures
 
@@ -59,7 +59,7 @@ prescriptionWriteUnder d es at n p out =
     (must (carriesJob q k) (unwritten out badPayload)
     (must (eqb (at .count) (d .bursts) && eqb (length out) (c .wordLen)) (unwritten out wrongLength)
     (must (apart (d .burstLen) (c .wordLen) 0 (inUse at)) (unwritten out badStarts)
-    (must (leb minPrescribed (payloadLen q k)) (unwritten out badPrescription)
+    (must (leb minPrescriptionLen (payloadLen q k)) (unwritten out badPrescription)
     (writePrescribed d es at n (prescribedOf p) out))))))
 
 -- where every other test is passed: the prescription's payload of K bytes, written as a job's

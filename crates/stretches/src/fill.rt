@@ -109,7 +109,7 @@ fn fill_head(
     if kind == blocks::INDEX {
         let len = walk.head_len;
         let spelled = from.indexed * walk.digit_step;
-        symbols::copy_first(&mut word[start..], &digits[spelled..], len);
+        symbols::copy_few(&mut word[start..], &digits[spelled..], len);
         return Filling {
             at: start + len,
             indexed: from.indexed + 1,

@@ -40,7 +40,7 @@ fn larger(a: u8, b: u8) -> u8
     if a < b { b } else { a }
 }
 
-// Every symbol 0. One symbol, as the head of a fixed block is, goes without a loop.
+// Every symbol 0. One symbol goes without a loop.
 pub fn clear(symbols: &mut [u8])
     ensures { λ _. ⌜ now (symbols .exit) ≡ replicate (length (now (symbols .entry))) 0 ⌝ }
 {
@@ -81,10 +81,22 @@ pub fn copy_first(to: &mut [u8], from: &[u8], len: usize)
         copy_pair(to, from, len, HALF);
         return;
     }
-    copy_long(to, from, len);
+    copy_long(to, from, len, MOST);
 }
 
-// The first `len` symbols 0.
+// The same where they are mostly few, as the digits of an index block: fewer branches leave a loop around it more registers.
+pub fn copy_few(to: &mut [u8], from: &[u8], len: usize)
+    requires { ⌜ (len ≤ length (now to)) × (len ≤ length (now from)) ⌝ }
+    ensures { λ _. ⌜ take len (now (to .exit)) ≡ take len (now (from .entry)) ⌝ }
+{
+    if len < QUARTER {
+        copy_short(to, from, len);
+        return;
+    }
+    copy_long(to, from, len, QUARTER);
+}
+
+// The first `len` symbols 0; no caller asks what becomes of those behind them.
 pub fn clear_first(to: &mut [u8], len: usize)
     requires { ⌜ len ≤ length (now to) ⌝ }
     ensures { λ _. ⌜ take len (now (to .exit)) ≡ replicate len 0 ⌝ }
@@ -148,18 +160,18 @@ fn copy_pair(to: &mut [u8], from: &[u8], len: usize, size: usize)
     copy_by(&mut to[rest..], &from[rest..], size);
 }
 
-// More than MOST: MOST at a time, then the last MOST, some of which may be copied already.
-fn copy_long(to: &mut [u8], from: &[u8], len: usize)
-    requires { ⌜ (64 < len) × (len ≤ length (now to)) × (len ≤ length (now from)) ⌝ }
+// At least `size` symbols: `size` at a time, then the last `size`, some of which may be copied already.
+fn copy_long(to: &mut [u8], from: &[u8], len: usize, size: usize)
+    requires { ⌜ (0 < size) × (size ≤ 64) × (size ≤ len) × (len ≤ length (now to)) × (len ≤ length (now from)) ⌝ }
     ensures { λ _. ⌜ take len (now (to .exit)) ≡ take len (now (from .entry)) ⌝ }
 {
     let mut done: usize = 0;
-    while MOST < len - done {
-        copy_by(&mut to[done..], &from[done..], MOST);
-        done += MOST;
+    while size < len - done {
+        copy_by(&mut to[done..], &from[done..], size);
+        done += size;
     }
-    let rest = len - MOST;
-    copy_by(&mut to[rest..], &from[rest..], MOST);
+    let rest = len - size;
+    copy_by(&mut to[rest..], &from[rest..], size);
 }
 
 // The first `size` symbols, at most MOST. They go by way of a local array, so that the compiler need not fear that the two overlap: where it

@@ -24,7 +24,7 @@ pub enum VerifyAnswer {
 pub fn verify(figures: Params, at: Placement, message: &[u8], word: &[u8]) -> VerifyAnswer
     ensures { λ r. ⌜ verdictAs r ≡ verifyOut (given figures) (heldAs at) (now (message .entry)) (now (word .entry)) ⌝ }
 {
-    let answer = Params::figures(figures.n, figures.q, figures.m, figures.b);
+    let answer = Figures::Ranked(figures).layout();
     match answer {
         LayoutAnswer::Refused(number) => VerifyAnswer::Refused(number),
         LayoutAnswer::Fit(layout) => verify_fitting(figures, layout, at, message, word),

@@ -59,7 +59,8 @@ module _ (t : ℕ) where
       let e : a .k - 1 + 1 ≡ a .k = omega arith in
       rw (c .worked-out .ensures) (rw e at (choose-next (a .n) (a .k - 1)))
 
-  scaled-requires : lts.Need-scaled-requires (choose-few.Asked, choose-few.Learnt, below t, worked-out.Post, scaled.Asked, scaled.Learnt) (at t) worked-out.Post
+  scaled-requires : lts.Need-scaled-requires (choose-few.Asked, choose-few.Learnt, below t, worked-out.Post, scaled.Asked, scaled.Learnt) (at t)
+      worked-out.Post
   scaled-requires c κs =
       let s = c .before .before .before in
       (omega arith, s .pre .1 .1, omega (arith, s .pre .1 .0), omega (arith, next c, s .pre .1 .2))
@@ -70,5 +71,5 @@ module _ (t : ℕ) where
 pub +worked-out-spec : {M : Type 1} → statement M
 +worked-out-spec =
     close μ-worked-out λ t.
-    lts.spec (choose-few.Asked, choose-few.Learnt, below t, worked-out.Post, scaled.Asked, scaled.Learnt) (at t) worked-out.Post (returns t) (choose-few-requires t)
-    (returns-2 t) (sub-fewer t) (worked-out-requires t) (sub-scaled t) (scaled-requires t) (returns-3 t)
+    lts.spec (choose-few.Asked, choose-few.Learnt, below t, worked-out.Post, scaled.Asked, scaled.Learnt) (at t) worked-out.Post (returns t)
+    (choose-few-requires t) (returns-2 t) (sub-fewer t) (worked-out-requires t) (sub-scaled t) (scaled-requires t) (returns-3 t)

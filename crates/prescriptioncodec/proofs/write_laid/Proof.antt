@@ -18,7 +18,7 @@ use Rattle.jobs.specs.Slots.{entries}
 use Rattle.jobcodec.specs.Given.{ReadyUnder}
 use Rattle.jobcodec.proofs.Calls.{alphabet-few, bytes-are, message-short, ready}
 use Rattle.prescription.specs.Eyes.{prescribedOf}
-use Rattle.prescriptioncodec.specs.PrescriptionWrite.{minPrescribed, asJob, prescriptionWriteUnder}
+use Rattle.prescriptioncodec.specs.PrescriptionWrite.{minPrescriptionLen, asJob, prescriptionWriteUnder}
 use Rattle.prescriptioncodec.proofs.Calls.{write-few, write-count, write-length, write-starts, write-short, write-as-job}
 use Rattle.prescriptioncodec.proofs.Payload.{payload-within, lent-is}
 use Rattle.prescriptioncodec.proofs.write_laid.Statement.{statement}
@@ -52,7 +52,7 @@ count-most c =
 -- a payload that is lent in an array with room for it
 module _ (c : tie.Else5) (room : ℕ) (fits : c .before .before .before .before .before .before .before .before .before .before .before .payload-len .result ≤
     room) where
-  long-enough : minPrescribed ≤ length
+  long-enough : minPrescriptionLen ≤ length
       (take {A = ℕ} (c .before .before .before .before .before .before .before .before .before .before .before .payload-len .result) (replicate room 0))
   long-enough =
       omega (

@@ -1,4 +1,4 @@
--- `copy_long` meets its contract: the symbols so far are copied, and the last move starts among them. Assumes nothing.
+-- `copy_long` meets its contract: the symbols so far are copied, and the last move starts among them or right behind. Assumes nothing.
 use mathlib.Core.Path.{_≡_, refl, _∙_}
 use Prim.Native.Nat.{_-_, _≤_}
 use native.Mathlib.Omega.{arith}
@@ -10,10 +10,10 @@ use Rattle.symbols.proofs.copy_long.Statement.{statement}
 use Rattle.symbols.proofs.copy_long.Tie as tie
 
 abbrev Inv-loop : tie.InvT-loop
-Inv-loop to₀ from len done₀ to done = (done ≤ len) × (length to ≡ length to₀) × (take done to ≡ take done from)
+Inv-loop to₀ from len size done₀ to done = (done ≤ len) × (length to ≡ length to₀) × (take done to ≡ take done from)
 
 abbrev μ-loop : tie.MeasureT-loop
-μ-loop to₀ from len done₀ to done = len - done
+μ-loop to₀ from len size done₀ to done = len - done
 
 loop-holds : tie.Need-loop-holds Inv-loop μ-loop
 loop-holds c = (omega arith, refl, refl)
@@ -54,8 +54,8 @@ loop-again c =
     let part = c .before .before .copy-by in (
       omega arith,
       same-len-mid (s .loop .done) (length (s .loop .to) - s .loop .done) (s .loop .to) (part .last .0) (search needs) ∙ s .loop .inv .1,
-      copied-turn (s .loop .done) 64 (s .loop .to) (s .before .before .before .args .from .now) (part .last .0) (search needs) (search needs)
-          (s .loop .inv .2) (part .ensures),
+      copied-turn (s .loop .done) (s .before .before .before .args .size) (s .loop .to) (s .before .before .before .args .from .now) (part .last .0)
+          (search needs) (search needs) (s .loop .inv .2) (part .ensures),
     )
 
 sub-rest : tie.Need-sub-rest Inv-loop μ-loop
@@ -90,7 +90,7 @@ returns c =
     let s = c .before .before .before .before .before .before in
     let a = s .before .before .before .args in
     let part = c .before .before .copy-by2 in
-    copied-last (s .loop .done) 64 (a .len) (s .loop .to) (a .from .now) (part .last .0) (search needs) (search needs) (search needs) (search needs)
+    copied-last (s .loop .done) (a .size) (a .len) (s .loop .to) (a .from .now) (part .last .0) (search needs) (search needs) (search needs) (search needs)
     (s .loop .inv .2) (part .ensures)
 
 pub copy-long-spec : {M : Type 1} → statement M

@@ -1,4 +1,4 @@
--- `agrees` meets its contract: what is left of both tests decides as all of them does. Assumes nothing.
+-- `agrees` meets its contract: what is left of both tests decides as both do over all blocks. Assumes nothing.
 use mathlib.Core.Path.{_≡_, sym, ap, _∙_}
 use mathlib.Core.Logic.{⊎-elim}
 use mathlib.Core.Bool.{Bool, true, false, not}
@@ -15,8 +15,7 @@ use Rattle.params.proofs.Shape.{bound, blocks-fit, blocks-is}
 use Rattle.params.specs.Given.{figuresOf}
 use Rattle.blocks.specs.Blocks.{indexKind, KindsOf}
 use Rattle.heads.proofs.Looking.{part-length, head-inside, stretch-looks}
-use Rattle.decoder.specs.Reader.{ofKind}
-use Rattle.decoder.proofs.Agreeing.{marked, unmarked, Off, fixed-off, other-off}
+use Rattle.decoder.proofs.Agreeing.{ofKind, marked, unmarked, Off, fixed-off, other-off}
 use Rattle.decoder.proofs.Agreeing.{AgreesLeft, left-off, left-skip, left-more, left-other, left-next, left-over, agrees-by}
 use Rattle.decoder.proofs.agree.agrees.Statement.{statement}
 use Rattle.decoder.proofs.agree.agrees.Tie as tie

@@ -57,8 +57,8 @@ loop-again c =
       omega arith,
       simp length-set (l .inv .1),
       λ ps v few room are had.
-          let next = turn (a .q) ps v (s .before .pre .0) (a .from + j) (l .left) (l .digits) plain (omega arith) (omega (arith, l .inv .1)) (are j (omega arith))
-          (subst (λ (y : ℕ). SpelledFrom (a .q) ps v y (l .left) (l .digits)) e (l .inv .2 ps v few room are had)) in
+          let next = turn (a .q) ps v (s .before .pre .0) (a .from + j) (l .left) (l .digits) plain (omega arith) (omega (arith, l .inv .1))
+          (are j (omega arith)) (subst (λ (y : ℕ). SpelledFrom (a .q) ps v y (l .left) (l .digits)) e (l .inv .2 ps v few room are had)) in
           rw (zero-add (l .left % a .q)) at next,
     )
 

@@ -1,7 +1,6 @@
 -- `both_fit` meets its contract: 1 or 2 where Construction A's layout doesn't fit, or what goes on from it. Assumes nothing.
 use mathlib.Core.Path.{sym, ap, _∙_}
 use borrow.Author.Needs.{needs}
-use Rattle.construction_a.specs.Outcomes.{figuresOut}
 use Rattle.params.specs.Answer.{figuredAs}
 use Rattle.params.specs.Bridge.{given}
 use Rattle.params.specs.declared.Figures.the-variants.{Ranked}
@@ -10,8 +9,8 @@ use Rattle.moving.proofs.FitBoth.{newer-refuses}
 use Rattle.moving.proofs.both.both_fit.Statement.{statement}
 use Rattle.moving.proofs.both.both_fit.Tie as tie
 
-figures-requires : tie.Need-figures-requires
-figures-requires c κs = search needs
+layout-requires : tie.Need-layout-requires
+layout-requires c κs = search needs
 
 enum-known-answer : tie.Need-enum-known-answer
 enum-known-answer c = search needs
@@ -20,21 +19,19 @@ enum-known-answer-2 : tie.Need-enum-known-answer-2
 enum-known-answer-2 c = search needs
 
 older-fits-requires : tie.Need-older-fits-requires
-unfolding figuresOut
 older-fits-requires c κs =
     let s = c .before .before .before .before in
-    let r = c .before .before .before .figures in
+    let r = c .before .before .before .layout in
     let told = c .before .answer2 .given in
-    let own = serves (Ranked (s .args .figures)) (r .result) (told .0 .0) (told .1) (r .ensures .0) (r .ensures .1 .0) in
+    let own = serves (Ranked (s .args .figures)) (r .result) (told .0 .0) (told .1) (r .ensures .0) (r .ensures .1) in
     (own .1, own .0)
 
 returns : tie.Need-returns
-unfolding figuresOut
 returns c =
     let s = c .before .before .before .before in
     let told = c .before .answer .given in
     λ refuse rest. newer-refuses (given (s .args .figures)) (s .args .strip) (s .args .moved) (told .0 .0) refuse rest
-    (sym (c .before .before .before .figures .ensures .0) ∙ ap figuredAs (told .1))
+    (sym (c .before .before .before .layout .ensures .0) ∙ ap figuredAs (told .1))
 
 returns-2 : tie.Need-returns-2
 returns-2 c = search needs
@@ -43,4 +40,4 @@ pub both-fit-spec : {M : Type 1} → statement M
 both-fit-spec =
     tie.close
     (tie.spec
-    figures-requires enum-known-answer enum-known-answer-2 older-fits-requires returns returns-2)
+    layout-requires enum-known-answer enum-known-answer-2 older-fits-requires returns returns-2)

@@ -101,7 +101,8 @@ cast-heads : tie.Need-cast-heads Inv-loop μ-loop
 cast-heads c = omega (arith, limits (c .before .before .before))
 
 -- every block has its entry, so the next one is the last
-all : (c : tie.After-struct-known Inv-loop μ-loop) → (let s = c .before .before in s .loop .first ≡ s .before .args .layout .parts * s .before .args .layout .m)
+all : (c : tie.After-struct-known Inv-loop μ-loop)
+    → (let s = c .before .before in s .loop .first ≡ s .before .args .layout .parts * s .before .args .layout .m)
 all c =
     let s = c .before .before in
     let e : s .loop .i ≡ s .before .args .layout .parts = omega arith in

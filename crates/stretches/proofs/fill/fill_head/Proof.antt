@@ -117,27 +117,27 @@ mul-spelled c =
       c .before .before .before .before .before .before .before .shared-slice-known .given 0,
     )
 
-sub-copy-first : tie.Need-sub-copy-first
-sub-copy-first c = search needs
+sub-copy-few : tie.Need-sub-copy-few
+sub-copy-few c = search needs
 
-part-copy-first-start : tie.Need-part-copy-first-start
-part-copy-first-start c = search needs
+part-copy-few-start : tie.Need-part-copy-few-start
+part-copy-few-start c = search needs
 
-part-copy-first-end : tie.Need-part-copy-first-end
-part-copy-first-end c = search needs
+part-copy-few-end : tie.Need-part-copy-few-end
+part-copy-few-end c = search needs
 
-sub-copy-first-2 : tie.Need-sub-copy-first-2
-sub-copy-first-2 c = omega (arith, lent (c .before .before .before .before .before .before .before .before .before) (c .before .before .before .if2 .taken))
+sub-copy-few-2 : tie.Need-sub-copy-few-2
+sub-copy-few-2 c = omega (arith, lent (c .before .before .before .before .before .before .before .before .before) (c .before .before .before .if2 .taken))
 
-part-copy-first-start-2 : tie.Need-part-copy-first-start-2
-part-copy-first-start-2 c =
+part-copy-few-start-2 : tie.Need-part-copy-few-start-2
+part-copy-few-start-2 c =
     omega (arith, lent (c .before .before .before .before .before .before .before .before .before) (c .before .before .before .if2 .taken))
 
-part-copy-first-end-2 : tie.Need-part-copy-first-end-2
-part-copy-first-end-2 c = search needs
+part-copy-few-end-2 : tie.Need-part-copy-few-end-2
+part-copy-few-end-2 c = search needs
 
-copy-first-requires : tie.Need-copy-first-requires
-copy-first-requires c κs =
+copy-few-requires : tie.Need-copy-few-requires
+copy-few-requires c κs =
     let s = c .before .before .before .before .before .before .before .before .before .before in
     let e = c .before .before .before .before .if2 .taken in
     let word = s .args .word .now in
@@ -167,7 +167,7 @@ returns-2 c =
     let s = c .before .before .before .before .before .before .before .before .before .before .before .before .before .before in
     let e = c .before .before .before .before .before .before .before .before .if2 .taken in
     let past = index-past s e in
-    let part = c .before .before .before .copy-first in
+    let part = c .before .before .before .copy-few in
     let digits = s .args .digits .now in
     let len = s .args .walk .«head_len» in
     let long : to s - x s ≡ len = omega arith in
@@ -194,5 +194,5 @@ pub fill-head-spec : {M : Type 1} → statement M
 fill-head-spec =
     tie.close
     (tie.spec
-    element-copy-out-kind slice-write-word add-t19 same-length returns mul-spelled sub-copy-first part-copy-first-start part-copy-first-end
-    sub-copy-first-2 part-copy-first-start-2 part-copy-first-end-2 copy-first-requires add-t22 add-t26 same-length-2 returns-2 returns-3)
+    element-copy-out-kind slice-write-word add-t19 same-length returns mul-spelled sub-copy-few part-copy-few-start part-copy-few-end
+    sub-copy-few-2 part-copy-few-start-2 part-copy-few-end-2 copy-few-requires add-t22 add-t26 same-length-2 returns-2 returns-3)

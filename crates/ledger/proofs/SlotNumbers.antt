@@ -12,16 +12,16 @@ use Rattle.combinatorics.specs.Stretch.{bit, keepIf}
 use Rattle.combinatorics.proofs.Lists.{both}
 use Rattle.combinatorics.proofs.Cases.{by-eq, by-bool, eqb-same, eqb-other}
 use Rattle.jobs.specs.Jobs.{Call, takesSlot}
-use Rattle.ledger.specs.Ledger.{historyOf, statusOf, status, slotsTaken, distinct, CountsSlots, SlotsCount}
+use Rattle.ledger.specs.Ledger.{historyOf, statusOf, status, slotsTaken, distinct, CountsSlots, SlotsCounted}
 
 unfoldable without : ℕ → List ℕ → List ℕ
 without n [] = []
 without n (x ∷ xs) = keepIf (not (eqb x n)) x (without n xs)
 
--- with each call its number goes, and comes again where it is held afterwards
-unfoldable heldNumbers : List Call → List ℕ
-heldNumbers [] = []
-heldNumbers (c ∷ h) = keepIf (takesSlot (status (c ∷ h) (c .number))) (c .number) (without (c .number) (heldNumbers h))
+-- with each call its number goes, and comes again where it takes a slot afterwards
+unfoldable slotNumbers : List Call → List ℕ
+slotNumbers [] = []
+slotNumbers (c ∷ h) = keepIf (takesSlot (status (c ∷ h) (c .number))) (c .number) (without (c .number) (slotNumbers h))
 
 -- a number is in the list
 abbrev has : List ℕ → ℕ → Bool
@@ -69,36 +69,36 @@ length-without n (x ∷ xs) p =
     (λ d. rw (eqb-same n x (sym d)) (omega (arith, i, ap bit (rw d at (not-true (has xs x) (q .0))))))
     (λ d. rw (eqb-other n x (λ e. d (sym e))) (omega (arith, i)))
 
-none-held : (n : ℕ) → has [] n ≡ takesSlot (status [] n)
+none-taken : (n : ℕ) → has [] n ≡ takesSlot (status [] n)
 unfolding any historyOf statusOf status
-none-held n = refl
+none-taken n = refl
 
 -- a call changes what is said of its own number alone
 other-status : (c : Call) (h : List Call) (n : ℕ) → eqb (c .number) n ≡ false → status (c ∷ h) n ≡ status h n
 unfolding historyOf status
 other-status c h n t = rw t
 
-has-held : (b : Bool) (n k : ℕ) (xs : List ℕ) → has (keepIf b n (without n xs)) k ≡ cond (eqb k n) b (has xs k)
-has-held b n k xs =
+has-taken : (b : Bool) (n k : ℕ) (xs : List ℕ) → has (keepIf b n (without n xs)) k ≡ cond (eqb k n) b (has xs k)
+has-taken b n k xs =
     has-keep b n k (without n xs) ∙ rw (has-without n k xs)
     (by-bool (eqb k n) (λ t. rw t (or-false b)) (λ t. rw t))
 
-counted : (h : List Call) → CountsSlots h (heldNumbers h)
-unfolding heldNumbers slotsTaken
-counted [] = record { once = unfold distinct in refl; exactly = none-held; count = refl }
+counted : (h : List Call) → CountsSlots h (slotNumbers h)
+unfolding slotNumbers slotsTaken
+counted [] = record { once = unfold distinct in refl; exactly = none-taken; count = refl }
 counted (c ∷ h) =
     let n = c .number in
-    let xs = heldNumbers h in
+    let xs = slotNumbers h in
     let b = takesSlot (status (c ∷ h) n) in
     let i = counted h in
     record {
       once = distinct-keep b n (without n xs) (has-without n n xs ∙ rw (eqb-same n n refl)) (distinct-without n xs (i .once));
       exactly = λ k.
-          has-held b n k xs
+          has-taken b n k xs
           ∙ by-eq k n (λ t. cond t b (has xs k) ≡ takesSlot (status (c ∷ h) k)) (λ d. ap (λ (x : ℕ). takesSlot (status (c ∷ h) x)) (sym d))
           (λ d. i .exactly k ∙ ap takesSlot (sym (other-status c h k (eqb-other n k (λ e. d (sym e))))));
       count = omega (arith, length-keep b n (without n xs), length-without n xs (i .once), i .count, ap bit (i .exactly n));
     }
 
-pub held-counts : SlotsCount
-held-counts h = (heldNumbers h, counted h)
+pub slots-counted : SlotsCounted
+slots-counted h = (slotNumbers h, counted h)
