@@ -1,0 +1,163 @@
+-- What every layout has, whichever code laid it out. Assumes nothing.
+use mathlib.Core.Path.{_≡_, refl, sym, ap, ap₂, _∙_}
+use mathlib.Core.Bool.{Bool, true}
+use mathlib.Core.List.{List}
+use Prim.Native.Nat.{ℕ, _≤_}
+use native.Mathlib.Omega.{arith}
+use Rattle.combinatorics.specs.Bursts.{apart, inBurst}
+use Rattle.cells.specs.Erasures.{foundBound}
+use Rattle.cells.specs.Outcomes.{Coding}
+use Rattle.cells.specs.Figures.{maxWord, maxAlphabet, maxBursts}
+use Rattle.cells.proofs.Figures.{ranged}
+use Rattle.construction_a.specs.Figures.{messageLen as messageLenA}
+use Rattle.construction_b.specs.Figures.{messageLen as messageLenB}
+use Rattle.construction_b.proofs.Figures.{ranged as ranged-b}
+use Rattle.larsson.specs.Figures.{messageLen as messageLenLarsson}
+use Rattle.params.specs.Answer.{Small}
+use Rattle.params.specs.Bridge.{given, givenLong}
+use Rattle.params.specs.Given.{figuresOf, codingWith, LayoutFitsWith}
+use Rattle.params.specs.declared.Layout.{Layout}
+use Rattle.params.specs.declared.Spells.{Spells}
+use Rattle.params.specs.declared.Spells.the-variants.{Rank, EndOffset}
+use Rattle.params.proofs.Either.{in-shape, in-order as blocks-in-order, numbers-in as blocks-numbers}
+use Rattle.params.proofs.Shape.{long as blocks-long}
+use Rattle.larsson_params.specs.declared.LarssonLayout.{LarssonLayout}
+use Rattle.larsson_params.specs.Given.{LarssonLayoutFits}
+use Rattle.larsson_params.proofs.Shape.{long as sub-blocks-long}
+use Rattle.codes.specs.declared.Figures.{Figures}
+use Rattle.codes.specs.declared.Figures.the-variants.{Ranked, Long, Larsson}
+use Rattle.codes.specs.declared.Laid.{Laid}
+use Rattle.codes.specs.declared.Laid.the-variants.{Blocks, SubBlocks}
+use Rattle.codes.specs.declared.WordLayout.{WordLayout}
+use Rattle.codes.specs.Bridge.{codingOf}
+use Rattle.codes.specs.Given.{codingBy, codingIn, FitsBy, HasNumbers, Serves, ofBlocks, ofSubBlocks}
+
+-- ---- The limits
+
+pub small : (f : Figures) → codingOf f .inRange ≡ true → Small (codingOf f)
+unfolding messageLenA messageLenB messageLenLarsson
+small (Ranked p) e =
+    let r = ranged (given p) e in
+    record { word-most = r .n-most; message-most = omega arith; alphabet-least = r .q-least; alphabet-most = r .q-most; bursts-most = r .m-most }
+small (Long p) e =
+    let r = ranged-b (givenLong p) e in
+    record { word-most = r .n-most; message-most = omega arith; alphabet-least = r .q-least; alphabet-most = r .q-most; bursts-most = omega arith }
+small (Larsson p) e =
+    let r = ranged (given p) e in
+    record { word-most = r .n-most; message-most = omega arith; alphabet-least = r .q-least; alphabet-most = r .q-most; bursts-most = r .m-most }
+
+-- ---- Code by code
+
+blocks-small : (l : Layout) (s : Spells) → LayoutFitsWith s l → Small (codingWith s (figuresOf l))
+blocks-small l Rank g = small (Ranked (record { n = l .n; q = l .q; m = l .m; b = l .b })) (g .range)
+blocks-small l EndOffset g = small (Long (record { n = l .n; q = l .q; b = l .b })) (g .range)
+
+small-by : (x : Laid) → FitsBy x → Small (codingBy x)
+small-by (Blocks l) g = blocks-small l (l .spells) g
+small-by (SubBlocks l) g = small (Larsson (record { n = l .n; q = l .q; m = l .m; b = l .b })) (g .range)
+
+order-by : (x : Laid) → FitsBy x → (codingBy x .inRange ≡ true) × (codingBy x .fits ≡ true)
+order-by (Blocks l) g = blocks-in-order l g
+order-by (SubBlocks l) g = (g .range, g .fit)
+
+-- a burst is no longer than the word
+long-by : (x : Laid) → FitsBy x → codingBy x .burstLen ≤ codingBy x .codec .wordLen
+long-by (Blocks l) g = let is = blocks-numbers l g in omega (arith, blocks-long l (in-shape l g), is .word-is, is .burst-is)
+long-by (SubBlocks l) g = sub-blocks-long l g
+
+-- the bound of what can be found goes by the alphabet
+blocks-found : (l : Layout) (s : Spells) → codingWith s (figuresOf l) .codec .foundBound ≡ foundBound (codingWith s (figuresOf l) .codec .alphabet)
+blocks-found l Rank = refl
+blocks-found l EndOffset = refl
+
+found-by : (x : Laid) → codingBy x .codec .foundBound ≡ foundBound (codingBy x .codec .alphabet)
+found-by (Blocks l) = blocks-found l (l .spells)
+found-by (SubBlocks l) = refl
+
+-- what is spoilt is what the bursts have
+blocks-spoilt : (l : Layout) (s : Spells) (ss : List ℕ) (x : ℕ)
+    → codingWith s (figuresOf l) .codec .spoilt ss x ≡ inBurst (codingWith s (figuresOf l) .burstLen) ss x
+blocks-spoilt l Rank ss x = refl
+blocks-spoilt l EndOffset ss x = refl
+
+spoilt-by : (y : Laid) (ss : List ℕ) (x : ℕ) → codingBy y .codec .spoilt ss x ≡ inBurst (codingBy y .burstLen) ss x
+spoilt-by (Blocks l) ss x = blocks-spoilt l (l .spells) ss x
+spoilt-by (SubBlocks l) ss x = refl
+
+-- ---- The layout alone
+
+-- its numbers, as facts that arithmetic can use
+pub record Bounded (l : WordLayout) : Type 0 where
+  pub n-most : l .n ≤ maxWord
+  pub q-least : 2 ≤ l .q
+  pub q-most : l .q ≤ maxAlphabet
+  pub m-most : l .m ≤ maxBursts
+  pub k-most : l .«message_len» ≤ maxWord
+  pub long : l .b ≤ l .n
+
+module _ (l : WordLayout) (g : Serves l) where
+  pub in-order : (codingIn l .inRange ≡ true) × (codingIn l .fits ≡ true)
+  in-order = order-by (l .laid) (g .fitting)
+
+  pub numbers-in : HasNumbers (codingIn l) l
+  numbers-in = g .numbers
+
+  pub small-in : Small (codingIn l)
+  small-in = small-by (l .laid) (g .fitting)
+
+  pub bound : Bounded l
+  bound =
+      let is = g .numbers in
+      let few = small-in in
+      record {
+        n-most = omega (arith, is .word-is, few .word-most);
+        q-least = omega (arith, is .alphabet-is, few .alphabet-least);
+        q-most = omega (arith, is .alphabet-is, few .alphabet-most);
+        m-most = omega (arith, is .bursts-is, few .bursts-most);
+        k-most = omega (arith, is .len-is, few .message-most, few .word-most);
+        long = omega (arith, is .word-is, is .burst-is, long-by (l .laid) (g .fitting));
+      }
+
+  -- the test of starts, by the layout's own numbers
+  pub apart-in : (ss : List ℕ) → apart (codingIn l .burstLen) (codingIn l .codec .wordLen) 0 ss ≡ apart (l .b) (l .n) 0 ss
+  apart-in ss = let is = g .numbers in sym (ap₂ (λ (b n : ℕ). apart b n 0 ss) (is .burst-is) (is .word-is))
+
+  pub found-in : codingIn l .codec .foundBound ≡ foundBound (l .q)
+  found-in = found-by (l .laid) ∙ ap foundBound (sym (g .numbers .alphabet-is))
+
+  pub spoilt-in : (ss : List ℕ) (x : ℕ) → codingIn l .codec .spoilt ss x ≡ inBurst (l .b) ss x
+  spoilt-in ss x = spoilt-by (l .laid) ss x ∙ ap (λ (b : ℕ). inBurst b ss x) (sym (g .numbers .burst-is))
+
+-- ---- From a code's own layout
+
+pub of-blocks : (l : Layout) → FitsBy (Blocks l) → Serves (ofBlocks l)
+of-blocks l g =
+    let is = blocks-numbers l g in
+    record {
+      fitting = g;
+      numbers = record {
+        word-is = is .word-is;
+        alphabet-is = is .alphabet-is;
+        bursts-is = is .bursts-is;
+        burst-is = is .burst-is;
+        count-is = is .count-is;
+        tail-is = is .tail-is;
+        len-is = is .len-is;
+      };
+    }
+
+pub of-sub-blocks : (l : LarssonLayout) → LarssonLayoutFits l → Serves (ofSubBlocks l)
+of-sub-blocks l g =
+    let is = g .laid in
+    record {
+      fitting = g;
+      numbers = record {
+        word-is = is .n-is;
+        alphabet-is = is .q-is;
+        bursts-is = is .m-is;
+        burst-is = is .b-is;
+        count-is = is .count-is;
+        tail-is = is .sub-is;
+        len-is = is .len-is;
+      };
+    }

@@ -1,0 +1,4 @@
+pub mod Bridge
+pub mod Given
+pub mod Answer
+pub mod DemandTwo
