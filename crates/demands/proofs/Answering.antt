@@ -5,8 +5,8 @@ use mathlib.Core.List.{List, [], _∷_}
 use mathlib.Core.Option.{Option, none, some}
 use Prim.Native.Nat.{ℕ, _-_}
 use lib.Dec.{eqb, leb, ltb}
-use Rattle.refusals.specs.Refusals.{must, served, invalid, unfit, wrongLength, noPattern, valueTooLarge, disagrees, erased, noMajority, badPayload}
-use Rattle.refusals.specs.Refusals.{jobCancelled, jobHeld, notOpen}
+use Rattle.refusals.specs.Refusals.{must, served, invalid, unfit, wrongLength, badSymbol, noPattern, valueTooLarge, disagrees, erased, noMajority}
+use Rattle.refusals.specs.Refusals.{badPayload, badPrescription, jobCancelled, jobHeld, notOpen}
 use Rattle.combinatorics.specs.Lists.{all, any}
 use Rattle.combinatorics.proofs.Cases.{by-bool, eqb-true}
 use Rattle.combinatorics.proofs.Lists.{both}
@@ -26,9 +26,10 @@ use Rattle.larsson.specs.Reading as L
 use Rattle.larsson.specs.Writing.{plan as planL}
 use Rattle.construction_a.specs.Outcomes.{coding}
 use Rattle.construction_b.specs.Outcomes.{coding as codingB}
-use Rattle.params.specs.declared.Figures.{Figures}
-use Rattle.params.specs.declared.Figures.the-variants.{Ranked, Long}
-use Rattle.params.specs.Bridge.{given, givenLong, codingOf}
+use Rattle.codes.specs.declared.Figures.{Figures}
+use Rattle.codes.specs.declared.Figures.the-variants.{Ranked, Long, Larsson}
+use Rattle.params.specs.Bridge.{given, givenLong}
+use Rattle.codes.specs.Bridge.{codingOf}
 use Rattle.jobs.specs.declared.Entry.{Entry}
 use Rattle.jobs.specs.Jobs.{Status, unknown, opened, onHold, cancelled}
 use Rattle.jobs.specs.Table.{twice}
@@ -36,6 +37,7 @@ use Rattle.payloads.specs.Payload.{carriesJob}
 use Rattle.jobcodec.specs.DemandThree.{isRefusal}
 use Rattle.jobcodec.specs.JobWrite.{whereOpen}
 use Rattle.lent.specs.Jobs.{hasTableLen, slotsFit, withTable}
+use Rattle.demands.specs.Orders.{Manner, byPattern, byMajority, mannerOf, wordRead, jobRead, prescriptionRead}
 use Rattle.demands.specs.DemandOne.{AnswersBy}
 
 -- ---- The two ways to answer, and an order of refusals test by test
@@ -122,11 +124,6 @@ judges-b f w = go (B.indexFound (B.looksFixed f w))
         (tested Judged (leb (f .b) (B.endAt f e v)) nine
         (tested Judged (not (hasErasure (f .q) (pick message (planB f (B.endAt f e v - f .b)) w))) nineteen (taken _ _))))
 
--- under the figures of either construction
-pub judges : (f : Figures) → Judges (codingOf f)
-judges (Ranked p) = judges-a (given p)
-judges (Long p) = judges-b (givenLong p)
-
 -- a word of the Larsson code is refused with 21, 8, 9 or 19, or accepted
 pub by-larsson : (P : Reading → Type 0) → P (refused noMajority) → P (refused valueTooLarge) → P (refused disagrees) → P (refused erased)
     → ((ss ms : List ℕ) → P (accepted ss ms)) → (f : Params) (w : List ℕ) → P (larsson f .decode w)
@@ -139,6 +136,110 @@ by-larsson P p₂₁ p₈ p₉ p₁₉ t f w = go (L.found f w)
         tested P (ltb v (placementCount f)) p₈
         (tested P (L.agrees f w v (placementOf f v)) p₉
         (tested P (not (hasErasure (f .q) (pick message (planL f (placementOf f v)) w))) p₁₉ (t _ _)))
+
+-- ---- Any code's reading, by an order that has its refusals
+
+pub data Owned (order : List ℕ) : Reading → Type 0 where
+  turned : (a : ℕ) → any (eqb a) (served ∷ order) ≡ true → Owned order (refused a)
+  handed : (ss ms : List ℕ) → Owned order (accepted ss ms)
+
+abbrev pub Owns : List ℕ → Coding → Type 0
+Owns order d = (w : List ℕ) → Owned order (d .codec .decode w)
+
+pub by-own : {order : List ℕ} (P : Reading → Type 0) → ((a : ℕ) → any (eqb a) (served ∷ order) ≡ true → P (refused a))
+    → ((ss ms : List ℕ) → P (accepted ss ms)) → (r : Reading) → Owned order r → P r
+by-own P no-word word (refused _) (turned a h) = no-word a h
+by-own P no-word word (accepted _ _) (handed ss ms) = word ss ms
+
+-- 7 19 8 9, or 21 8 9 19
+abbrev pub OwnIn : Manner → List ℕ → Type 0
+OwnIn byPattern order =
+    (any (eqb noPattern) (served ∷ order) ≡ true) × (any (eqb erased) (served ∷ order) ≡ true) × (any (eqb valueTooLarge) (served ∷ order) ≡ true)
+    × (any (eqb disagrees) (served ∷ order) ≡ true)
+OwnIn byMajority order =
+    (any (eqb noMajority) (served ∷ order) ≡ true) × (any (eqb valueTooLarge) (served ∷ order) ≡ true) × (any (eqb disagrees) (served ∷ order) ≡ true)
+    × (any (eqb erased) (served ∷ order) ≡ true)
+
+pub owns : (f : Figures) (order : List ℕ) → OwnIn (mannerOf f) order → Owns order (codingOf f)
+owns (Ranked p) order h w =
+    by-read (Owned order) (turned noPattern (h .0)) (turned erased (h .1)) (turned valueTooLarge (h .2)) (turned disagrees (h .3)) (λ ss ms. handed ss ms)
+    (codingOf (Ranked p) .codec .decode w) (judges-a (given p) w)
+owns (Long p) order h w =
+    by-read (Owned order) (turned noPattern (h .0)) (turned erased (h .1)) (turned valueTooLarge (h .2)) (turned disagrees (h .3)) (λ ss ms. handed ss ms)
+    (codingOf (Long p) .codec .decode w) (judges-b (givenLong p) w)
+owns (Larsson p) order h w =
+    by-larsson (Owned order) (turned noMajority (h .0)) (turned valueTooLarge (h .1)) (turned disagrees (h .2)) (turned erased (h .3)) (λ ss ms. handed ss ms)
+    (given p) w
+
+-- an order that begins with 1 2 3 4, as every word read's does
+pub record Begins (order : List ℕ) : Type 0 where
+  pub numbers : all isRefusal order ≡ true
+  pub one : any (eqb invalid) (served ∷ order) ≡ true
+  pub two : any (eqb unfit) (served ∷ order) ≡ true
+  pub three : any (eqb wrongLength) (served ∷ order) ≡ true
+  pub four : any (eqb badSymbol) (served ∷ order) ≡ true
+
+-- and has 10 12 23 14, as every job read's does
+pub record BeginsJob (order : List ℕ) : Type 0 where
+  pub begins : Begins order
+  pub ten : any (eqb badPayload) (served ∷ order) ≡ true
+  pub twelve : any (eqb jobCancelled) (served ∷ order) ≡ true
+  pub twenty-three : any (eqb jobHeld) (served ∷ order) ≡ true
+  pub fourteen : any (eqb notOpen) (served ∷ order) ≡ true
+
+pub word-order : (m : Manner) → Begins (wordRead m) × OwnIn m (wordRead m)
+unfolding isRefusal all any
+word-order byPattern = (record { numbers = refl; one = refl; two = refl; three = refl; four = refl }, (refl, refl, refl, refl))
+word-order byMajority = (record { numbers = refl; one = refl; two = refl; three = refl; four = refl }, (refl, refl, refl, refl))
+
+pub job-order : (m : Manner) → BeginsJob (jobRead m) × OwnIn m (jobRead m)
+unfolding isRefusal all any
+job-order byPattern = (
+  record {
+    begins = record { numbers = refl; one = refl; two = refl; three = refl; four = refl };
+    ten = refl;
+    twelve = refl;
+    twenty-three = refl;
+    fourteen = refl;
+  },
+  (refl, refl, refl, refl),
+)
+job-order byMajority = (
+  record {
+    begins = record { numbers = refl; one = refl; two = refl; three = refl; four = refl };
+    ten = refl;
+    twelve = refl;
+    twenty-three = refl;
+    fourteen = refl;
+  },
+  (refl, refl, refl, refl),
+)
+
+pub prescription-order : (m : Manner) → BeginsJob (prescriptionRead m) × OwnIn m (prescriptionRead m)
+    × (any (eqb badPrescription) (served ∷ prescriptionRead m) ≡ true)
+unfolding isRefusal all any
+prescription-order byPattern = (
+  record {
+    begins = record { numbers = refl; one = refl; two = refl; three = refl; four = refl };
+    ten = refl;
+    twelve = refl;
+    twenty-three = refl;
+    fourteen = refl;
+  },
+  (refl, refl, refl, refl),
+  refl,
+)
+prescription-order byMajority = (
+  record {
+    begins = record { numbers = refl; one = refl; two = refl; three = refl; four = refl };
+    ten = refl;
+    twelve = refl;
+    twenty-three = refl;
+    fourteen = refl;
+  },
+  (refl, refl, refl, refl),
+  refl,
+)
 
 -- "1 2 10 3" before a job's own
 pub with-table : {O : Type 0} (P : O → Type 0) (d : Coding) (table : List ℕ) (lengths : Bool) (refuse : ℕ → O) {rest : O}

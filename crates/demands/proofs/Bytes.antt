@@ -10,6 +10,7 @@ use Rattle.refusals.specs.Refusals.{must, served, invalid, wrongLength, badReco
 use Rattle.combinatorics.specs.Lists.{all, any}
 use Rattle.cells.specs.Figures.{Params, inRange}
 use Rattle.construction_a.specs.Figures.{fits}
+use Rattle.construction_a.specs.Outcomes.{coding}
 use Rattle.cells.specs.Outcomes.{Coding, Held, held, unwritten, coverUnder}
 use Rattle.cells.specs.Outcomes.{WordAnswer, rankIs, refusal, answerNumber, decodeUnder}
 use Rattle.jobs.specs.Jobs.{Kind, opening, cancelling, finishing, reinstating, holding, releasing}
@@ -23,13 +24,14 @@ use Rattle.lent.specs.Covering.{CoverLent, coverBytesUnder}
 use Rattle.lent.specs.Jobs.{jobWriteBytesUnder, jobReadBytesUnder}
 use Rattle.lent.specs.Words.{encodeBytesUnder}
 use Rattle.lent.specs.Table.{tableLen, statesKnown, tableIn}
+use Rattle.verifier.specs.Verify.{verifyOut}
 use Rattle.exports.specs.Words.{verifyBytesOut}
 use Rattle.exports.specs.Jobs.{CallLent, called, calledAs, callBytesOut}
 use Rattle.demands.specs.Orders.{wordWrite, covering, jobWrite, call}
 use Rattle.demands.specs.Orders.{callOnBytes}
-use Rattle.demands.proofs.Answering.{keep, done, tested, Judges}
+use Rattle.demands.proofs.Answering.{keep, done, tested, Owns, Begins, BeginsJob}
 use Rattle.demands.proofs.Answering.{with-table, one-more, Writes}
-use Rattle.demands.proofs.Words.{word-write, cover, ReadsBehind, word-read, turned-away, verify, Begins}
+use Rattle.demands.proofs.Words.{word-write, cover, ReadsBehind, word-read, turned-away, verify}
 use Rattle.demands.proofs.Jobs.{call-as, job-write, ReadsJob, job-read}
 use Rattle.demands.specs.DemandOne.{AnswersBy, ChecksBy}
 
@@ -43,12 +45,12 @@ word-write-bytes d starts ms out =
     (word-write d _ ms out)))
 
 pub verify-bytes : (f : Params) (starts ms w : List ℕ) → ChecksBy (verifyBytesOut f starts ms w)
-unfolding verifyBytesOut any
+unfolding verifyBytesOut verifyOut any
 verify-bytes f starts ms w =
     tested ChecksBy (inRange f) (turned-away 0 refl refl)
     (tested ChecksBy (fits f) (turned-away 1 refl refl)
     (tested ChecksBy (eqb (length starts) (2 * f .m)) (turned-away 2 refl refl)
-    (verify f _ ms w)))
+    (verify (coding f) _ ms w)))
 
 module _ (starts : List ℕ) where
   abbrev CoversIn : CoverLent → Type 0
@@ -88,11 +90,13 @@ job-write-bytes d table starts payload out =
     with-table (Writes jobWrite out) d table (eqb (length starts) (2 * d .bursts)) (unwritten out) (keep refl refl) (keep refl refl) (keep refl refl)
     (keep refl refl) (job-write d (tableIn table) _ payload out)
 
-pub job-read-bytes : (d : Coding) → Judges d → (table w out : List ℕ) → ReadsJob out (jobReadBytesUnder d table w out)
-unfolding jobReadBytesUnder isRefusal all any
-job-read-bytes d judge table w out =
-    with-table (ReadsJob out) d table true (withhold out) (keep refl refl) (keep refl refl) (keep refl refl) (keep refl refl)
-    (job-read d judge (tableIn table) w out)
+pub job-read-bytes : (order : List ℕ) → BeginsJob order → (d : Coding) → Owns order d → (table w out : List ℕ)
+    → ReadsJob order out (jobReadBytesUnder d table w out)
+unfolding jobReadBytesUnder
+job-read-bytes order b d own table w out =
+    let n = b .begins .numbers in
+    with-table (ReadsJob order out) d table true (withhold out) (keep n (b .begins .one)) (keep n (b .begins .two)) (keep n (b .ten))
+    (keep n (b .begins .three)) (job-read order b d own (tableIn table) w out)
 
 module _ (table : List ℕ) where
   abbrev CallsIn : Option Kind → CallLent → Type 0

@@ -13,8 +13,8 @@ use Rattle.combinatorics.specs.Lists.{all}
 use Rattle.combinatorics.proofs.Cases.{by-bool, eqb-true, eqb-other}
 use Rattle.combinatorics.proofs.Lists.{both}
 use Rattle.cells.specs.Outcomes.{Coding, FiguresOut, figured, unserved, figuresNumber, figuresUnder}
-use Rattle.params.specs.declared.Figures.{Figures}
-use Rattle.params.specs.Bridge.{codingOf}
+use Rattle.codes.specs.declared.Figures.{Figures}
+use Rattle.codes.specs.Bridge.{codingOf}
 use Rattle.jobs.specs.declared.Entry.{Entry}
 use Rattle.jobs.specs.Jobs.{Kind, Call}
 use Rattle.jobs.specs.Letters.{kindOf, known, callBy, isLetter}
@@ -26,7 +26,7 @@ use Rattle.ledger.proofs.Simulates.{simulation-from-start}
 use Rattle.payloads.specs.Payload.{jobNumber}
 use Rattle.jobcodec.specs.DemandThree.{Claim}
 use Rattle.jobcodec.specs.JobRead.{JobRead, jobReadUnder}
-use Rattle.jobcodec.proofs.DemandThree.{follows-either}
+use Rattle.jobcodec.proofs.DemandThree.{follows-figures}
 use Rattle.exports.specs.Follows.{answersOn, bytesAfter}
 use Rattle.lent.specs.Table.{tableIn}
 use Rattle.exports.proofs.Follows.{bytes-left, bytes-follow}
@@ -46,7 +46,7 @@ bytes-claimed f bytes es before b s calls w out h =
     let last = bytesAfter bytes calls in
     let left = bytes-left bytes es before b s calls h in
     subst (λ (r : JobRead). Claim (codingOf f) before calls w out (answersOn bytes calls) r) (read-whole (codingOf f) last w out (left .size) (left .known))
-    (follows-either f before calls (answersOn bytes calls) (tableIn last) w out (bytes-follow bytes es before b s calls h))
+    (follows-figures f before calls (answersOn bytes calls) (tableIn last) w out (bytes-follow bytes es before b s calls h))
 
 -- ---- A session of the transfer program
 
@@ -213,7 +213,7 @@ session-claimed figures calls reading h =
       jobReadUnder (codingOf g) (tableFrom emptyTable cs) (drop recordHeadLen reading) out,
       record {
         claim =
-            follows-either g [] cs (answersFrom emptyTable cs) (tableFrom emptyTable cs) (drop recordHeadLen reading) out
+            follows-figures g [] cs (answersFrom emptyTable cs) (tableFrom emptyTable cs) (drop recordHeadLen reading) out
             (simulation-from-start emptyTable [] empty cs);
         answered = lines-are figures reading calls h;
         printed = read-last figures reading calls h;

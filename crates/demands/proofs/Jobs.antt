@@ -25,9 +25,9 @@ use Rattle.jobcodec.specs.DemandThree.{isRefusal}
 use Rattle.jobcodec.specs.JobWrite.{jobStatus, jobWriteUnder}
 use Rattle.jobcodec.specs.JobRead.{JobRead, withhold, jobIn, jobReading, jobReadUnder}
 use Rattle.jobcodec.specs.ListRead.{ListOut, listOut}
-use Rattle.demands.specs.Orders.{jobWrite, jobRead, call, callByLetter}
+use Rattle.demands.specs.Orders.{jobWrite, call, callByLetter}
 use Rattle.demands.specs.Orders.{listOfCalls}
-use Rattle.demands.proofs.Answering.{keep, done, tested, where-open, job-tests, Judges, by-read}
+use Rattle.demands.proofs.Answering.{keep, done, tested, where-open, job-tests, Owns, by-own, BeginsJob}
 use Rattle.demands.proofs.Answering.{Writes}
 use Rattle.demands.specs.DemandOne.{AnswersBy, ListAnswers}
 
@@ -147,30 +147,32 @@ job-write d es at payload out =
     (tested P (isJob (jobNumber payload)) (keep refl refl)
     (where-open P (unwritten out) (jobStatus es payload) (keep refl refl) (keep refl refl) (keep refl refl) (done refl)))))
 
-abbrev pub ReadsJob : List ℕ → JobRead → Type 0
-ReadsJob out o = AnswersBy jobRead (o .answer) out (o .payload)
+abbrev pub ReadsJob : List ℕ → List ℕ → JobRead → Type 0
+ReadsJob order out o = AnswersBy order (o .answer) out (o .payload)
 
-pub job-read : (d : Coding) → Judges d → (es : List Entry) (w out : List ℕ) → ReadsJob out (jobReadUnder d es w out)
-unfolding jobReading isRefusal all any
-job-read d judge es w out =
-    let P = ReadsJob out in
-    let c = d .codec in
-    let q = c .alphabet in
-    let k = c .messageLen in
-    job-tests P d es (keep refl refl) (keep refl refl) (keep refl refl)
-    (tested P (eqb (length w) (c .wordLen) && eqb (length out) (payloadLen q k)) (keep refl refl)
-    (tested P (allBelow (c .foundBound) w) (keep refl refl)
-    (by-read (λ r. P (jobIn q k es out r)) (keep refl refl) (keep refl refl) (keep refl refl) (keep refl refl)
-    (λ ss ms. tested P (spellsPayload q k ms) (keep refl refl)
-    (where-open P (withhold out) (jobStatus es (payloadIn q k ms)) (keep refl refl) (keep refl refl) (keep refl refl) (done refl)))
-    (c .decode w) (judge w))))
+module _ (order : List ℕ) (b : BeginsJob order) (d : Coding) (own : Owns order d) where
+  pub job-read : (es : List Entry) (w out : List ℕ) → ReadsJob order out (jobReadUnder d es w out)
+  unfolding jobReading
+  job-read es w out =
+      let P = ReadsJob order out in
+      let n = b .begins .numbers in
+      let c = d .codec in
+      let q = c .alphabet in
+      let k = c .messageLen in
+      job-tests P d es (keep n (b .begins .one)) (keep n (b .begins .two)) (keep n (b .ten))
+      (tested P (eqb (length w) (c .wordLen) && eqb (length out) (payloadLen q k)) (keep n (b .begins .three))
+      (tested P (allBelow (c .foundBound) w) (keep n (b .begins .four))
+      (by-own (λ r. P (jobIn q k es out r)) (λ a h. keep n h)
+      (λ ss ms. tested P (spellsPayload q k ms) (keep n (b .ten))
+      (where-open P (withhold out) (jobStatus es (payloadIn q k ms)) (keep n (b .twelve)) (keep n (b .twenty-three)) (keep n (b .fourteen)) (done n)))
+      (c .decode w) (own w))))
 
-pub list-and-read : (d : Coding) → Judges d → (es : List Entry) (letters numbers answers w out : List ℕ)
-    → ListAnswers (listOut d es letters numbers answers w out .answer) answers out (listOut d es letters numbers answers w out)
-unfolding listOut
-list-and-read d judge es letters numbers answers w out =
-    let r = replayOut es letters numbers answers in
-    let h = replay es letters numbers answers in
-    tested (λ (o : ListOut). ListAnswers (o .answer) answers out o) (eqb (r .answer) served)
-    (record { numbers = h .numbers; answer = h .answer; keeps = λ d. ap (λ (x : List Entry × List ℕ). (x .1, out)) (h .keeps d) })
-    (job-read d judge (r .table) w out)
+  pub list-and-read : (es : List Entry) (letters numbers answers w out : List ℕ)
+      → ListAnswers order (listOut d es letters numbers answers w out .answer) answers out (listOut d es letters numbers answers w out)
+  unfolding listOut
+  list-and-read es letters numbers answers w out =
+      let r = replayOut es letters numbers answers in
+      let h = replay es letters numbers answers in
+      tested (λ (o : ListOut). ListAnswers order (o .answer) answers out o) (eqb (r .answer) served)
+      (record { numbers = h .numbers; answer = h .answer; keeps = λ d. ap (λ (x : List Entry × List ℕ). (x .1, out)) (h .keeps d) })
+      (job-read (r .table) w out)

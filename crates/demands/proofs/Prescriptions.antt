@@ -1,14 +1,14 @@
 -- Demand 1 holds of the outcomes of every prescription call. Assumes nothing.
 use mathlib.Core.Path.{_≡_, refl}
 use mathlib.Core.Bool.{true, not, _&&_}
-use mathlib.Core.List.{List}
+use mathlib.Core.List.{List, _∷_}
 use mathlib.Core.Option.{Option, none, some}
 use Prim.Native.Nat.{ℕ, _*_}
 use native.Mathlib.Omega.{arith}
 use lib.Dec.{eqb, leb}
 use lib.Ieee.{Float}
 use lib.ListN.{length, drop}
-use Rattle.refusals.specs.Refusals.{served, wrongLength}
+use Rattle.refusals.specs.Refusals.{served, wrongLength, badPrescription}
 use Rattle.combinatorics.specs.Bursts.{apart}
 use Rattle.combinatorics.specs.Lists.{all, any, allBelow}
 use Rattle.cells.specs.Bytes.{payloadLen}
@@ -33,9 +33,9 @@ use Rattle.lent_prescriptions.specs.Eyes.{marksOf, powersOf, powersLent, answer
 use Rattle.lent_prescriptions.specs.Prescriptions.{handedMarks, handedPowers, haveRoom, prescriptionWriteBytesUnder, prescriptionReadLent}
 use Rattle.lent_prescriptions.specs.Prescriptions.{prescriptionReadBytesUnder}
 use Rattle.lent.specs.Table.{tableIn}
-use Rattle.demands.specs.Orders.{prescriptionAlone, prescriptionWrite, prescriptionRead, prescriptionLent}
+use Rattle.demands.specs.Orders.{prescriptionAlone, prescriptionWrite, prescriptionLent}
 use Rattle.demands.specs.DemandOne.{AnswersBy, AnswersLent}
-use Rattle.demands.proofs.Answering.{keep, done, tested, where-open, job-tests, Judges, by-read, with-table, one-more, Writes}
+use Rattle.demands.proofs.Answering.{keep, done, tested, where-open, job-tests, Owns, by-own, BeginsJob, with-table, one-more, Writes}
 
 -- ---- In memory and as a text: 16, or a value
 
@@ -96,29 +96,31 @@ module _ (d : Coding) (es : List Entry) (at : Held) (n : ℕ) (out : List ℕ) w
       (tested P (leb minPrescriptionLen (payloadLen q k)) (keep refl refl)
       (write-prescribed (prescribedOf p)))))
 
-hand-prescription : (es : List Entry) (payload : List ℕ) (o : Option Prescribed) → Answers prescriptionRead (handPrescription es payload o)
-unfolding isRefusal all any
-hand-prescription es payload none = keep refl refl
-hand-prescription es payload (some x) =
-    where-open (λ (o : Answered HandedOut). Answers prescriptionRead o) refused (jobStatus es payload) (keep refl refl) (keep refl refl) (keep refl refl)
-    (done refl)
+module _ (order : List ℕ) (b : BeginsJob order) (sixteen : any (eqb badPrescription) (served ∷ order) ≡ true) where
+  hand-prescription : (es : List Entry) (payload : List ℕ) (o : Option Prescribed) → Answers order (handPrescription es payload o)
+  hand-prescription es payload none = keep (b .begins .numbers) sixteen
+  hand-prescription es payload (some x) =
+      let n = b .begins .numbers in
+      where-open (λ (o : Answered HandedOut). Answers order o) refused (jobStatus es payload) (keep n (b .twelve)) (keep n (b .twenty-three))
+      (keep n (b .fourteen)) (done n)
 
-pub prescription-read : (d : Coding) → Judges d → (es : List Entry) (w : List ℕ) → Answers prescriptionRead (prescriptionReadUnder d es w)
-unfolding prescriptionReading isRefusal all any
-prescription-read d judge es w =
-    let c = d .codec in
-    let q = c .alphabet in
-    let k = c .messageLen in
-    job-tests P d es (keep refl refl) (keep refl refl) (keep refl refl)
-    (tested P (eqb (length w) (c .wordLen)) (keep refl refl)
-    (tested P (allBelow (c .foundBound) w) (keep refl refl)
-    (by-read (λ r. P (prescriptionIn q k es r)) (keep refl refl) (keep refl refl) (keep refl refl) (keep refl refl)
-    (λ ss ms. tested P (spellsPayload q k ms) (keep refl refl)
-    (hand-prescription es (payloadIn q k ms) (prescribedIn (drop numberLen (payloadIn q k ms)))))
-    (c .decode w) (judge w))))
-  where
-    P : Answered HandedOut → Type 0
-    P o = Answers prescriptionRead o
+  pub prescription-read : (d : Coding) → Owns order d → (es : List Entry) (w : List ℕ) → Answers order (prescriptionReadUnder d es w)
+  unfolding prescriptionReading
+  prescription-read d own es w =
+      let n = b .begins .numbers in
+      let c = d .codec in
+      let q = c .alphabet in
+      let k = c .messageLen in
+      job-tests P d es (keep n (b .begins .one)) (keep n (b .begins .two)) (keep n (b .ten))
+      (tested P (eqb (length w) (c .wordLen)) (keep n (b .begins .three))
+      (tested P (allBelow (c .foundBound) w) (keep n (b .begins .four))
+      (by-own (λ r. P (prescriptionIn q k es r)) (λ a h. keep n h)
+      (λ ss ms. tested P (spellsPayload q k ms) (keep n (b .ten))
+      (hand-prescription es (payloadIn q k ms) (prescribedIn (drop numberLen (payloadIn q k ms)))))
+      (c .decode w) (own w))))
+    where
+      P : Answered HandedOut → Type 0
+      P o = Answers order o
 
 -- ---- For other languages
 
@@ -143,19 +145,20 @@ module _ (marks : List ℕ) (powers : List Float) where
       tested (AnswersLent prescriptionLent marks powers) (eqb (length marks) 2 && eqb (length powers) 2) (keep refl refl)
       (as-lent marksOf powersOf (transposeOut e .number) (transposeOut e .value) (one-before (transpose e)))
 
-  pub prescription-read-bytes : (d : Coding) → Judges d → (table w : List ℕ)
-      → AnswersLent prescriptionRead marks powers (prescriptionReadBytesUnder d table w marks powers)
-  unfolding prescriptionReadBytesUnder prescriptionReadLent isRefusal all any
-  prescription-read-bytes d judge table w =
-      let P = AnswersLent prescriptionRead marks powers in
+  pub prescription-read-bytes : (order : List ℕ) → BeginsJob order → any (eqb badPrescription) (served ∷ order) ≡ true → (d : Coding) → Owns order d
+      → (table w : List ℕ) → AnswersLent order marks powers (prescriptionReadBytesUnder d table w marks powers)
+  unfolding prescriptionReadBytesUnder prescriptionReadLent
+  prescription-read-bytes order b sixteen d own table w =
+      let P = AnswersLent order marks powers in
+      let n = b .begins .numbers in
       let o = prescriptionReadUnder d (tableIn table) w in
-      with-table P d table true (powersLent marks powers) (keep refl refl) (keep refl refl) (keep refl refl) (keep refl refl)
-      (tested P (d .inRange && not (twice (tableIn table))) (keep refl refl)
-      (tested P (d .fits) (keep refl refl)
-      (tested P (carriesJob (d .codec .alphabet) (d .codec .messageLen)) (keep refl refl)
-      (tested P (haveRoom marks powers) (keep refl refl)
+      with-table P d table true (powersLent marks powers) (keep n (b .begins .one)) (keep n (b .begins .two)) (keep n (b .ten)) (keep n (b .begins .three))
+      (tested P (d .inRange && not (twice (tableIn table))) (keep n (b .begins .one))
+      (tested P (d .fits) (keep n (b .begins .two))
+      (tested P (carriesJob (d .codec .alphabet) (d .codec .messageLen)) (keep n (b .ten))
+      (tested P (haveRoom marks powers) (keep n (b .begins .three))
       (as-lent (λ (h : HandedOut). handedMarks (h .number) (h .prescription)) (λ (h : HandedOut). handedPowers (h .prescription)) (o .number) (o .value)
-      (prescription-read d judge (tableIn table) w))))))
+      (prescription-read order b sixteen d own (tableIn table) w))))))
 
 module _ (power : List Float) where
   abbrev LendsPower : PowerLent → Type 0

@@ -13,8 +13,8 @@ use Rattle.combinatorics.proofs.Cases.{by-eq, eqb-true, eqb-other}
 use Rattle.cells.specs.Figures.{inRange}
 use Rattle.construction_a.specs.Figures.{fits, messageLen}
 use Rattle.cells.specs.Outcomes.{FiguresOut, figuresUnder}
-use Rattle.params.specs.declared.Figures.{Figures}
-use Rattle.params.specs.Bridge.{codingOf}
+use Rattle.codes.specs.declared.Figures.{Figures}
+use Rattle.codes.specs.Bridge.{codingOf}
 use Rattle.jobs.specs.Jobs.{Kind}
 use Rattle.jobs.specs.Letters.{kindOf, callBy, isLetter}
 use Rattle.payloads.specs.Payload.{jobNumber}
@@ -26,8 +26,8 @@ use Rattle.records.specs.Session.{Session, maxRecords, nextSession}
 use Rattle.lines.specs.Lines.{refusalLine, servedLine, letterS, letterL, letterW, letterR}
 use Rattle.records.specs.Records.{recordHeadLen, letterOf, isEmpty, current, payloadLenOf, figuresIn, longFiguresIn, recordStarts, payloadOf, readable}
 use Rattle.transfer.specs.Steps.{Step, stopped, ended, goesOn, figuresStep, callStep, jobStep, writeOut, readOut, serveOut, stepOut}
-use Rattle.demands.specs.Orders.{jobWrite, jobRead, callByLetter}
-use Rattle.demands.proofs.Answering.{tested, in-all, judges}
+use Rattle.demands.specs.Orders.{mannerOf, jobWrite, jobRead, callByLetter}
+use Rattle.demands.proofs.Answering.{tested, in-all, owns, job-order}
 use Rattle.demands.proofs.Jobs.{call-by, job-write, job-read}
 use Rattle.demands.specs.DemandOne.{AnswersBy, StepAnswers, at-end, stops, refuses, serves}
 
@@ -77,8 +77,9 @@ module _ (s : Session) (letter : ℕ) (bytes : List ℕ) where
       let d = codingOf f in
       let zeros : List ℕ = replicate (payloadLenOf f) 0 in
       let o = jobReadUnder d (s .table) (drop recordHeadLen bytes) zeros in
-      rw (← e) (job-step jobRead (o .answer) (hex (take 4 (o .payload)) ∷ hex (drop 4 (o .payload)) ∷ [])
-      (job-read d (judges f) (s .table) (drop recordHeadLen bytes) zeros))
+      let m = mannerOf f in
+      rw (← e) (job-step (jobRead m) (o .answer) (hex (take 4 (o .payload)) ∷ hex (drop 4 (o .payload)) ∷ [])
+      (job-read (jobRead m) (job-order m .0) d (owns f (jobRead m) (job-order m .1)) (s .table) (drop recordHeadLen bytes) zeros))
 
   served-step : Answers (serveOut s letter bytes)
   unfolding serveOut

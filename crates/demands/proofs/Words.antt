@@ -19,10 +19,10 @@ use Rattle.larsson.specs.Outcomes.{coding as larssonCoding}
 use Rattle.jobcodec.specs.DemandThree.{isRefusal}
 use Rattle.lanes.specs.Interleaving.{inDepth, interleaved, deinterleaved}
 use Rattle.lanes.specs.Outcomes.{Rearranged, rearranged, interleaveUnder, deinterleaveUnder}
-use Rattle.verifier.specs.Verify.{agreesOutside, agreeing, differing, unchecked, verifyOut}
+use Rattle.verifier.specs.Verify.{agreesOutside, agreeing, differing, unchecked, verifyUnder}
 use Rattle.exports.specs.Words.{differs}
-use Rattle.demands.specs.Orders.{figuresAlone, wordWrite, covering, wordRead, larssonRead, rearrangement}
-use Rattle.demands.proofs.Answering.{keep, done, tested, Judges, by-read, by-larsson}
+use Rattle.demands.specs.Orders.{figuresAlone, wordWrite, covering, rearrangement}
+use Rattle.demands.proofs.Answering.{keep, done, tested, Owns, by-own, Begins}
 use Rattle.demands.proofs.Answering.{Writes}
 use Rattle.demands.specs.DemandOne.{AnswersBy, ChecksBy}
 
@@ -61,14 +61,6 @@ cover d map =
     (tested Covers (ltb (coverRank n (d .bursts) (d .burstLen) (defectAt map)) (d .placementCount)) (keep refl refl)
     (done refl)))))
 
--- an order that begins with 1 2 3 4, as every word read's does
-pub record Begins (order : List ℕ) : Type 0 where
-  pub numbers : all isRefusal order ≡ true
-  pub one : any (eqb invalid) (served ∷ order) ≡ true
-  pub two : any (eqb unfit) (served ∷ order) ≡ true
-  pub three : any (eqb wrongLength) (served ∷ order) ≡ true
-  pub four : any (eqb badSymbol) (served ∷ order) ≡ true
-
 abbrev Reads : List ℕ → List ℕ → Decoded → Type 0
 Reads order out o = AnswersBy {A = Held × List ℕ} order (answerNumber (o .answer)) (held [], out) (o .placement, o .message)
 
@@ -86,27 +78,10 @@ word-read order b d behind w out =
     (tested P (allBelow (c .foundBound) w) (keep (b .numbers) (b .four))
     (behind w out))))
 
--- of Constructions A and B
-pub begins : Begins wordRead
-unfolding isRefusal all any
-begins = record { numbers = refl; one = refl; two = refl; three = refl; four = refl }
-
-pub behind : (d : Coding) → Judges d → ReadsBehind wordRead d
-unfolding isRefusal all any
-behind d judge w out =
-    by-read (λ r. Reads wordRead out (decodedFrom (d .burstLen) out r)) (keep refl refl) (keep refl refl) (keep refl refl) (keep refl refl) (λ ss ms. done refl)
-    (d .codec .decode w) (judge w)
-
--- of the Larsson code
-pub begins-larsson : Begins larssonRead
-unfolding isRefusal all any
-begins-larsson = record { numbers = refl; one = refl; two = refl; three = refl; four = refl }
-
-pub behind-larsson : (f : Params) → ReadsBehind larssonRead (larssonCoding f)
-unfolding isRefusal all any
-behind-larsson f w out =
-    by-larsson (λ r. Reads larssonRead out (decodedFrom (f .b) out r)) (keep refl refl) (keep refl refl) (keep refl refl) (keep refl refl)
-    (λ ss ms. done refl) f w
+-- of any code whose refusals the order has
+pub behind : (order : List ℕ) → all isRefusal order ≡ true → (d : Coding) → Owns order d → ReadsBehind order d
+behind order n d own w out =
+    by-own (λ r. Reads order out (decodedFrom (d .burstLen) out r)) (λ a h. keep n h) (λ ss ms. done n) (d .codec .decode w) (own w)
 
 -- a refusal of the check: its number is not 0
 pub turned-away : (a : ℕ) → any (eqb (suc a)) (served ∷ wordWrite) ≡ true → any (eqb (suc a)) (served ∷ differs ∷ wordWrite) ≡ true
@@ -119,15 +94,16 @@ unfolding isRefusal any
 told true = record { refusal = refl; number = refl; only-yes = λ _. refl; no-refusal = refl }
 told false = record { refusal = refl; number = refl; only-yes = λ e. absurd (omega (arith, e)); no-refusal = refl }
 
-pub verify : (f : Params) (at : Held) (ms w : List ℕ) → ChecksBy (verifyOut f at ms w)
-unfolding verifyOut any
-verify f at ms w =
-    tested ChecksBy (inRange f) (turned-away 0 refl refl)
-    (tested ChecksBy (fits f) (turned-away 1 refl refl)
-    (tested ChecksBy (eqb (at .count) (f .m) && eqb (length ms) (messageLen f) && eqb (length w) (f .n)) (turned-away 2 refl refl)
-    (tested ChecksBy (apart (f .b) (f .n) 0 (inUse at)) (turned-away 4 refl refl)
-    (tested ChecksBy (allBelow (f .q) ms && allBelow (foundBound (f .q)) w) (turned-away 3 refl refl)
-    (told (agreesOutside (constructionA f) w (inUse at) ms))))))
+pub verify : (d : Coding) (at : Held) (ms w : List ℕ) → ChecksBy (verifyUnder d at ms w)
+unfolding any
+verify d at ms w =
+    let c = d .codec in
+    tested ChecksBy (d .inRange) (turned-away 0 refl refl)
+    (tested ChecksBy (d .fits) (turned-away 1 refl refl)
+    (tested ChecksBy (eqb (at .count) (d .bursts) && eqb (length ms) (c .messageLen) && eqb (length w) (c .wordLen)) (turned-away 2 refl refl)
+    (tested ChecksBy (apart (d .burstLen) (c .wordLen) 0 (inUse at)) (turned-away 4 refl refl)
+    (tested ChecksBy (allBelow (c .alphabet) ms && allBelow (c .foundBound) w) (turned-away 3 refl refl)
+    (told (agreesOutside c w (inUse at) ms))))))
 
 -- ---- Words side by side
 

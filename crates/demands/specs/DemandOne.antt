@@ -18,9 +18,8 @@ use Rattle.cells.specs.Figures.{Params}
 use Rattle.construction_a.specs.DemandTwo.{DemandTwo}
 use Rattle.construction_b.specs.DemandTwo as B
 use Rattle.larsson.specs.Codec.{LarssonExact}
-use Rattle.larsson.specs.Outcomes.{coding as larssonCoding}
-use Rattle.params.specs.declared.Figures.{Figures}
-use Rattle.params.specs.Bridge.{codingOf}
+use Rattle.codes.specs.declared.Figures.{Figures}
+use Rattle.codes.specs.Bridge.{codingOf}
 use Rattle.jobs.specs.declared.Entry.{Entry}
 use Rattle.jobs.specs.Jobs.{Kind, opening, cancelling, finishing, reinstating, holding, releasing}
 use Rattle.jobs.specs.Letters.{listKind, callBy}
@@ -39,7 +38,7 @@ use Rattle.prescriptioncodec.specs.PrescriptionWrite.{prescriptionWriteUnder}
 use Rattle.prescriptioncodec.specs.PrescriptionRead.{prescriptionReadUnder}
 use Rattle.moving.specs.Move.{toConstructionA, toLarsson}
 use Rattle.lanes.specs.Outcomes.{interleaveUnder, deinterleaveUnder}
-use Rattle.verifier.specs.Verify.{Verdict, agreeing, verdictRefusal, verifyOut}
+use Rattle.verifier.specs.Verify.{Verdict, agreeing, verdictRefusal, verifyUnder}
 use Rattle.lent.specs.Covering.{coverBytesUnder}
 use Rattle.lent.specs.Jobs.{jobWriteBytesUnder, jobReadBytesUnder}
 use Rattle.lent.specs.Words.{encodeBytesUnder}
@@ -52,7 +51,7 @@ use Rattle.records.specs.Session.{Session, nextSession}
 use Rattle.lines.specs.Lines.{refusalLine, servedLine}
 use Rattle.records.specs.Records.{letterOf}
 use Rattle.transfer.specs.Steps.{Step, stopped, ended, goesOn, stepOut}
-use Rattle.demands.specs.Orders.{figuresAlone, wordWrite, covering, wordRead, larssonRead, rearrangement, jobWrite, jobRead, moveToA, moveToLarsson}
+use Rattle.demands.specs.Orders.{mannerOf, figuresAlone, wordWrite, covering, wordRead, rearrangement, jobWrite, jobRead, moveToA, moveToLarsson}
 use Rattle.demands.specs.Orders.{prescriptionAlone, prescriptionWrite, prescriptionRead, prescriptionLent, call, callByLetter, callOnBytes}
 use Rattle.demands.specs.Orders.{listOfCalls}
 
@@ -77,11 +76,11 @@ pub record ChecksBy (o : Verdict) : Type 0 where
 abbrev pub AnswersLent : List ℕ → List ℕ → List Float → PowersLent → Type 0
 AnswersLent order marks powers o = AnswersBy {A = List ℕ × List Float} order (o .answer) (marks, powers) (o .marks, o .powers)
 
--- A list of calls and the job reading after it: a list that is refused leaves both buffers; a reading that is refused leaves its own, and the calls
--- were made.
-abbrev pub ListAnswers : ListSaid → List ℕ → List ℕ → ListOut → Type 0
-ListAnswers (listRefused a) answers out o = AnswersBy {A = List ℕ × List ℕ} listOfCalls a (answers, out) (o .answers, o .payload)
-ListAnswers (jobAnswer a) answers out o = AnswersBy jobRead a out (o .payload)
+-- A list of calls and the job reading after it, whose order is given: a list that is refused leaves both buffers; a reading that is refused leaves its own,
+-- and the calls were made.
+abbrev pub ListAnswers : List ℕ → ListSaid → List ℕ → List ℕ → ListOut → Type 0
+ListAnswers order (listRefused a) answers out o = AnswersBy {A = List ℕ × List ℕ} listOfCalls a (answers, out) (o .answers, o .payload)
+ListAnswers order (jobAnswer a) answers out o = AnswersBy order a out (o .payload)
 
 -- A step of the transfer program answers by its line: "the letter, 0 or the refusal". A refused record changes neither figures nor table; only the count
 -- of records goes on.
@@ -94,31 +93,22 @@ pub data StepAnswers (s : Session) (letter : ℕ) : Step → Type 0 where
   serves : (f : Option Figures) (es : List Entry) (fields : List (List ℕ)) → StepAnswers s letter (goesOn (nextSession s f es) (servedLine letter fields))
 
 pub record DemandOne : Type 0 where
-  -- ---- Words, under the figures of either construction. Nothing is lent to "figures alone"; a refused covering or reading has no start beside it.
+  -- ---- Words, under the figures of each code. Nothing is lent to "figures alone"; a refused covering or reading has no start beside it.
   pub figures-alone : (f : Figures) → AnswersBy {A = Unit {0}} figuresAlone (figuresNumber (figuresUnder (codingOf f))) tt tt
   pub word-write : (f : Figures) (at : Held) (ms out : List ℕ)
       → AnswersBy wordWrite (encodeUnder (codingOf f) at ms out .answer) out (encodeUnder (codingOf f) at ms out .word)
   pub cover : (f : Figures) (map : List ℕ)
       → AnswersBy covering (coverUnder (codingOf f) map .answer) (held []) (coverUnder (codingOf f) map .placement)
   pub word-read : (f : Figures) (w out : List ℕ)
-      → AnswersBy {A = Held × List ℕ} wordRead (answerNumber (decodeUnder (codingOf f) w out .answer)) (held [], out)
+      → AnswersBy {A = Held × List ℕ} (wordRead (mannerOf f)) (answerNumber (decodeUnder (codingOf f) w out .answer)) (held [], out)
       (decodeUnder (codingOf f) w out .placement, decodeUnder (codingOf f) w out .message)
   -- words side by side; the functions for other languages have these outcomes too
   pub interleave : (f : Figures) (d : ℕ) (words out : List ℕ)
       → AnswersBy rearrangement (interleaveUnder (codingOf f) d words out .answer) out (interleaveUnder (codingOf f) d words out .buffer)
   pub deinterleave : (f : Figures) (d : ℕ) (strip out : List ℕ)
       → AnswersBy rearrangement (deinterleaveUnder (codingOf f) d strip out .answer) out (deinterleaveUnder (codingOf f) d strip out .buffer)
-  -- ---- Words of the Larsson code
-  pub larsson-figures : (f : Params) → AnswersBy {A = Unit {0}} figuresAlone (figuresNumber (figuresUnder (larssonCoding f))) tt tt
-  pub larsson-write : (f : Params) (at : Held) (ms out : List ℕ)
-      → AnswersBy wordWrite (encodeUnder (larssonCoding f) at ms out .answer) out (encodeUnder (larssonCoding f) at ms out .word)
-  pub larsson-cover : (f : Params) (map : List ℕ)
-      → AnswersBy covering (coverUnder (larssonCoding f) map .answer) (held []) (coverUnder (larssonCoding f) map .placement)
-  pub larsson-read : (f : Params) (w out : List ℕ)
-      → AnswersBy {A = Held × List ℕ} larssonRead (answerNumber (decodeUnder (larssonCoding f) w out .answer)) (held [], out)
-      (decodeUnder (larssonCoding f) w out .placement, decodeUnder (larssonCoding f) w out .message)
-  -- ---- The check of a word, under Construction A's figures; nothing that is lent to it is written
-  pub verify : (f : Params) (at : Held) (ms w : List ℕ) → ChecksBy (verifyOut f at ms w)
+  -- ---- The check of a word; nothing that is lent to it is written
+  pub verify : (f : Figures) (at : Held) (ms w : List ℕ) → ChecksBy (verifyUnder (codingOf f) at ms w)
   -- ---- The job table
   pub open-job : (es : List Entry) (n : ℕ) → AnswersBy (call opening) (openOut es n .answer) es (openOut es n .table)
   pub cancel-job : (es : List Entry) (n : ℕ) → AnswersBy (call cancelling) (cancelOut es n .answer) es (cancelOut es n .table)
@@ -134,9 +124,9 @@ pub record DemandOne : Type 0 where
   pub job-write : (f : Figures) (es : List Entry) (at : Held) (payload out : List ℕ)
       → AnswersBy jobWrite (jobWriteUnder (codingOf f) es at payload out .answer) out (jobWriteUnder (codingOf f) es at payload out .word)
   pub job-read : (f : Figures) (es : List Entry) (w out : List ℕ)
-      → AnswersBy jobRead (jobReadUnder (codingOf f) es w out .answer) out (jobReadUnder (codingOf f) es w out .payload)
+      → AnswersBy (jobRead (mannerOf f)) (jobReadUnder (codingOf f) es w out .answer) out (jobReadUnder (codingOf f) es w out .payload)
   pub list-and-read : (f : Figures) (es : List Entry) (letters numbers answers w out : List ℕ)
-      → ListAnswers (listOut (codingOf f) es letters numbers answers w out .answer) answers out (listOut (codingOf f) es letters numbers answers w out)
+      → ListAnswers (jobRead (mannerOf f)) (listOut (codingOf f) es letters numbers answers w out .answer) answers out (listOut (codingOf f) es letters numbers answers w out)
   -- ---- Moving a job between the Larsson code and Construction A; "Only the output strip changes."
   pub move-to-a : (f : Params) (es : List Entry) (w out : List ℕ)
       → AnswersBy moveToA (toConstructionA f es w out .answer) out (toConstructionA f es w out .word)
@@ -150,30 +140,23 @@ pub record DemandOne : Type 0 where
   pub prescription-write : (f : Figures) (es : List Entry) (at : Held) (n : ℕ) (p : Prescription) (out : List ℕ)
       → AnswersBy prescriptionWrite (prescriptionWriteUnder (codingOf f) es at n p out .answer) out (prescriptionWriteUnder (codingOf f) es at n p out .word)
   pub prescription-read : (f : Figures) (es : List Entry) (w : List ℕ)
-      → AnswersBy prescriptionRead (prescriptionReadUnder (codingOf f) es w .number) none (prescriptionReadUnder (codingOf f) es w .value)
+      → AnswersBy (prescriptionRead (mannerOf f)) (prescriptionReadUnder (codingOf f) es w .number) none (prescriptionReadUnder (codingOf f) es w .value)
   -- ---- For other languages
   pub word-read-bytes : (f : Figures) (w out starts : List ℕ)
-      → AnswersBy {A = List ℕ × List ℕ} wordRead (exportedUnder (codingOf f) w out starts .answer) (out, starts)
+      → AnswersBy {A = List ℕ × List ℕ} (wordRead (mannerOf f)) (exportedUnder (codingOf f) w out starts .answer) (out, starts)
       (exportedUnder (codingOf f) w out starts .message, exportedUnder (codingOf f) w out starts .starts)
   pub word-write-bytes : (f : Figures) (starts ms out : List ℕ)
       → AnswersBy wordWrite (encodeBytesUnder (codingOf f) starts ms out .answer) out (encodeBytesUnder (codingOf f) starts ms out .word)
   pub verify-bytes : (f : Params) (starts ms w : List ℕ) → ChecksBy (verifyBytesOut f starts ms w)
   pub cover-bytes : (f : Figures) (map starts : List ℕ)
       → AnswersBy covering (coverBytesUnder (codingOf f) map starts .answer) starts (coverBytesUnder (codingOf f) map starts .starts)
-  pub larsson-read-bytes : (f : Params) (w out starts : List ℕ)
-      → AnswersBy {A = List ℕ × List ℕ} larssonRead (exportedUnder (larssonCoding f) w out starts .answer) (out, starts)
-      (exportedUnder (larssonCoding f) w out starts .message, exportedUnder (larssonCoding f) w out starts .starts)
-  pub larsson-write-bytes : (f : Params) (starts ms out : List ℕ)
-      → AnswersBy wordWrite (encodeBytesUnder (larssonCoding f) starts ms out .answer) out (encodeBytesUnder (larssonCoding f) starts ms out .word)
-  pub larsson-cover-bytes : (f : Params) (map starts : List ℕ)
-      → AnswersBy covering (coverBytesUnder (larssonCoding f) map starts .answer) starts (coverBytesUnder (larssonCoding f) map starts .starts)
   pub call-bytes : (table : List ℕ) (letter number : ℕ)
       → AnswersBy (callOnBytes (listKind letter)) (callBytesOut table letter number .answer) table (callBytesOut table letter number .table)
   pub job-write-bytes : (f : Figures) (table starts payload out : List ℕ)
       → AnswersBy jobWrite (jobWriteBytesUnder (codingOf f) table starts payload out .answer) out
       (jobWriteBytesUnder (codingOf f) table starts payload out .word)
   pub job-read-bytes : (f : Figures) (table w out : List ℕ)
-      → AnswersBy jobRead (jobReadBytesUnder (codingOf f) table w out .answer) out (jobReadBytesUnder (codingOf f) table w out .payload)
+      → AnswersBy (jobRead (mannerOf f)) (jobReadBytesUnder (codingOf f) table w out .answer) out (jobReadBytesUnder (codingOf f) table w out .payload)
   pub move-to-a-bytes : (f : Params) (table w out : List ℕ)
       → AnswersBy moveToA (toConstructionABytes f table w out .answer) out (toConstructionABytes f table w out .word)
   pub move-to-larsson-bytes : (f : Params) (table w out : List ℕ)
@@ -185,15 +168,13 @@ pub record DemandOne : Type 0 where
       → AnswersBy prescriptionWrite (prescriptionWriteBytesUnder (codingOf f) table starts n p out .answer) out
       (prescriptionWriteBytesUnder (codingOf f) table starts n p out .word)
   pub prescription-read-bytes : (f : Figures) (table w marks : List ℕ) (powers : List Float)
-      → AnswersLent prescriptionRead marks powers (prescriptionReadBytesUnder (codingOf f) table w marks powers)
+      → AnswersLent (prescriptionRead (mannerOf f)) marks powers (prescriptionReadBytesUnder (codingOf f) table w marks powers)
   -- ---- The transfer program
   pub step : (s : Session) (bytes : List ℕ) → StepAnswers s (letterOf bytes) (stepOut s bytes)
   -- ---- "Each number comes under its condition and under no other": those of the table as the ledger has them, 6 where no placement covers the map,
   -- and 7, 8, 9, 19 and 21 as the found word has them. The others' conditions are the tests in the outcomes themselves.
   pub table-conditions : Simulation
   pub cover-conditions : (f : Figures) → codingOf f .inRange ≡ true → codingOf f .fits ≡ true → (map : List ℕ) → CoversLeast (codingOf f) (defectAt map)
-  pub larsson-cover-conditions : (f : Params) → larssonCoding f .inRange ≡ true → larssonCoding f .fits ≡ true → (map : List ℕ)
-      → CoversLeast (larssonCoding f) (defectAt map)
   pub read-conditions : DemandTwo
   pub long-read-conditions : B.DemandTwo
   pub larsson-read-conditions : LarssonExact

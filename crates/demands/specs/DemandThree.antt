@@ -9,8 +9,8 @@ use lib.ListN.{length, drop, replicate}
 use Rattle.refusals.specs.Refusals.{served}
 use Rattle.combinatorics.specs.Lists.{all}
 use Rattle.cells.specs.Outcomes.{figuresNumber, figuresUnder}
-use Rattle.params.specs.declared.Figures.{Figures}
-use Rattle.params.specs.Bridge.{codingOf}
+use Rattle.codes.specs.declared.Figures.{Figures}
+use Rattle.codes.specs.Bridge.{codingOf}
 use Rattle.jobs.specs.declared.Entry.{Entry}
 use Rattle.jobs.specs.Jobs.{Call}
 use Rattle.jobs.specs.Letters.{kindOf, isLetter}

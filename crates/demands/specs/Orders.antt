@@ -8,6 +8,8 @@ use Prim.Native.Nat.{ℕ}
 use Rattle.refusals.specs.Refusals.{invalid, unfit, wrongLength, badSymbol, badStarts, uncovered, noPattern, valueTooLarge, disagrees, erased, noMajority}
 use Rattle.refusals.specs.Refusals.{badPayload, badRecord, badPrescription, badDepth, surplusBytes, jobCancelled, alreadyOpen, notOpen, tableFull}
 use Rattle.refusals.specs.Refusals.{numberZero, notCancelled, jobHeld, notHeld}
+use Rattle.codes.specs.declared.Figures.{Figures}
+use Rattle.codes.specs.declared.Figures.the-variants.{Ranked, Long, Larsson}
 use Rattle.jobs.specs.Jobs.{Kind, opening, cancelling, finishing, reinstating, holding, releasing}
 
 -- "figures alone 1 2"
@@ -22,13 +24,20 @@ wordWrite = invalid ∷ unfit ∷ wrongLength ∷ badStarts ∷ badSymbol ∷ []
 abbrev pub covering : List ℕ
 covering = invalid ∷ unfit ∷ wrongLength ∷ badSymbol ∷ uncovered ∷ []
 
--- "word read 1 2 3 4 7 8 9", with 19 "between 7 and 8" and "after 9"
-abbrev pub wordRead : List ℕ
-wordRead = invalid ∷ unfit ∷ wrongLength ∷ badSymbol ∷ noPattern ∷ erased ∷ valueTooLarge ∷ disagrees ∷ erased ∷ []
+-- how a code's reader comes to the placement: by the pattern of the blocks, as both constructions have it, or by the majority of the sub-blocks
+pub data Manner : Type 0 where
+  byPattern byMajority : Manner
 
--- document 02, "The older trays": 21 "in the place of 7", and "a silent cell in the message is 19"
-abbrev pub larssonRead : List ℕ
-larssonRead = invalid ∷ unfit ∷ wrongLength ∷ badSymbol ∷ noMajority ∷ valueTooLarge ∷ disagrees ∷ erased ∷ []
+abbrev pub mannerOf : Figures → Manner
+mannerOf (Ranked p) = byPattern
+mannerOf (Long p) = byPattern
+mannerOf (Larsson p) = byMajority
+
+-- "word read 1 2 3 4 7 8 9", with 19 "between 7 and 8" and "after 9"; document 02, "The older trays": 21 "in the place of 7", and "a silent cell in the
+-- message is 19"
+abbrev pub wordRead : Manner → List ℕ
+wordRead byPattern = invalid ∷ unfit ∷ wrongLength ∷ badSymbol ∷ noPattern ∷ erased ∷ valueTooLarge ∷ disagrees ∷ erased ∷ []
+wordRead byMajority = invalid ∷ unfit ∷ wrongLength ∷ badSymbol ∷ noMajority ∷ valueTooLarge ∷ disagrees ∷ erased ∷ []
 
 -- document 02, "Strips side by side": 18 "right after 2 and before 3 and 4"
 abbrev pub rearrangement : List ℕ
@@ -38,10 +47,13 @@ rearrangement = invalid ∷ unfit ∷ badDepth ∷ wrongLength ∷ badSymbol ∷
 abbrev pub jobWrite : List ℕ
 jobWrite = invalid ∷ unfit ∷ badPayload ∷ wrongLength ∷ badStarts ∷ numberZero ∷ jobCancelled ∷ jobHeld ∷ notOpen ∷ []
 
--- "job read 1 2, 10 for K, 3 4 7 8 9, 10, 12 14", with 19 as in word read and 23 before 14
-abbrev pub jobRead : List ℕ
-jobRead =
+-- "job read 1 2, 10 for K, 3 4 7 8 9, 10, 12 14", with 19 and 21 as in word read and 23 before 14
+abbrev pub jobRead : Manner → List ℕ
+jobRead byPattern =
     invalid ∷ unfit ∷ badPayload ∷ wrongLength ∷ badSymbol ∷ noPattern ∷ erased ∷ valueTooLarge ∷ disagrees ∷ erased ∷ badPayload
+    ∷ jobCancelled ∷ jobHeld ∷ notOpen ∷ []
+jobRead byMajority =
+    invalid ∷ unfit ∷ badPayload ∷ wrongLength ∷ badSymbol ∷ noMajority ∷ valueTooLarge ∷ disagrees ∷ erased ∷ badPayload
     ∷ jobCancelled ∷ jobHeld ∷ notOpen ∷ []
 
 -- document 02, "Moving the racks over", once a word is accepted: the reader's "10, 12 14" with 23 before 14, then "22, after the reader's refusals and before
@@ -66,9 +78,12 @@ abbrev pub prescriptionWrite : List ℕ
 prescriptionWrite =
     invalid ∷ unfit ∷ badPayload ∷ wrongLength ∷ badStarts ∷ badPrescription ∷ numberZero ∷ jobCancelled ∷ jobHeld ∷ notOpen ∷ []
 
-abbrev pub prescriptionRead : List ℕ
-prescriptionRead =
+abbrev pub prescriptionRead : Manner → List ℕ
+prescriptionRead byPattern =
     invalid ∷ unfit ∷ badPayload ∷ wrongLength ∷ badSymbol ∷ noPattern ∷ erased ∷ valueTooLarge ∷ disagrees ∷ erased ∷ badPayload ∷ badPrescription
+    ∷ jobCancelled ∷ jobHeld ∷ notOpen ∷ []
+prescriptionRead byMajority =
+    invalid ∷ unfit ∷ badPayload ∷ wrongLength ∷ badSymbol ∷ noMajority ∷ valueTooLarge ∷ disagrees ∷ erased ∷ badPayload ∷ badPrescription
     ∷ jobCancelled ∷ jobHeld ∷ notOpen ∷ []
 
 -- transposing and the spherical equivalent into lent buffers: 3 for their lengths before

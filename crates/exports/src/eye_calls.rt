@@ -4,9 +4,9 @@ ghost use Rattle.cells.specs.Figures.{params};
 ghost use Rattle.cells.specs.Outcomes.{unwritten};
 ghost use Rattle.lent_prescriptions.specs.Eyes.{eyeFrom, powersLent, transposeLent, powerLent, equivalentLent};
 ghost use Rattle.lent_prescriptions.specs.Prescriptions.{prescriptionFrom, prescriptionWriteBytesOut, prescriptionReadBytesOut};
+use codes::Figures;
 use lent_prescriptions::eyes;
 use lent_prescriptions::prescriptions;
-use params::Figures;
 use params::Params;
 
 // Transposing: the eye that four values are, with the other sign of its cylinder; kind and axis into `marks`, sphere and cylinder into `powers`.

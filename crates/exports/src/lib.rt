@@ -11,12 +11,11 @@ ghost use Rattle.lent.specs.Jobs.{jobWriteBytesOut, jobReadBytesOut};
 ghost use Rattle.lent.specs.Words.{encodeBytesOut, payloadLenOut};
 ghost use Rattle.exports.specs.Words.{verifyBytesOut, verdictNumber};
 ghost use Rattle.exports.specs.Jobs.{called, callBytesOut};
+use codes::Figures;
 use lent::job;
 use lent::starts;
 use lent::table;
 use lent::words;
-use params::Figures;
-use params::LayoutAnswer;
 use params::Params;
 use refusals::Refusal;
 use verifier::VerifyAnswer;
@@ -102,7 +101,7 @@ pub extern "C" fn burgzemi_verify(
 ) -> u8
     ensures { λ r. ⌜ r ≡ verdictNumber (verifyBytesOut (params n q m b) (now (starts .entry)) (now (message .entry)) (now (word .entry))) ⌝ }
 {
-    let figures = Params { n, q, m, b };
+    let figures = Figures::Ranked(Params { n, q, m, b });
     let at = starts::placement_from(starts, m);
     let answer = verifier::verify(figures, at, message, word);
     match answer {

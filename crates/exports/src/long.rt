@@ -12,12 +12,12 @@ ghost use Rattle.lent.specs.Jobs.{jobWriteBytesUnder, jobReadBytesUnder};
 ghost use Rattle.lent.specs.Words.{encodeBytesUnder, messageLenUnder, payloadLenUnder};
 ghost use Rattle.lent_prescriptions.specs.Eyes.{eyeFrom, powersLent};
 ghost use Rattle.lent_prescriptions.specs.Prescriptions.{prescriptionFrom, prescriptionWriteBytesUnder, prescriptionReadBytesUnder};
+use codes::Figures;
 use lent::job;
 use lent::starts;
 use lent::words;
 use lent_prescriptions::eyes;
 use lent_prescriptions::prescriptions;
-use params::Figures;
 use params::long::LongParams;
 
 // How many symbols a message has; 4294967295 for figures that are refused.

@@ -14,20 +14,20 @@ use Rattle.combinatorics.proofs.Cases.{eqb-same, eqb-other, leb-holds, leb-fail
 use Rattle.cells.specs.Bytes.{payloadLen}
 use Rattle.cells.specs.Outcomes.{Coding, Held, inUse, Encoded, unwritten, unserved, figuresUnder}
 use Rattle.cells.specs.Figures.{maxWord, maxAlphabet}
-use Rattle.params.specs.Answer.{figuredAs, LaidAs, HasNumbers}
-use Rattle.params.specs.Bridge.{codingOf}
-use Rattle.params.specs.Given.{codingIn}
-use Rattle.params.specs.declared.Figures.{Figures}
-use Rattle.params.specs.declared.LayoutAnswer.{LayoutAnswer}
-use Rattle.params.specs.declared.LayoutAnswer.the-variants.{Fit}
-use Rattle.params.specs.declared.Layout.{Layout}
-use Rattle.params.proofs.Either.{serves, in-order, numbers-in}
+use Rattle.codes.specs.Answer.{figuredAs, LaidAs}
+use Rattle.codes.specs.Given.{HasNumbers, codingIn}
+use Rattle.codes.specs.Bridge.{codingOf}
+use Rattle.codes.specs.declared.Figures.{Figures}
+use Rattle.codes.specs.declared.FiguresAnswer.{FiguresAnswer}
+use Rattle.codes.specs.declared.FiguresAnswer.the-variants.{Fit}
+use Rattle.codes.specs.declared.WordLayout.{WordLayout}
+use Rattle.codes.proofs.Answered.{serves}
+use Rattle.codes.proofs.Layouts.{in-order, numbers-in, small-in}
 use Rattle.jobs.specs.declared.Entry.{Entry}
 use Rattle.jobs.specs.Jobs.{isJob, Status, unknown, opened, onHold, cancelled, needsOpen}
 use Rattle.ledger.specs.Replay.{ReplayOut, replayOut}
 use Rattle.jobs.specs.Table.{twice}
 use Rattle.payloads.specs.Payload.{carriesJob, jobNumber, messageOf}
-use Rattle.jobcodec.proofs.Limits.{small-in}
 use Rattle.jobcodec.specs.JobWrite.{jobStatus, whereOpen, jobWriteUnder}
 use Rattle.jobcodec.specs.JobRead.{JobRead, handOut, withhold, jobOfPayload, jobReading, jobReadUnder}
 use Rattle.jobcodec.specs.Given.{ServesTable, ReadyUnder}
@@ -53,18 +53,18 @@ module _ (d : Coding) (es : List Entry) where
 -- ---- Figures that fit, laid out
 
 -- the layout gives what the figures give, and serves with the table
-pub record LaidFor (f : Figures) (es : List Entry) (l : Layout) : Type 0 where
+pub record LaidFor (f : Figures) (es : List Entry) (l : WordLayout) : Type 0 where
   pub same : codingIn l ≡ codingOf f
   pub fitting : ServesTable l es
 
 -- what a caller learns of an answer that is a layout
-pub laid : (f : Figures) (es : List Entry) (answer : LayoutAnswer) (l : Layout) → answer ≡ Fit l
+pub laid : (f : Figures) (es : List Entry) (answer : FiguresAnswer) (l : WordLayout) → answer ≡ Fit l
     → (figuredAs answer ≡ figuresUnder (codingOf f)) × LaidAs f answer → twice es ≡ false → LaidFor f es l
 laid f es answer l e told once =
     let own = serves f answer l e (told .0) (told .1) in
     record { same = own .0; fitting = record { serves = own .1; once = once } }
 
-module _ (l : Layout) (es : List Entry) (h : ServesTable l es) where
+module _ (l : WordLayout) (es : List Entry) (h : ServesTable l es) where
   abbrev d : Coding
   d = codingIn l
 

@@ -1,4 +1,4 @@
--- Demand 3 holds: for every exact codec, and so for Construction A and Construction B. Assumes nothing.
+-- Demand 3 holds: for every exact codec, and so for Construction A, Construction B and the Larsson code. Assumes nothing.
 use mathlib.Core.Path.{_≡_, refl, sym, ap, _∙_}
 use mathlib.Core.Bool.{Bool, true, false, true≢false}
 use mathlib.Core.List.{List, []}
@@ -24,9 +24,14 @@ use Rattle.construction_b.specs.DemandTwo.{Listed as ListedB, no-pattern as no-
 use Rattle.construction_b.specs.DemandTwo.{before-word, erased-message as erased-message-b}
 use Rattle.construction_b.proofs.Figures.{ranged as ranged-b}
 use Rattle.construction_b.proofs.DemandTwo.{demand-two as demand-two-b}
-use Rattle.params.specs.Bridge.{given, givenLong, codingOf}
-use Rattle.params.specs.declared.Figures.{Figures}
-use Rattle.params.specs.declared.Figures.the-variants.{Ranked, Long}
+use Rattle.larsson.specs.Codec.{Listed as ListedLarsson, no-majority, too-large as too-large-larsson, disagreeing as disagreeing-larsson}
+use Rattle.larsson.specs.Codec.{erased-message as erased-message-larsson}
+use Rattle.larsson.specs.Outcomes.{coding as codingLarsson}
+use Rattle.larsson.proofs.Exact.{larsson-exact}
+use Rattle.params.specs.Bridge.{given, givenLong}
+use Rattle.codes.specs.Bridge.{codingOf}
+use Rattle.codes.specs.declared.Figures.{Figures}
+use Rattle.codes.specs.declared.Figures.the-variants.{Ranked, Long, Larsson}
 use Rattle.jobs.specs.declared.Entry.{Entry}
 use Rattle.jobs.specs.Jobs.{Call, needsOpen}
 use Rattle.jobs.specs.Table.{emptyTable, twice}
@@ -39,7 +44,7 @@ use Rattle.payloads.specs.Payload.{carriesJob, jobNumber, messageOf, payloadIn,
 use Rattle.jobcodec.specs.JobWrite.{whereOpen, unless}
 use Rattle.jobcodec.specs.JobRead.{handOut, withhold, jobIn, jobReading, jobReadUnder, jobReadOut}
 use Rattle.jobcodec.specs.DemandThree.{BothFacts, isRefusal, isWordRefusal, isCallRefusal, HandsOut, Presented, Claim, ClaimA}
-use Rattle.jobcodec.specs.DemandThree.{DemandThreeUnder, DemandThree, DemandThreeB}
+use Rattle.jobcodec.specs.DemandThree.{DemandThreeUnder, DemandThree, DemandThreeB, DemandThreeLarsson}
 use Rattle.jobcodec.proofs.Examples.{figures, wordWith, buffer, opened, computed}
 use Rattle.payloads.proofs.Payload.{payload-passes}
 use Rattle.jobcodec.proofs.Pairs.{read-pair, pair-read, only-pair, none-gives, handed, one-gives}
@@ -209,12 +214,41 @@ reads-b f i h =
 pub demand-three-b : DemandThreeB
 demand-three-b f = demand-three-under (codingB f) (reads-b f)
 
--- ---- Either, as a caller passes its figures
+-- ---- The Larsson code
 
-pub follows-either : (f : Figures) (before calls : List Call) (answers : List ℕ) (es : List Entry) (w out : List ℕ) → Follows before calls answers es
+listed-refusal-larsson : (f : Params) (w : List ℕ) (a : ℕ) → ListedLarsson f w a → (isRefusal a ≡ true) × (isWordRefusal a ≡ true)
+unfolding isRefusal isWordRefusal any
+listed-refusal-larsson f w a (no-majority _) = (refl, refl)
+listed-refusal-larsson f w a (too-large-larsson _ _ _) = (refl, refl)
+listed-refusal-larsson f w a (disagreeing-larsson _ _ _ _) = (refl, refl)
+listed-refusal-larsson f w a (erased-message-larsson _ _ _ _ _) = (refl, refl)
+
+pub reads-larsson : (f : Params) → ReadsWhereFit (codingLarsson f)
+unfolding isPlacement
+reads-larsson f i h =
+    let two = larsson-exact f i h in
+    let r = ranged f i in
+    record {
+      exactly = two .exactly;
+      two = r .q-least;
+      listed = λ w a e. listed-refusal-larsson f w a (two .listed w a .0 e);
+      few = r .m-most;
+      placed = λ ss e p. rw (eqb-same (length ss) (f .m) e) p;
+    }
+
+pub demand-three-larsson : DemandThreeLarsson
+demand-three-larsson f = demand-three-under (codingLarsson f) (reads-larsson f)
+
+-- ---- Any of them, as a caller passes its figures
+
+pub reads-in : (f : Figures) → ReadsWhereFit (codingOf f)
+reads-in (Ranked p) = reads-a (given p)
+reads-in (Long p) = reads-b (givenLong p)
+reads-in (Larsson p) = reads-larsson (given p)
+
+pub follows-figures : (f : Figures) (before calls : List Call) (answers : List ℕ) (es : List Entry) (w out : List ℕ) → Follows before calls answers es
     → Claim (codingOf f) before calls w out answers (jobReadUnder (codingOf f) es w out)
-follows-either (Ranked p) = follows-under (coding (given p)) (reads-a (given p))
-follows-either (Long p) = follows-under (codingB (givenLong p)) (reads-b (givenLong p))
+follows-figures f = follows-under (codingOf f) (reads-in f)
 
 -- it is not empty: both facts hold of the transfer example's word
 both-facts : (starts : List ℕ) × (y : List ℕ) × BothFacts (constructionA figures) (acceptedBy opened (answersFrom emptyTable opened) []) (wordWith 255) starts y

@@ -1,4 +1,3 @@
-pub mod Limits
 pub mod Outcomes
 pub mod Examples
 pub mod Pairs

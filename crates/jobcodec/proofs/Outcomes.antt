@@ -15,14 +15,13 @@ use Rattle.cells.specs.Codec.{Reading, accepted, refused}
 use Rattle.cells.specs.Outcomes.{Coding, Held, inUse, unserved, figuresUnder, encodeUnder, WordAnswer, rankIs, refusal, unread, decodedFrom, decodeUnder}
 use Rattle.cells.proofs.Outcomes.{refused-alike}
 use Rattle.params.specs.Answer.{Small}
-use Rattle.params.specs.Given.{codingIn}
-use Rattle.params.specs.declared.Layout.{Layout}
-use Rattle.params.proofs.Either.{numbers-in}
+use Rattle.codes.specs.Given.{codingIn}
+use Rattle.codes.specs.declared.WordLayout.{WordLayout}
+use Rattle.codes.proofs.Layouts.{numbers-in, small-in}
 use Rattle.jobs.specs.declared.Entry.{Entry}
 use Rattle.jobs.specs.Jobs.{isJob, opened}
 use Rattle.jobs.specs.Table.{twice}
 use Rattle.payloads.specs.Payload.{IsPayload, jobNumber, messageOf, spellsPayload}
-use Rattle.jobcodec.proofs.Limits.{small-in}
 use Rattle.jobcodec.specs.JobWrite.{jobStatus, jobWriteUnder}
 use Rattle.jobcodec.specs.JobRead.{withhold, jobIn, jobReading, jobReadUnder}
 use Rattle.jobcodec.specs.Given.{ReadyUnder, ReadableJob, SpellsJob, spelledAs, spelledAnswer}
@@ -147,7 +146,7 @@ spelled-accepted q k ms v (rankIs u) e = go (spellsPayload q k ms) (ap accepts e
     go false e = sym e
 
 -- so it can be handed out into the lent payload
-pub holding : {l : Layout} {es : List Entry} {ms out : List ℕ} → ReadableJob l es ms out → (w ms′ : List ℕ) → length ms′ ≡ length ms
+pub holding : {l : WordLayout} {es : List Entry} {ms out : List ℕ} → ReadableJob l es ms out → (w ms′ : List ℕ) → length ms′ ≡ length ms
     → ms′ ≡ decodeUnder (codingIn l) w ms .message
     → (v : ℕ) → rankIs v ≡ spelledAnswer (l .q) (length ms) (decodeUnder (codingIn l) w ms) → SpellsJob (l .q) ms′ out
 holding {l} {es} {ms} {out} h w ms′ same lent v e =

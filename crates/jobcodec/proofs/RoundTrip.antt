@@ -1,5 +1,5 @@
 -- A job that was written reads back under the same table, however its word is spoilt inside the placement's bursts, under any figures that give an exact
--- codec; and so under Construction A and Construction B. Assumes nothing.
+-- codec; and so under Construction A, Construction B and the Larsson code. Assumes nothing.
 use mathlib.Core.Path.{_≡_, refl, ap, _∙_}
 use mathlib.Core.Bool.{Bool, true, false, not, _&&_}
 use mathlib.Core.List.{List}
@@ -19,6 +19,7 @@ use Rattle.cells.specs.Outcomes.{Coding, Held, inUse, Encoded, unwritten}
 use Rattle.construction_a.specs.Outcomes.{coding}
 use Rattle.construction_b.specs.Figures.{LongParams}
 use Rattle.construction_b.specs.Outcomes.{coding as codingB}
+use Rattle.larsson.specs.Outcomes.{coding as codingLarsson}
 use Rattle.jobs.specs.declared.Entry.{Entry}
 use Rattle.jobs.specs.Jobs.{isJob, Status, unknown, opened, onHold, cancelled}
 use Rattle.jobs.specs.Table.{twice}
@@ -29,7 +30,7 @@ use Rattle.jobcodec.specs.Given.{ReadyUnder}
 use Rattle.jobcodec.specs.ReadBack.{JobsReadBack}
 use Rattle.jobcodec.proofs.Outcomes.{read-decodes}
 use Rattle.jobcodec.proofs.Pairs.{not-served, read-pair}
-use Rattle.jobcodec.proofs.DemandThree.{ReadsWhereFit, reads-a, reads-b}
+use Rattle.jobcodec.proofs.DemandThree.{ReadsWhereFit, reads-a, reads-b, reads-larsson}
 use Rattle.payloads.proofs.Payload.{length-message, message-symbols, payload-back, payload-passes}
 
 -- ---- What an accepted writing says of its input
@@ -167,3 +168,8 @@ reads-back-a f = jobs-read-back (coding f) (reads-a f)
 
 pub reads-back-b : (f : LongParams) → JobsReadBack (codingB f)
 reads-back-b f = jobs-read-back (codingB f) (reads-b f)
+
+-- ---- The Larsson code
+
+pub reads-back-larsson : (f : Params) → JobsReadBack (codingLarsson f)
+reads-back-larsson f = jobs-read-back (codingLarsson f) (reads-larsson f)

@@ -10,7 +10,7 @@ use Prim.Native.Nat.{ℕ}
 use lib.Dec.{eqb}
 use lib.ListN.{length}
 use Rattle.refusals.specs.Refusals.{served, invalid, unfit, wrongLength, badSymbol, noPattern, valueTooLarge, disagrees, erased, badPayload, jobCancelled}
-use Rattle.refusals.specs.Refusals.{notOpen, jobHeld, refusals}
+use Rattle.refusals.specs.Refusals.{notOpen, jobHeld, noMajority, refusals}
 use Rattle.combinatorics.specs.Lists.{any}
 use Rattle.cells.specs.Bytes.{payloadLen}
 use Rattle.cells.specs.Codec.{Codec, Word, LeadsTo}
@@ -19,6 +19,7 @@ use Rattle.cells.specs.Figures.{Params}
 use Rattle.construction_a.specs.Outcomes.{coding}
 use Rattle.construction_b.specs.Figures.{LongParams}
 use Rattle.construction_b.specs.Outcomes.{coding as codingB}
+use Rattle.larsson.specs.Outcomes.{coding as codingLarsson}
 use Rattle.jobs.specs.declared.Entry.{Entry}
 use Rattle.jobs.specs.Jobs.{opening, cancelling, finishing, holding, Call}
 use Rattle.ledger.specs.Calls.{answersFrom, tableFrom}
@@ -54,9 +55,9 @@ pub record BothFacts (c : Codec) (ledger : List Call) (w starts payload : List �
 unfoldable pub isRefusal : ℕ → Bool
 isRefusal a = any (eqb a) refusals
 
--- 7, 19, 8, 9 or 10: what a word is refused with that no pair gives
+-- 7, 19, 8, 9 or 10, by the Larsson code 21, 8, 9, 19 or 10: what a word is refused with that no pair gives
 unfoldable pub isWordRefusal : ℕ → Bool
-isWordRefusal a = any (eqb a) (noPattern ∷ erased ∷ valueTooLarge ∷ disagrees ∷ badPayload ∷ [])
+isWordRefusal a = any (eqb a) (noPattern ∷ noMajority ∷ erased ∷ valueTooLarge ∷ disagrees ∷ badPayload ∷ [])
 
 -- 1, 2, 3, 4 or 10: what is refused before a word is read
 unfoldable pub isCallRefusal : ℕ → Bool
@@ -70,7 +71,7 @@ pub record HandsOut (c : Codec) (ledger : List Call) (w out : List ℕ) (r : Job
   pub hands : (starts payload : List ℕ) → BothFacts c ledger w starts payload → r ≡ handOut payload
   -- otherwise it is refused, and the lent buffer keeps what it held; the fields below say with which number
   pub otherwise : ((starts payload : List ℕ) → BothFacts c ledger w starts payload → ⊥) → (a : ℕ) × (isRefusal a ≡ true) × (r ≡ withhold out a)
-  -- where the first fact fails, with 7, 19, 8, 9 or 10; which of them, the word alone says (`jobReadUnder`)
+  -- where the first fact fails, with 7, 19, 8, 9 or 10, by the Larsson code 21, 8, 9, 19 or 10; which of them, the word alone says (`jobReadUnder`)
   pub no-pair : ((starts payload : List ℕ) → Gives c w starts payload → ⊥) → (a : ℕ) × (isWordRefusal a ≡ true) × (r ≡ withhold out a)
   -- "Where only the second fact fails, the refusal is 12 after a cancellation, 14 after a finishing or no accepted call."
   pub after-cancelling : (starts payload : List ℕ) → OnlyPair c w starts payload → lastLeft ledger (jobNumber payload) ≡ some cancelling
@@ -127,3 +128,8 @@ DemandThree =
 
 abbrev pub DemandThreeB : Type 0
 DemandThreeB = (f : LongParams) → DemandThreeUnder (codingB f)
+
+-- ---- And of the Larsson code: a job on an older tray, under the same table
+
+abbrev pub DemandThreeLarsson : Type 0
+DemandThreeLarsson = (f : Params) → DemandThreeUnder (codingLarsson f)

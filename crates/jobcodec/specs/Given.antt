@@ -8,8 +8,8 @@ use Rattle.refusals.specs.Refusals.{must, badPayload}
 use Rattle.cells.specs.Bytes.{payloadLen}
 use Rattle.cells.specs.Outcomes.{Coding, WordAnswer, rankIs, refusal, Decoded}
 use Rattle.cells.specs.Figures.{maxAlphabet}
-use Rattle.params.specs.Given.{codingIn, Serves}
-use Rattle.params.specs.declared.Layout.{Layout}
+use Rattle.codes.specs.Given.{codingIn, Serves}
+use Rattle.codes.specs.declared.WordLayout.{WordLayout}
 use Rattle.jobs.specs.declared.Entry.{Entry}
 use Rattle.jobs.specs.Table.{twice}
 use Rattle.payloads.specs.Payload.{carriesJob, spellsPayload}
@@ -20,12 +20,12 @@ abbrev pub seen : ℕ → List ℕ → JobRead
 seen a out = record { answer = a; payload = out }
 
 -- a layout of figures that fit, and a table that holds no number twice
-pub record ServesTable (l : Layout) (es : List Entry) : Type 0 where
+pub record ServesTable (l : WordLayout) (es : List Entry) : Type 0 where
   pub serves : Serves l
   pub once : twice es ≡ false
 
 -- a payload as long as the message has bytes
-pub record PayloadFits (l : Layout) (payload message : List ℕ) : Type 0 where
+pub record PayloadFits (l : WordLayout) (payload message : List ℕ) : Type 0 where
   pub serves : Serves l
   pub count : length payload ≡ payloadLen (l .q) (length message)
 
@@ -37,7 +37,7 @@ pub record ReadyUnder (d : Coding) (es : List Entry) : Type 0 where
   pub carries : carriesJob (d .codec .alphabet) (d .codec .messageLen) ≡ true
 
 -- figures that carry a job, room for the message, and a buffer for the payload
-pub record ReadableJob (l : Layout) (es : List Entry) (message payload : List ℕ) : Type 0 where
+pub record ReadableJob (l : WordLayout) (es : List Entry) (message payload : List ℕ) : Type 0 where
   pub serves : Serves l
   pub ready : ReadyUnder (codingIn l) es
   pub room : length message ≡ codingIn l .codec .messageLen

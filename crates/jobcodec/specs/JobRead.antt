@@ -42,7 +42,7 @@ abbrev pub jobIn : ℕ → ℕ → List Entry → List ℕ → Reading → JobRe
 jobIn q k es out (refused a) = withhold out a
 jobIn q k es out (accepted ss ms) = jobOf q k es out ms
 
--- "10 for K, 3 4 7 8 9, 10, 12 14", where the word's own refusals have 19 among them; document 02, ticket 10: "It refuses with 23, after 12 and before 14,
+-- "10 for K, 3 4 7 8 9, 10, 12 14", where the word's own refusals are its code's, with 19 among them and 21 in the place of 7 by the Larsson code; document 02, ticket 10: "It refuses with 23, after 12 and before 14,
 -- reading .. a held job"
 unfoldable pub jobReading : Codec → List Entry → List ℕ → List ℕ → JobRead
 jobReading c es w out =
@@ -53,7 +53,7 @@ jobReading c es w out =
     (must (allBelow (c .foundBound) w) (withhold out badSymbol)
     (jobIn q k es out (c .decode w))))
 
--- ---- Under any figures: "job read 1 2, 10 for K, 3 4 7 8 9, 10, 12 14", with 19 as in word read and 23 before 14
+-- ---- Under any figures: "job read 1 2, 10 for K, 3 4 7 8 9, 10, 12 14", with 19 and 21 as in word read and 23 before 14
 
 abbrev pub jobReadUnder : Coding → List Entry → List ℕ → List ℕ → JobRead
 jobReadUnder d es w out =

@@ -1,4 +1,4 @@
--- What is promised of job write and job read together, under any figures. The proofs are `reads-back-a` and `reads-back-b` of proofs/RoundTrip.antt. Assumes
+-- What is promised of job write and job read together, under any figures. The proofs are `reads-back-a`, `reads-back-b` and `reads-back-larsson` of proofs/RoundTrip.antt. Assumes
 -- nothing.
 use mathlib.Core.Path.{_≡_}
 use mathlib.Core.Bool.{true, false}

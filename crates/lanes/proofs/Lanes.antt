@@ -31,7 +31,11 @@ use Rattle.construction_b.specs.DemandTwo.{constructionB}
 use Rattle.construction_b.specs.Outcomes.{coding as codingB}
 use Rattle.construction_b.proofs.Figures.{Served as ServedB, serve as serve-b, count-is}
 use Rattle.construction_b.proofs.DemandTwo.{demand-two as demand-two-b}
-use Rattle.params.specs.declared.Figures.the-variants.{Ranked, Long}
+use Rattle.larsson.specs.Codec.{larsson}
+use Rattle.larsson.specs.Outcomes.{coding as codingLarsson}
+use Rattle.larsson.proofs.Figures.{Served as ServedLarsson, serve as serve-larsson}
+use Rattle.larsson.proofs.Exact.{larsson-exact}
+use Rattle.codes.specs.declared.Figures.the-variants.{Ranked, Long, Larsson}
 use Rattle.params.specs.Bridge.{given, givenLong}
 use Rattle.lanes.specs.Interleaving.{interleaved, deinterleaved, lane}
 use Rattle.lanes.specs.Lanes.{Wear, wearHas, isWorn, isShort, Worn, stripMap, wordMap, HasBursts, coverOf, Messages, coverAt, writtenWords}
@@ -215,7 +219,7 @@ module _ (k : Coding) (range : k .inRange ≡ true) (fit : k .fits ≡ true)
             );
       }
 
--- ---- Under the figures of either construction
+-- ---- Under the figures of each code
 
 bursts-a : (f : Params) → Served f → HasBursts (constructionA f) (f .m) (f .b)
 unfolding isPlacement
@@ -237,6 +241,16 @@ bursts-b f ok =
       spoilt = λ starts x t. t;
     }
 
+bursts-larsson : (f : Params) → ServedLarsson f → HasBursts (larsson f) (f .m) (f .b)
+unfolding isPlacement
+bursts-larsson f ok =
+    record {
+      some = ok .range .b-least;
+      room = ok .total;
+      placed = λ starts e h. rw (eqb-same (length starts) (f .m) e, h);
+      spoilt = λ starts x t. t;
+    }
+
 pub lanes-read : LanesRead
 lanes-read (Ranked p) d ss i h wear =
     let f = given p in
@@ -247,3 +261,7 @@ lanes-read (Long p) d ss i h wear =
     let ok = serve-b f i h in
     let two = demand-two-b f i h in
     read-under (codingB f) i h (count-is f (omega (arith, ok .short))) (bursts-b f ok) (two .written) (two .exactly) d ss wear
+lanes-read (Larsson p) d ss i h wear =
+    let f = given p in
+    let two = larsson-exact f i h in
+    read-under (codingLarsson f) i h refl (bursts-larsson f (serve-larsson f i h)) (two .written) (two .exactly) d ss wear

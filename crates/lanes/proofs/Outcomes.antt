@@ -1,5 +1,5 @@
 -- What the calls answer, test by test; what was laid side by side is taken apart again by them, and the other way round. Assumes nothing.
-use mathlib.Core.Path.{_≡_, refl, sym, ap, _∙_}
+use mathlib.Core.Path.{_≡_, sym, ap, ap₂, _∙_}
 use mathlib.Core.Logic.{_≢_}
 use mathlib.Core.Bool.{Bool, true, false, _&&_}
 use mathlib.Core.List.{List, [], _∷_}
@@ -14,15 +14,13 @@ use Rattle.combinatorics.proofs.Cases.{by-bool, eqb-same, eqb-other, eqb-true, 
 use Rattle.combinatorics.proofs.Lists.{both, below-more}
 use Rattle.cells.specs.Erasures.{foundBound}
 use Rattle.cells.specs.Outcomes.{Coding, unserved, figuresUnder}
-use Rattle.cells.proofs.Erasures.{found-least}
 use Rattle.cells.proofs.Outcomes.{refused-alike}
-use Rattle.params.specs.declared.Figures.{Figures}
-use Rattle.params.specs.declared.Figures.the-variants.{Ranked, Long}
-use Rattle.params.specs.declared.Layout.{Layout}
-use Rattle.params.specs.declared.Spells.{Spells}
-use Rattle.params.specs.declared.Spells.the-variants.{Rank, EndOffset}
-use Rattle.params.specs.Bridge.{codingOf}
-use Rattle.params.specs.Given.{figuresOf, codingWith, codingIn}
+use Rattle.codes.specs.declared.Figures.{Figures}
+use Rattle.codes.specs.declared.WordLayout.{WordLayout}
+use Rattle.codes.specs.Bridge.{codingOf}
+use Rattle.codes.specs.Given.{codingIn, Serves}
+use Rattle.codes.proofs.Layouts.{numbers-in, found-in}
+use Rattle.codes.proofs.Exact.{more-found}
 use Rattle.lanes.specs.Interleaving.{inDepth, interleaved, deinterleaved}
 use Rattle.lanes.specs.Outcomes.{UndoEachOther, Rearranged, unfilled, rearranged, interleaveUnder, deinterleaveUnder}
 use Rattle.lanes.proofs.Interleaving.{length-transposed, transposed-below, apart-again, together-again}
@@ -127,38 +125,23 @@ module _ (k : Coding) (d bound : ℕ) (from out filled : List ℕ) where
         nothing-refused h =
             rw (range, fit, leb-holds 1 d least, leb-holds d 16 most, sym word-is, eqb-same (length from) (d * n) lent, eqb-same (length out) (d * n) room, h)
 
--- ---- By the layout's own numbers, whichever construction laid it out
+-- ---- By the layout's own numbers, whichever code laid it out
 
-module _ (l : Layout) (d : ℕ) where
+module _ (l : WordLayout) (g : Serves l) (d : ℕ) where
   pub length-in : d * codingIn l .codec .wordLen ≡ d * l .n
-  length-in = go (l .spells)
-    where
-      go : (s : Spells) → d * codingWith s (figuresOf l) .codec .wordLen ≡ d * l .n
-      go Rank = refl
-      go EndOffset = refl
+  length-in = ap (λ (n : ℕ). d * n) (sym (numbers-in l g .word-is))
 
   pub interleave-in : (words out : List ℕ) → interleaveUnder (codingIn l) d words out ≡ rearranged (codingIn l) d (l .q) words out (interleaved d (l .n) words)
-  interleave-in words out = go (l .spells)
-    where
-      go : (s : Spells) → let k = codingWith s (figuresOf l) in interleaveUnder k d words out ≡ rearranged k d (l .q) words out (interleaved d (l .n) words)
-      go Rank = refl
-      go EndOffset = refl
+  interleave-in words out =
+      let is = numbers-in l g in
+      sym (ap₂ (λ (q n : ℕ). rearranged (codingIn l) d q words out (interleaved d n words)) (is .alphabet-is) (is .word-is))
 
   pub deinterleave-in : (strip out : List ℕ)
       → deinterleaveUnder (codingIn l) d strip out ≡ rearranged (codingIn l) d (foundBound (l .q)) strip out (deinterleaved d (l .n) strip)
-  deinterleave-in strip out = go (l .spells)
-    where
-      go : (s : Spells) → let k = codingWith s (figuresOf l) in
-          deinterleaveUnder k d strip out ≡ rearranged k d (foundBound (l .q)) strip out (deinterleaved d (l .n) strip)
-      go Rank = refl
-      go EndOffset = refl
+  deinterleave-in strip out =
+      ap₂ (λ (bound n : ℕ). rearranged (codingIn l) d bound strip out (deinterleaved d n strip)) (found-in l g) (sym (numbers-in l g .word-is))
 
 -- ---- Each other's inverse
-
--- a symbol can be found, in whichever construction
-found-more : (f : Figures) → codingOf f .codec .alphabet ≤ codingOf f .codec .foundBound
-found-more (Ranked p) = found-least (p .q)
-found-more (Long p) = found-least (p .q)
 
 -- "the rearrangement and its inverse over two lent buffers"
 pub apart-back : (f : Figures) (d : ℕ) (words strip out : List ℕ) → interleaveUnder (codingOf f) d words strip .answer ≡ served
@@ -178,7 +161,7 @@ apart-back f d words strip out h l =
       depth = p .depth;
       lent = length-transposed d n words;
       room = l;
-      symbols = below-more q (k .codec .foundBound) laid (found-more f) (transposed-below q d n words (p .lent) (p .symbols));
+      symbols = below-more q (k .codec .foundBound) laid (more-found f) (transposed-below q d n words (p .lent) (p .symbols));
     })
     ∙ ap (λ (x : List ℕ). record { answer = served; buffer = x }) (apart-again d n words (p .lent)))
 

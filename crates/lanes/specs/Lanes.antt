@@ -12,8 +12,8 @@ use Rattle.combinatorics.specs.Lists.{all, any, allBelow}
 use Rattle.combinatorics.specs.Stretch.{bit, tabulate, consecutive}
 use Rattle.cells.specs.Codec.{Codec, accepted, Word, WritesWords, Exact}
 use Rattle.cells.specs.Outcomes.{Coding, held, defectAt, coverUnder, decodedFrom, decodeUnder}
-use Rattle.params.specs.declared.Figures.{Figures}
-use Rattle.params.specs.Bridge.{codingOf}
+use Rattle.codes.specs.declared.Figures.{Figures}
+use Rattle.codes.specs.Bridge.{codingOf}
 use Rattle.lanes.specs.Interleaving.{inDepth, interleaved, deinterleaved, lane}
 use Rattle.lanes.specs.Outcomes.{interleaveUnder, deinterleaveUnder}
 
@@ -89,7 +89,7 @@ module _ (c : Codec) (m b d : ℕ) (ss : List Wear) where
 abbrev pub LawOfLanes : Type 0
 LawOfLanes = (c : Codec) (m b d : ℕ) (ss : List Wear) → HasBursts c m b → WritesWords c → Exact c → Worn m b d ss → LanesHold c m b d ss
 
--- ---- Under the figures of either construction: what each call answers
+-- ---- Under any figures: what each call answers
 
 module _ (k : Coding) (d : ℕ) (ss : List Wear) where
   abbrev pub coverIn : ℕ → List ℕ

@@ -3,12 +3,12 @@ ghost use mathlib.Core.Path.{_≡_};
 ghost use mathlib.Core.List.{List};
 ghost use Prim.Native.Nat.{ℕ};
 ghost use lib.ListN.{length};
-ghost use Rattle.params.specs.Bridge.{codingOf};
-ghost use Rattle.params.specs.Given.{codingIn, Serves};
+ghost use Rattle.codes.specs.Bridge.{codingOf};
+ghost use Rattle.codes.specs.Given.{codingIn, Serves};
 ghost use Rattle.lanes.specs.Outcomes.{unfilled, rearranged, interleaveUnder, deinterleaveUnder};
-use params::Figures;
-use params::Layout;
-use params::LayoutAnswer;
+use codes::Figures;
+use codes::FiguresAnswer;
+use codes::WordLayout;
 use refusals::Refusal;
 
 mod tile;
@@ -25,13 +25,13 @@ pub fn interleave(figures: Figures, depth: u32, words: &[u8], strip: &mut [u8]) 
 {
     let answer = figures.layout();
     match answer {
-        LayoutAnswer::Refused(number) => number,
-        LayoutAnswer::Fit(layout) => interleave_fitting(layout, depth, words, strip),
+        FiguresAnswer::Refused(number) => number,
+        FiguresAnswer::Fit(layout) => interleave_fitting(layout, depth, words, strip),
     }
 }
 
 // The same for figures that fit. Refusals: 18 3 4.
-fn interleave_fitting(layout: Layout, depth: u32, words: &[u8], strip: &mut [u8]) -> u8
+fn interleave_fitting(layout: WordLayout, depth: u32, words: &[u8], strip: &mut [u8]) -> u8
     requires { ⌜ Serves layout ⌝ }
     ensures { λ r. ⌜ unfilled (now (strip .exit)) r ≡ interleaveUnder (codingIn layout) depth (now (words .entry)) (now (strip .entry)) ⌝ }
 {
@@ -49,13 +49,13 @@ pub fn deinterleave(figures: Figures, depth: u32, strip: &[u8], words: &mut [u8]
 {
     let answer = figures.layout();
     match answer {
-        LayoutAnswer::Refused(number) => number,
-        LayoutAnswer::Fit(layout) => deinterleave_fitting(layout, depth, strip, words),
+        FiguresAnswer::Refused(number) => number,
+        FiguresAnswer::Fit(layout) => deinterleave_fitting(layout, depth, strip, words),
     }
 }
 
 // The same for figures that fit. Refusals: 18 3 4.
-fn deinterleave_fitting(layout: Layout, depth: u32, strip: &[u8], words: &mut [u8]) -> u8
+fn deinterleave_fitting(layout: WordLayout, depth: u32, strip: &[u8], words: &mut [u8]) -> u8
     requires { ⌜ Serves layout ⌝ }
     ensures { λ r. ⌜ unfilled (now (words .exit)) r ≡ deinterleaveUnder (codingIn layout) depth (now (strip .entry)) (now (words .entry)) ⌝ }
 {
@@ -68,7 +68,7 @@ fn deinterleave_fitting(layout: Layout, depth: u32, strip: &[u8], words: &mut [u
 }
 
 // What a depth, a lent buffer whose symbols are to be below a bound, and the room of the other are refused with: 18 3 4, or 0.
-fn judged(layout: Layout, depth: u32, bound: u64, from: &[u8], room: usize) -> u8
+fn judged(layout: WordLayout, depth: u32, bound: u64, from: &[u8], room: usize) -> u8
     requires { ⌜ Serves layout ⌝ }
     ensures { λ r. ⌜ ((out filled : List ℕ) → length out ≡ room → r ≡ rearranged (codingIn layout) depth bound (now (from .entry)) out filled .answer) ⌝ }
 {

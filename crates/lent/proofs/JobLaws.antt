@@ -8,8 +8,8 @@ use lib.ListN.{length}
 use Rattle.refusals.specs.Refusals.{invalid}
 use Rattle.combinatorics.proofs.Cases.{eqb-other}
 use Rattle.cells.specs.Outcomes.{Coding, Held, unwritten}
-use Rattle.params.specs.Bridge.{codingOf}
-use Rattle.params.specs.declared.Figures.{Figures}
+use Rattle.codes.specs.Bridge.{codingOf}
+use Rattle.codes.specs.declared.Figures.{Figures}
 use Rattle.jobcodec.specs.JobWrite.{jobWriteUnder}
 use Rattle.jobcodec.specs.JobRead.{JobRead, withhold, jobReading, jobReadUnder}
 use Rattle.jobcodec.specs.Given.{seen}

@@ -14,9 +14,10 @@ use Rattle.combinatorics.proofs.Members.{take-is}
 use Rattle.cells.specs.Bytes.{byteValues}
 use Rattle.cells.specs.Figures.{Params, maxBursts, inRange}
 use Rattle.cells.proofs.Figures.{ranged}
-use Rattle.params.specs.declared.Figures.{Figures}
-use Rattle.params.specs.declared.Figures.the-variants.{Ranked, Long}
-use Rattle.params.specs.Bridge.{given, codingOf}
+use Rattle.codes.specs.declared.Figures.{Figures}
+use Rattle.codes.specs.declared.Figures.the-variants.{Ranked, Long, Larsson}
+use Rattle.params.specs.Bridge.{given}
+use Rattle.codes.specs.Bridge.{codingOf}
 use Rattle.placements.specs.Bridge.{startsAt}
 use Rattle.decoder.specs.Exported.{startBytes}
 use Rattle.lent.specs.Starts.{startsFrom}
@@ -83,3 +84,4 @@ as-many f i = let r = ranged f i in (r .m-least, r .m-most)
 pub some-bursts : (f : Figures) → codingOf f .inRange ≡ true → (1 ≤ codingOf f .bursts) × (codingOf f .bursts ≤ maxBursts)
 some-bursts (Ranked p) i = as-many (given p) i
 some-bursts (Long p) i = (omega arith, omega arith)
+some-bursts (Larsson p) i = as-many (given p) i

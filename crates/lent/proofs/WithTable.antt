@@ -13,8 +13,8 @@ use Rattle.cells.specs.Bytes.{payloadLen}
 use Rattle.cells.specs.Figures.{maxBursts}
 use Rattle.cells.specs.Outcomes.{Coding, Held, held, unserved, figuresUnder, Encoded, unwritten}
 use Rattle.cells.proofs.Outcomes.{refused-alike}
-use Rattle.params.specs.declared.Figures.{Figures}
-use Rattle.params.specs.Bridge.{codingOf}
+use Rattle.codes.specs.declared.Figures.{Figures}
+use Rattle.codes.specs.Bridge.{codingOf}
 use Rattle.jobs.specs.Table.{twice}
 use Rattle.payloads.specs.Payload.{carriesJob}
 use Rattle.jobcodec.proofs.Outcomes.{both-true, both-false}

@@ -1,12 +1,12 @@
 // Job write and job read with the job table and the starts as bytes, under the figures of either construction. Inner functions. Assumes nothing.
 ghost use mathlib.Core.Path.{_≡_};
 ghost use Rattle.cells.specs.Outcomes.{unwritten};
-ghost use Rattle.params.specs.Bridge.{codingOf};
+ghost use Rattle.codes.specs.Bridge.{codingOf};
 ghost use Rattle.jobcodec.specs.Given.{seen};
 ghost use Rattle.lent.specs.Jobs.{jobWriteBytesUnder, jobReadBytesUnder};
 use crate::starts;
 use crate::table;
-use params::Figures;
+use codes::Figures;
 use refusals::Refusal;
 
 // Refusals: 1 2 10 3 5 17 12 23 14.

@@ -1,14 +1,14 @@
 // Starts as bytes: the placement that a caller gives, and the one that covering answers. Inner functions. Assumes nothing.
 ghost use mathlib.Core.Path.{_≡_};
-ghost use Rattle.params.specs.Bridge.{codingOf};
-ghost use Rattle.params.specs.Given.{codingIn, Serves};
+ghost use Rattle.codes.specs.Bridge.{codingOf};
+ghost use Rattle.codes.specs.Given.{codingIn, Serves};
 ghost use Rattle.placements.specs.Bridge.{heldAs, coveredAs as foundAs};
 ghost use Rattle.lent.specs.Starts.{placementFrom};
 ghost use Rattle.lent.specs.Covering.{coverLent, coverLentAs, coverBytesUnder, CoverFits};
+use codes::Figures;
+use codes::FiguresAnswer;
+use codes::WordLayout;
 use decoder::starts;
-use params::Figures;
-use params::Layout;
-use params::LayoutAnswer;
 use params::Params;
 use placements::CoverAnswer;
 use placements::Placement;
@@ -34,6 +34,7 @@ pub fn placement_under(figures: Figures, bytes: &[u8]) -> Placement
     match figures {
         Figures::Ranked(p) => placement_from(bytes, p.m),
         Figures::Long(_) => placement_from(bytes, 1),
+        Figures::Larsson(p) => placement_from(bytes, p.m),
     }
 }
 
@@ -43,20 +44,20 @@ pub fn cover_bytes(figures: Figures, map: &[u8], bytes: &mut [u8]) -> u8
 {
     let answer = figures.layout();
     match answer {
-        LayoutAnswer::Refused(number) => number,
-        LayoutAnswer::Fit(layout) => cover_laid(layout, map, bytes),
+        FiguresAnswer::Refused(number) => number,
+        FiguresAnswer::Fit(layout) => cover_laid(layout, map, bytes),
     }
 }
 
 // The same for figures that fit. Refusals: 3 4 6.
-fn cover_laid(layout: Layout, map: &[u8], bytes: &mut [u8]) -> u8
+fn cover_laid(layout: WordLayout, map: &[u8], bytes: &mut [u8]) -> u8
     requires { ⌜ Serves layout ⌝ }
     ensures { λ r. ⌜ coverLent r (now (bytes .exit)) ≡ coverBytesUnder (codingIn layout) (now (map .entry)) (now (bytes .entry)) ⌝ }
 {
     if bytes.len() != 2 * layout.m {
         return Refusal::LENGTH;
     }
-    let found = placements::cover_fitting(layout, map);
+    let found = codes::cover_fitting(layout, map);
     put_covered(found, bytes)
 }
 

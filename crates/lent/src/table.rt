@@ -2,15 +2,15 @@
 ghost use mathlib.Core.Path.{_≡_};
 ghost use lib.ListN.{length};
 ghost use Rattle.jobs.specs.Slots.{entries};
-ghost use Rattle.params.specs.Bridge.{codingOf};
+ghost use Rattle.codes.specs.Bridge.{codingOf};
 ghost use Rattle.lent.specs.Jobs.{withoutTable};
 ghost use Rattle.lent.specs.Table.{slotLen, tableLen, entryOf, cancelledState, statesKnown, tableIn, slotBytes, entryBytes, tableBytes};
+use codes::Figures;
+use codes::FiguresAnswer;
 use jobs::Before;
 use jobs::Entry;
 use jobs::JobTable;
 use jobs::Slot;
-use params::Figures;
-use params::LayoutAnswer;
 use params::bytes;
 use refusals::Refusal;
 use symbols::numbers::BYTE_VALUES;
@@ -39,8 +39,8 @@ pub fn without_table(figures: Figures) -> u8
 {
     let answer = figures.layout();
     match answer {
-        LayoutAnswer::Refused(number) => number,
-        LayoutAnswer::Fit(layout) => {
+        FiguresAnswer::Refused(number) => number,
+        FiguresAnswer::Fit(layout) => {
             if bytes::payload_len(layout.q, layout.message_len) < jobcodec::MIN_PAYLOAD {
                 return Refusal::PAYLOAD;
             }

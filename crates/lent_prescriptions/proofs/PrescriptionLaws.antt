@@ -15,8 +15,8 @@ use Rattle.cells.specs.Bytes.{byteValues}
 use Rattle.cells.specs.Digits.{plain, spell}
 use Rattle.cells.proofs.Digits.{length-spell}
 use Rattle.cells.specs.Outcomes.{Coding, Held, unwritten}
-use Rattle.params.specs.Bridge.{codingOf}
-use Rattle.params.specs.declared.Figures.{Figures}
+use Rattle.codes.specs.Bridge.{codingOf}
+use Rattle.codes.specs.declared.Figures.{Figures}
 use Rattle.jobs.specs.declared.Entry.{Entry}
 use Rattle.jobs.specs.Table.{twice}
 use Rattle.payloads.specs.Payload.{carriesJob}

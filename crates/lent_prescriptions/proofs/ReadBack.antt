@@ -15,9 +15,8 @@ use Rattle.combinatorics.proofs.Lists.{both}
 use Rattle.cells.specs.Codec.{Word}
 use Rattle.cells.specs.Outcomes.{Coding, Encoded, held, inUse, unwritten}
 use Rattle.cells.specs.Figures.{maxBursts}
-use Rattle.cells.proofs.Figures.{ranged}
-use Rattle.params.specs.declared.Figures.the-variants.{Ranked, Long}
-use Rattle.params.specs.Bridge.{given, codingOf}
+use Rattle.codes.specs.Bridge.{codingOf}
+use Rattle.codes.proofs.Layouts.{small}
 use Rattle.jobs.specs.Table.{twice}
 use Rattle.payloads.specs.Payload.{carriesJob}
 use Rattle.jobcodec.specs.DemandThree.{isRefusal}
@@ -97,5 +96,4 @@ back-under d few-bursts back table starts n p out w marks powers number floats r
     sym (read-whole d table w marks powers (wr .size) (wr .known)) ∙ sym (read-with-room marks powers d (tableIn table) w room (sym reads))
 
 pub lent-reads-back : LentReadsBack
-lent-reads-back (Ranked p) = back-under (codingOf (Ranked p)) (λ i. ranged (given p) i .m-most) (prescriptions-read-back (Ranked p))
-lent-reads-back (Long p) = back-under (codingOf (Long p)) (λ _. omega arith) (prescriptions-read-back (Long p))
+lent-reads-back f = back-under (codingOf f) (λ i. small f i .bursts-most) (prescriptions-read-back f)

@@ -12,8 +12,8 @@ use Rattle.cells.specs.Codec.{Word}
 use Rattle.cells.specs.Outcomes.{Coding, held, Encoded, unwritten}
 use Rattle.cells.specs.Figures.{Params}
 use Rattle.construction_a.specs.Outcomes.{coding}
-use Rattle.params.specs.declared.Figures.{Figures}
-use Rattle.params.specs.Bridge.{codingOf}
+use Rattle.codes.specs.declared.Figures.{Figures}
+use Rattle.codes.specs.Bridge.{codingOf}
 use Rattle.jobs.specs.declared.Entry.{Entry}
 use Rattle.jobs.specs.Table.{twice}
 use Rattle.payloads.specs.Payload.{carriesJob}

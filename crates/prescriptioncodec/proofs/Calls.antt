@@ -16,9 +16,9 @@ use Rattle.cells.specs.Bytes.{byteValues, payloadLen}
 use Rattle.cells.specs.Digits.{plain, spell}
 use Rattle.cells.proofs.Digits.{length-spell}
 use Rattle.cells.specs.Outcomes.{Coding, Held, inUse, Encoded, unwritten, unserved, figuresUnder}
-use Rattle.params.specs.Given.{codingIn}
-use Rattle.params.proofs.Either.{in-order}
-use Rattle.params.specs.declared.Layout.{Layout}
+use Rattle.codes.specs.Given.{codingIn}
+use Rattle.codes.proofs.Layouts.{in-order}
+use Rattle.codes.specs.declared.WordLayout.{WordLayout}
 use Rattle.jobs.specs.declared.Entry.{Entry}
 use Rattle.jobs.specs.Table.{twice}
 use Rattle.payloads.specs.Payload.{carriesJob}
@@ -124,7 +124,7 @@ module _ (d : Coding) (es : List Entry) (at : Held) (n : ℕ) (p : Prescription)
               go (some x) e = writes-job d es at n p x out h e
 
 -- "10: K below 5"
-pub write-few : (l : Layout) (es : List Entry) (at : Held) (n : ℕ) (p : Prescription) (out : List ℕ) → ServesTable l es
+pub write-few : (l : WordLayout) (es : List Entry) (at : Held) (n : ℕ) (p : Prescription) (out : List ℕ) → ServesTable l es
     → (count : ℕ) → count ≡ payloadLen (l .q) (l .«message_len») → count < 5 → prescriptionWriteUnder (codingIn l) es at n p out ≡ unwritten out badPayload
 write-few l es at n p out h count e few =
     let order = in-order l (h .serves) in

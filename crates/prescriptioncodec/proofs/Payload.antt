@@ -15,7 +15,7 @@ use Rattle.cells.specs.Bytes.{byteValues, byteWidth, payloadLen}
 use Rattle.cells.specs.Digits.{plain, spell}
 use Rattle.cells.proofs.Walk.{rest-is}
 use Rattle.cells.specs.Outcomes.{Coding, Held, unwritten}
-use Rattle.params.specs.declared.Layout.{Layout}
+use Rattle.codes.specs.declared.WordLayout.{WordLayout}
 use Rattle.jobs.specs.declared.Entry.{Entry}
 use Rattle.payloads.specs.Given.{Spellable}
 use Rattle.jobcodec.specs.JobWrite.{jobWriteUnder}
@@ -28,7 +28,7 @@ use Rattle.prescriptioncodec.specs.PrescriptionWrite.{numberLen, numberB
 -- ---- Lengths
 
 -- a payload has no more bytes than the message has symbols
-pub payload-within : (l : Layout) (count : ℕ) → count ≡ payloadLen (l .q) (l .«message_len») → count ≤ l .«message_len»
+pub payload-within : (l : WordLayout) (count : ℕ) → count ≡ payloadLen (l .q) (l .«message_len») → count ≤ l .«message_len»
 unfolding payloadLen
 payload-within l count e = omega (arith, e, div-le-self (l .«message_len») (byteWidth (l .q)))
 

@@ -12,9 +12,9 @@ use Rattle.combinatorics.specs.Lists.{allBelow}
 use Rattle.combinatorics.proofs.Cases.{eqb-other}
 use Rattle.cells.specs.Bytes.{payloadLen}
 use Rattle.cells.specs.Outcomes.{Coding, unserved, figuresUnder, decodeUnder}
-use Rattle.params.specs.Given.{codingIn, Serves}
-use Rattle.params.proofs.Either.{in-order, numbers-in}
-use Rattle.params.specs.declared.Layout.{Layout}
+use Rattle.codes.specs.Given.{codingIn, Serves}
+use Rattle.codes.proofs.Layouts.{in-order, numbers-in}
+use Rattle.codes.specs.declared.WordLayout.{WordLayout}
 use Rattle.decoder.specs.declared.WordAnswer.{WordAnswer}
 use Rattle.decoder.specs.Answer.{answerAs}
 use Rattle.jobs.specs.declared.Entry.{Entry}
@@ -60,7 +60,7 @@ module _ (d : Coding) (es : List Entry) (w : List ℕ) where
       ms ms′ (ready .range) (ready .fit) room r said is e lent
 
 -- the same by the layout's own q
-pub read-spelled : (l : Layout) (g : Serves l) (es : List Entry) (w ms ms′ : List ℕ) → ReadyUnder (codingIn l) es → length ms ≡ codingIn l .codec .messageLen
+pub read-spelled : (l : WordLayout) (g : Serves l) (es : List Entry) (w ms ms′ : List ℕ) → ReadyUnder (codingIn l) es → length ms ≡ codingIn l .codec .messageLen
     → (r said : WordAnswer) → r ≡ said → answerAs r ≡ spelledAnswer (l .q) (length ms) (decodeUnder (codingIn l) w ms)
     → ms′ ≡ decodeUnder (codingIn l) w ms .message
     → prescriptionReadUnder (codingIn l) es w ≡ afterSpelled refused (λ ds. ofPayload es (payloadIn (l .q) (codingIn l .codec .messageLen) ds))
@@ -72,7 +72,7 @@ read-spelled l g es w ms ms′ ready room r said is e lent =
     ∙ ap (λ (x : ℕ). afterSpelled refused (λ ds. ofPayload es (payloadIn x (d .codec .messageLen) ds)) (answerAs said) ms′) (sym q)
 
 -- 10 for K
-pub read-few : (l : Layout) (es : List Entry) (w : List ℕ) → ServesTable l es → (count : ℕ) → count ≡ payloadLen (l .q) (l .«message_len») → count < 5
+pub read-few : (l : WordLayout) (es : List Entry) (w : List ℕ) → ServesTable l es → (count : ℕ) → count ≡ payloadLen (l .q) (l .«message_len») → count < 5
     → prescriptionReadUnder (codingIn l) es w ≡ refused badPayload
 unfolding prescriptionReading
 read-few l es w h count e few = let order = in-order l (h .serves) in rw (order .0, h .once, order .1, carries-not l es h count e few)

@@ -21,15 +21,14 @@ use Rattle.cells.specs.Digits.{plain, spell, span}
 use Rattle.cells.proofs.Digits.{length-spell, value-spell, value-front, spell-spelled, spelled-plain, span-plain}
 use Rattle.cells.specs.Figures.{maxBursts}
 use Rattle.cells.specs.Outcomes.{Coding, Held, inUse, Encoded, unwritten}
-use Rattle.params.specs.declared.Figures.the-variants.{Ranked, Long}
-use Rattle.params.specs.Bridge.{given, givenLong, codingOf}
+use Rattle.codes.specs.Bridge.{codingOf}
 use Rattle.jobs.specs.declared.Entry.{Entry}
 use Rattle.jobs.specs.Table.{twice}
 use Rattle.payloads.specs.Payload.{carriesJob, jobNumber}
 use Rattle.payloads.proofs.Payload.{payload-back, payload-passes}
 use Rattle.jobcodec.specs.DemandThree.{isRefusal}
 use Rattle.jobcodec.proofs.Pairs.{not-served, read-pair}
-use Rattle.jobcodec.proofs.DemandThree.{ReadsWhereFit, reads-a, reads-b}
+use Rattle.jobcodec.proofs.DemandThree.{ReadsWhereFit, reads-in}
 use Rattle.jobcodec.proofs.RoundTrip.{passed, written-under, written-gives}
 use Rattle.prescription.specs.declared.texts.Prescription.{Prescription}
 use Rattle.prescription.specs.Lens.{Lens, plano, sphere, toric, keeps}
@@ -177,8 +176,7 @@ read-back-under d reads es at n p out w sized number floats e found outside =
     prescription-reads d reads es at n p x out (told .0) number (told .1 .1) sized w e found outside
     ∙ ap (λ (q : Prescription). answered (record { number = n; prescription = q })) (sym (held-exactly .alone p x floats (told .1 .1)))
 
--- ---- Construction A, and Construction B
+-- ---- Under any code's figures
 
 pub prescriptions-read-back : PrescriptionsReadBack
-prescriptions-read-back (Ranked p) = read-back-under (codingOf (Ranked p)) (reads-a (given p))
-prescriptions-read-back (Long p) = read-back-under (codingOf (Long p)) (reads-b (givenLong p))
+prescriptions-read-back f = read-back-under (codingOf f) (reads-in f)

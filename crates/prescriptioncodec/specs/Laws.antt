@@ -8,8 +8,8 @@ use Rattle.refusals.specs.Refusals.{served}
 use Rattle.cells.specs.Codec.{Word}
 use Rattle.cells.specs.Figures.{maxBursts}
 use Rattle.cells.specs.Outcomes.{Coding, Held, inUse}
-use Rattle.params.specs.declared.Figures.{Figures}
-use Rattle.params.specs.Bridge.{codingOf}
+use Rattle.codes.specs.declared.Figures.{Figures}
+use Rattle.codes.specs.Bridge.{codingOf}
 use Rattle.jobs.specs.declared.Entry.{Entry}
 use Rattle.prescription.specs.declared.texts.Prescription.{Prescription}
 use Rattle.prescription.specs.Eyes.{prescriptionFits}
@@ -18,7 +18,7 @@ use Rattle.prescriptioncodec.specs.PrescriptionWrite.{prescriptionWriteU
 use Rattle.prescriptioncodec.specs.PrescriptionRead.{prescriptionReadUnder}
 
 -- a number of 32 bits and a prescription of 64-bit floats that were written are read back as they were, under the same table, from every found word that
--- differs from the written one only inside the placement's bursts: under any figures, and under those of either construction
+-- differs from the written one only inside the placement's bursts: under any figures, and under those of each code
 abbrev pub ReadBackUnder : Coding → Type 0
 ReadBackUnder d =
     (es : List Entry) (at : Held) (n : ℕ) (p : Prescription) (out w : List ℕ)

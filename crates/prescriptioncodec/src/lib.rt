@@ -3,8 +3,8 @@ ghost use mathlib.Core.Path.{_≡_};
 ghost use Prim.Native.Nat.{_≤_};
 ghost use lib.ListN.{length};
 ghost use Rattle.cells.specs.Outcomes.{unwritten};
-ghost use Rattle.params.specs.Bridge.{codingOf};
-ghost use Rattle.params.specs.Given.{codingIn};
+ghost use Rattle.codes.specs.Bridge.{codingOf};
+ghost use Rattle.codes.specs.Given.{codingIn};
 ghost use Rattle.placements.specs.Bridge.{heldAs};
 ghost use Rattle.jobs.specs.Slots.{entries};
 ghost use Rattle.payloads.specs.Payload.{payloadIn};
@@ -12,11 +12,11 @@ ghost use Rattle.jobcodec.specs.Given.{ServesTable, ReadableJob, SpellsJob};
 ghost use Rattle.prescription.specs.Eyes.{prescribedOf};
 ghost use Rattle.prescriptioncodec.specs.PrescriptionRead.{ofPayload, prescriptionReadUnder, readAnswered};
 ghost use Rattle.prescriptioncodec.specs.PrescriptionWrite.{asJob, prescriptionWriteUnder};
+use codes::Figures;
+use codes::FiguresAnswer;
+use codes::WordLayout;
 use decoder::WordAnswer;
 use jobs::JobTable;
-use params::Figures;
-use params::Layout;
-use params::LayoutAnswer;
 use params::Params;
 use params::bytes;
 use placements::Placement;
@@ -58,14 +58,14 @@ pub fn prescription_write(
     }
     let answer = figures.layout();
     match answer {
-        LayoutAnswer::Refused(refusal) => refusal,
-        LayoutAnswer::Fit(layout) => write_laid(layout, table, at, number, prescription, word),
+        FiguresAnswer::Refused(refusal) => refusal,
+        FiguresAnswer::Fit(layout) => write_laid(layout, table, at, number, prescription, word),
     }
 }
 
 // The same for figures that fit. Refusals: 10 3 5 16 17 12 23 14.
 fn write_laid(
-    layout: Layout,
+    layout: WordLayout,
     table: JobTable,
     at: Placement,
     number: u32,
@@ -118,7 +118,7 @@ fn write_laid(
 
 // Makes the payload of a number and a prescription, and writes it as a job's.
 fn write_payload(
-    layout: Layout,
+    layout: WordLayout,
     table: JobTable,
     at: Placement,
     number: u32,
@@ -138,7 +138,8 @@ fn write_payload(
     jobcodec::write_laid(layout, table, at, payload, word)
 }
 
-// Hands out the number and the prescription of a found word. Refusals in order: 1 2, 10 for too few bytes, 3 4 7 19 8 9 19, 10, 16, 12 23 14.
+// Hands out the number and the prescription of a found word. Refusals in order: 1 2, 10 for too few bytes, those of word read from 3 on (3 4 7 19 8 9 19, by
+// the Larsson code 3 4 21 8 9 19), 10, 16, 12 23 14.
 pub fn prescription_read(figures: Figures, table: JobTable, word: &[u8]) -> ReadAnswer
     ensures { λ r. ⌜ readAnswered r ≡ prescriptionReadUnder (codingOf figures) (entries table) (now (word .entry)) ⌝ }
 {
@@ -147,13 +148,13 @@ pub fn prescription_read(figures: Figures, table: JobTable, word: &[u8]) -> Read
     }
     let answer = figures.layout();
     match answer {
-        LayoutAnswer::Refused(number) => ReadAnswer::Refused(number),
-        LayoutAnswer::Fit(layout) => read_laid(layout, table, word),
+        FiguresAnswer::Refused(number) => ReadAnswer::Refused(number),
+        FiguresAnswer::Fit(layout) => read_laid(layout, table, word),
     }
 }
 
-// The same for figures that fit. Refusals: 10 for too few bytes, 3 4 7 19 8 9 19, 10, 16, 12 23 14.
-fn read_laid(layout: Layout, table: JobTable, word: &[u8]) -> ReadAnswer
+// The same for figures that fit. Refusals: 10 for too few bytes, those of word read from 3 on, 10, 16, 12 23 14.
+fn read_laid(layout: WordLayout, table: JobTable, word: &[u8]) -> ReadAnswer
     requires { ⌜ ServesTable layout (entries table) ⌝ }
     ensures { λ r. ⌜ readAnswered r ≡ prescriptionReadUnder (codingIn layout) (entries table) (now (word .entry)) ⌝ }
 {
@@ -178,9 +179,9 @@ fn read_laid(layout: Layout, table: JobTable, word: &[u8]) -> ReadAnswer
     )
 }
 
-// The reader goes on only with an accepted word that spells a payload. Refusals: 3 4 7 19 8 9 19, 10, 16, 12 23 14.
+// The reader goes on only with an accepted word that spells a payload. Refusals: those of word read from 3 on, 10, 16, 12 23 14.
 fn read_message(
-    layout: Layout,
+    layout: WordLayout,
     table: JobTable,
     word: &[u8],
     message: &mut [u8],

@@ -12,13 +12,14 @@ use Rattle.cells.specs.Bytes.{byteWidth, payloadLen}
 use Rattle.cells.specs.Figures.{maxBursts, maxWord, maxAlphabet}
 use Rattle.cells.specs.Outcomes.{FiguresOut, figured, unserved, figuresUnder}
 use Rattle.cells.proofs.Outcomes.{figured-fits}
-use Rattle.params.specs.Answer.{figuredAs, LaidAs}
-use Rattle.params.specs.Bridge.{codingOf}
-use Rattle.params.specs.declared.Figures.{Figures}
-use Rattle.params.specs.declared.Layout.{Layout}
-use Rattle.params.specs.declared.LayoutAnswer.{LayoutAnswer}
-use Rattle.params.specs.declared.LayoutAnswer.the-variants.{Fit, Refused}
-use Rattle.params.proofs.Either.{small, laid-learnt, ServesAs, serves}
+use Rattle.codes.specs.Answer.{figuredAs, LaidAs, ServesAs}
+use Rattle.codes.specs.Bridge.{codingOf}
+use Rattle.codes.specs.declared.Figures.{Figures}
+use Rattle.codes.specs.declared.WordLayout.{WordLayout}
+use Rattle.codes.specs.declared.FiguresAnswer.{FiguresAnswer}
+use Rattle.codes.specs.declared.FiguresAnswer.the-variants.{Fit, Refused}
+use Rattle.codes.proofs.Layouts.{small}
+use Rattle.codes.proofs.Answered.{laid-learnt, serves}
 use Rattle.jobs.specs.Letters.{isLetter}
 use Rattle.jobs.proofs.Letters.{no-kind}
 use Rattle.records.specs.Session.{Session}
@@ -31,16 +32,16 @@ use Rattle.records.specs.Bridge.{IsCurrent, Current, orZero}
 -- ---- The last accepted figures
 
 -- "figures alone" answers for them
-pub laid-current : (f : Figures) (r : LayoutAnswer) (l : Layout) → r ≡ Fit l → figuredAs r ≡ figuresUnder (codingOf f) → LaidAs f r → IsCurrent (some f) f l
+pub laid-current : (f : Figures) (r : FiguresAnswer) (l : WordLayout) → r ≡ Fit l → figuredAs r ≡ figuresUnder (codingOf f) → LaidAs f r → IsCurrent (some f) f l
 laid-current f r l e answer laid =
     let is = laid-learnt f r l e answer laid in
     record { are = ap (ifFit f) (sym answer ∙ ap figuredAs e); laid = subst (LaidAs f) e laid; numbers = is .2; small = is .3 }
 
-pub refused-current : (f : Figures) (r : LayoutAnswer) (a : ℕ) → r ≡ Refused a → figuredAs r ≡ figuresUnder (codingOf f) → current (some f) ≡ none
+pub refused-current : (f : Figures) (r : FiguresAnswer) (a : ℕ) → r ≡ Refused a → figuredAs r ≡ figuresUnder (codingOf f) → current (some f) ≡ none
 refused-current f r a e answer = ap (ifFit f) (sym answer ∙ ap figuredAs e)
 
 -- an answer that was taken apart
-pub current-laid : (last : Option Figures) (r : CurrentAnswer) (f : Figures) (l : Layout) → r ≡ Laid f l → Current last r → IsCurrent last f l
+pub current-laid : (last : Option Figures) (r : CurrentAnswer) (f : Figures) (l : WordLayout) → r ≡ Laid f l → Current last r → IsCurrent last f l
 current-laid last r f l e is = subst (Current last) e is
 
 pub current-none : (last : Option Figures) (r : CurrentAnswer) → r ≡ NoFigures → Current last r → current last ≡ none
@@ -50,7 +51,7 @@ pub payload-within : (q k : ℕ) → payloadLen q k ≤ k
 unfolding payloadLen
 payload-within q k = div-le-self k (byteWidth q)
 
-module _ (last : Option Figures) (f : Figures) (l : Layout) (is : IsCurrent last f l) where
+module _ (last : Option Figures) (f : Figures) (l : WordLayout) (is : IsCurrent last f l) where
   pub word-short : l .n ≤ maxWord
   word-short = omega (arith, is .numbers .word-is, is .small .word-most)
 
@@ -84,7 +85,7 @@ accepted-fit (some g) f e = go (figuresUnder (codingOf g)) refl e
     go (unserved a) h e = absurd (Option·none-ne-some f e)
 
 -- .. and their layout gives what they give
-pub current-serves : (last : Option Figures) (f : Figures) (l : Layout) → IsCurrent last f l → ServesAs f l
+pub current-serves : (last : Option Figures) (f : Figures) (l : WordLayout) → IsCurrent last f l → ServesAs f l
 current-serves last f l is =
     let fit = accepted-fit last f (is .are) in
     let n = is .numbers in

@@ -11,9 +11,9 @@ use borrow.Author.Tests.{lt-ltb, le-ltb}
 use lib.ListN.{length, getD}
 use Rattle.combinatorics.proofs.Cases.{by-bool, by-le, eqb-same, eqb-other, eqb-true}
 use Rattle.combinatorics.proofs.Lists.{both}
-use Rattle.params.specs.Bridge.{codingOf}
-use Rattle.params.specs.declared.Figures.{Figures}
-use Rattle.params.specs.declared.Layout.{Layout}
+use Rattle.codes.specs.Bridge.{codingOf}
+use Rattle.codes.specs.declared.Figures.{Figures}
+use Rattle.codes.specs.declared.WordLayout.{WordLayout}
 use Rattle.jobs.specs.Letters.{kindOf, isLetter}
 use Rattle.records.specs.Session.{Session}
 use Rattle.lines.specs.Lines.{letterS, letterL, letterW, letterR}
@@ -172,7 +172,7 @@ whole-reaches bytes (some k) l h = omega (arith, eqb-true (length bytes) k h)
 pub whole-long : (s : Session) (letter : ℕ) (bytes : List ℕ) → isWhole bytes (recordLen s letter) ≡ true → recordHeadLen ≤ length bytes
 whole-long s letter bytes h = whole-reaches bytes (recordLen s letter) (reaches s letter) h
 
-module _ (last : Option Figures) (f : Figures) (l : Layout) (is : IsCurrent last f l) (bytes : List ℕ) where
+module _ (last : Option Figures) (f : Figures) (l : WordLayout) (is : IsCurrent last f l) (bytes : List ℕ) where
   pub write-long : isWhole bytes (writeLen (current last)) ≡ true → recordHeadLen + 2 * l .m ≤ length bytes
   write-long h =
       omega (

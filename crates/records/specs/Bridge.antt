@@ -6,11 +6,13 @@ use mathlib.Core.Option.{Option, none, some}
 use Prim.Native.Nat.{ℕ, _+_, _*_, _≤_}
 use lib.ListN.{length}
 use Rattle.cells.specs.Figures.{maxBursts}
-use Rattle.params.specs.Answer.{LaidAs, HasNumbers, Small}
-use Rattle.params.specs.Bridge.{codingOf}
-use Rattle.params.specs.declared.Figures.{Figures}
-use Rattle.params.specs.declared.Layout.{Layout}
-use Rattle.params.specs.declared.LayoutAnswer.the-variants.{Fit}
+use Rattle.codes.specs.Answer.{LaidAs}
+use Rattle.codes.specs.Given.{HasNumbers}
+use Rattle.params.specs.Answer.{Small}
+use Rattle.codes.specs.Bridge.{codingOf}
+use Rattle.codes.specs.declared.Figures.{Figures}
+use Rattle.codes.specs.declared.WordLayout.{WordLayout}
+use Rattle.codes.specs.declared.FiguresAnswer.the-variants.{Fit}
 use Rattle.jobs.specs.Slots.{entries}
 use Rattle.jobs.specs.Table.{twice}
 use Rattle.lines.specs.Lines.{letterS, letterL}
@@ -31,7 +33,7 @@ abbrev pub sessionOf : Given → Session
 sessionOf s = record { figures = lastFigures (s .figures); table = entries (s .table); count = s .records }
 
 -- these are the last accepted figures, and this is their layout
-pub record IsCurrent (last : Option Figures) (f : Figures) (l : Layout) : Type 0 where
+pub record IsCurrent (last : Option Figures) (f : Figures) (l : WordLayout) : Type 0 where
   pub are : current last ≡ some f
   pub laid : LaidAs f (Fit l)
   pub numbers : HasNumbers (codingOf f) l

@@ -9,9 +9,9 @@ use Rattle.combinatorics.specs.Stretch.{tabulate}
 use Rattle.cells.specs.Bytes.{byteValues, payloadLen}
 use Rattle.cells.specs.Figures.{maxBursts, maxWord}
 use Rattle.cells.specs.Outcomes.{Held, held, FiguresOut, figured, unserved, figuresUnder}
-use Rattle.params.specs.declared.Figures.{Figures}
-use Rattle.params.specs.declared.Figures.the-variants.{Ranked, Long}
-use Rattle.params.specs.Bridge.{codingOf}
+use Rattle.codes.specs.declared.Figures.{Figures}
+use Rattle.codes.specs.declared.Figures.the-variants.{Ranked, Long}
+use Rattle.codes.specs.Bridge.{codingOf}
 use Rattle.jobs.specs.Letters.{isLetter}
 use Rattle.lines.specs.Lines.{letterS, letterL, letterW, letterR}
 use Rattle.records.specs.Session.{Session}

@@ -2,7 +2,7 @@
 use mathlib.Core.List.{List}
 use mathlib.Core.Option.{Option, none}
 use Prim.Native.Nat.{ℕ, suc}
-use Rattle.params.specs.declared.Figures.{Figures}
+use Rattle.codes.specs.declared.Figures.{Figures}
 use Rattle.jobs.specs.declared.Entry.{Entry}
 use Rattle.jobs.specs.Table.{emptyTable}
 

@@ -11,10 +11,10 @@ ghost use Rattle.lines.specs.Lines.{maxLine};
 ghost use Rattle.records.specs.Records.{recordHeadLen, twoBytes, writeLen, readLen, recordLen, maxRecord, readable, current as currentOf, figuresIn};
 ghost use Rattle.records.specs.Records.{longFiguresIn, letterOf, begunLen, neededFor};
 ghost use Rattle.records.specs.Bridge.{lastFigures, sessionOf, Current, Knows, StillKnown, orZero, HasStarts};
+use codes::Figures;
+use codes::FiguresAnswer;
+use codes::WordLayout;
 use jobs::JobTable;
-use params::Figures;
-use params::Layout;
-use params::LayoutAnswer;
 use params::Params;
 use params::bytes;
 use params::long::LongParams;
@@ -33,7 +33,7 @@ pub enum LastFigures {
 // Those figures with their layout.
 pub enum CurrentAnswer {
     Missing,
-    Laid(Figures, Layout),
+    Laid(Figures, WordLayout),
 }
 
 // What is known of a session's figures and table, so that many records need not find it anew: the last accepted figures with their layout, and
@@ -170,8 +170,8 @@ fn laid(figures: Figures) -> CurrentAnswer
 {
     let answer = figures.layout();
     match answer {
-        LayoutAnswer::Refused(_) => CurrentAnswer::Missing,
-        LayoutAnswer::Fit(layout) => CurrentAnswer::Laid(figures, layout),
+        FiguresAnswer::Refused(_) => CurrentAnswer::Missing,
+        FiguresAnswer::Fit(layout) => CurrentAnswer::Laid(figures, layout),
     }
 }
 

@@ -15,16 +15,10 @@ use Rattle.combinatorics.proofs.Members.{length-tabulate, tabulate-at}
 use Rattle.cells.specs.Codec.{LeadsTo, ReadsExactly}
 use Rattle.cells.specs.Figures.{maxBursts}
 use Rattle.cells.specs.Outcomes.{Coding, Held, inUse, Encoded, encodeUnder, decodedFrom, decodeUnder}
-use Rattle.cells.proofs.Erasures.{found-least}
-use Rattle.cells.specs.Figures as Figures
-use Rattle.construction_a.proofs.DemandTwo as A
-use Rattle.construction_b.specs.Figures as BFigures
-use Rattle.construction_b.proofs.DemandTwo as B
-use Rattle.params.specs.Bridge.{given, givenLong, codingOf}
-use Rattle.params.specs.declared.Figures.{Figures}
-use Rattle.params.specs.declared.Figures.the-variants.{Ranked, Long}
-use Rattle.params.proofs.Either.{small}
-use Rattle.decoder.specs.DemandTwo.{ListedIn}
+use Rattle.codes.specs.Bridge.{codingOf}
+use Rattle.codes.specs.declared.Figures.{Figures}
+use Rattle.codes.proofs.Layouts.{small}
+use Rattle.codes.proofs.Exact.{reads-exactly, placed-is, more-found, spoilt-is}
 use Rattle.encoder.proofs.Outcomes.{encode-served}
 use Rattle.decoder.proofs.Calls.{decode-read}
 use Rattle.roundtrip.specs.Damage.{damaged}
@@ -49,26 +43,7 @@ module _ (spoilt : ℕ → Bool) (ds w : List ℕ) where
       (λ x l. rw (damaged-at x (omega (arith, damaged-length)))
       (by-bool (spoilt x) (λ e. rw e (below-at bound ds (omega arith) d x)) (λ e. rw e (omega (arith, below-at q w some s x)))))
 
--- ---- What either construction gives
-
-reads : (f : Figures) → codingOf f .inRange ≡ true → codingOf f .fits ≡ true → ReadsExactly (codingOf f .codec) (ListedIn f)
-reads (Ranked p) = A.demand-two (given p)
-reads (Long p) = B.demand-two (givenLong p)
-
--- starts of a placement are apart
-apart-of : (f : Figures) (ss : List ℕ) → codingOf f .codec .placed ss ≡ true → apart (codingOf f .burstLen) (codingOf f .codec .wordLen) 0 ss ≡ true
-unfolding Figures.isPlacement BFigures.isPlacement
-apart-of (Ranked p) ss e = both (eqb (length ss) (p .m)) (apart (p .b) (p .n) 0 ss) e .1
-apart-of (Long p) ss e = both (eqb (length ss) 1) (apart (p .b) (p .n) 0 ss) e .1
-
--- every symbol can be found
-more-found : (f : Figures) → codingOf f .codec .alphabet ≤ codingOf f .codec .foundBound
-more-found (Ranked p) = found-least (p .q)
-more-found (Long p) = found-least (p .q)
-
-spoilt-is : (f : Figures) (ss : List ℕ) (x : ℕ) → codingOf f .codec .spoilt ss x ≡ inBurst (codingOf f .burstLen) ss x
-spoilt-is (Ranked p) ss x = refl
-spoilt-is (Long p) ss x = refl
+-- ---- Under the figures of each code
 
 module _ (f : Figures) (at : Held) (ms ds w out : List ℕ) (h : Writable (codingOf f) at ms ds w out) where
   abbrev d : Coding
@@ -76,7 +51,7 @@ module _ (f : Figures) (at : Held) (ms ds w out : List ℕ) (h : Writable (codin
 
   pub is-written : encodeUnder (codingOf f) at ms w .word ≡ codingOf f .codec .encode (inUse at) ms
   is-written =
-      ap (λ (o : Encoded). o .word) (encode-served d at ms w (h .range) (h .fit) (h .count) (h .sent) (h .word-len) (apart-of f (inUse at) (h .placed))
+      ap (λ (o : Encoded). o .word) (encode-served d at ms w (h .range) (h .fit) (h .count) (h .sent) (h .word-len) (placed-is f (inUse at) (h .placed) .1)
       (h .symbols))
 
   -- what is written, and what is found once it is damaged
@@ -90,7 +65,7 @@ module _ (f : Figures) (at : Held) (ms ds w out : List ℕ) (h : Writable (codin
   few-bursts = omega (arith, h .count, small f (h .range) .bursts-most)
 
   pub written-len : length codeword ≡ codingOf f .codec .wordLen
-  written-len = reads f (h .range) (h .fit) .written (inUse at) ms (h .placed) (h .sent) (h .symbols) .0
+  written-len = reads-exactly f (h .range) (h .fit) .written (inUse at) ms (h .placed) (h .sent) (h .symbols) .0
 
   found-len : length found ≡ d .codec .wordLen
   found-len = damaged-length (inBurst (d .burstLen) (inUse at)) ds codeword ∙ written-len
@@ -100,7 +75,7 @@ module _ (f : Figures) (at : Held) (ms ds w out : List ℕ) (h : Writable (codin
       damaged-below (inBurst (d .burstLen) (inUse at)) ds codeword (d .codec .alphabet) (d .codec .foundBound)
       (omega (arith, small f (h .range) .alphabet-least)) (more-found f)
       (h .damage-symbols)
-      (reads f (h .range) (h .fit) .written (inUse at) ms (h .placed) (h .sent) (h .symbols) .1)
+      (reads-exactly f (h .range) (h .fit) .written (inUse at) ms (h .placed) (h .sent) (h .symbols) .1)
 
   leads : LeadsTo (d .codec) found (inUse at) ms
   leads =
@@ -114,5 +89,5 @@ module _ (f : Figures) (at : Held) (ms ds w out : List ℕ) (h : Writable (codin
   pub reads-back : decodeUnder (codingOf f) found out ≡ readBack (codingOf f) (inUse at) ms
   reads-back =
       decode-read d found out (h .range) (h .fit) found-len (h .read-len) found-below
-      ∙ ap (decodedFrom (d .burstLen) out) (reads f (h .range) (h .fit) .exactly found (inUse at) ms
+      ∙ ap (decodedFrom (d .burstLen) out) (reads-exactly f (h .range) (h .fit) .exactly found (inUse at) ms
       (record { complete = found-len; symbols = found-below }) .1 leads)

@@ -1,13 +1,13 @@
 // Writing, damage inside the bursts and reading back, as one function on lent buffers. Assumes nothing.
 ghost use mathlib.Core.Path.{_≡_};
 ghost use Rattle.combinatorics.specs.Bursts.{inBurst};
-ghost use Rattle.params.specs.Bridge.{codingOf};
+ghost use Rattle.codes.specs.Bridge.{codingOf};
 ghost use Rattle.placements.specs.Bridge.{heldAs, startsIn};
 ghost use Rattle.decoder.specs.Answer.{decodedAs};
 ghost use Rattle.roundtrip.specs.Damage.{DamageLent, damaged};
 ghost use Rattle.roundtrip.specs.RoundTrip.{Writable, readBack};
+use codes::Figures;
 use decoder::Decoded;
-use params::Figures;
 use placements::Placement;
 use placements::bursts::in_burst;
 
@@ -27,18 +27,19 @@ pub fn round_trip(
         (codingOf figures .codec .encode (startsIn at) (now (message .entry))) ⌝ }
     ensures read { λ r. ⌜ decodedAs r (now (read .exit)) ≡ readBack (codingOf figures) (startsIn at) (now (message .entry)) ⌝ }
 {
-    encoder::encode(figures, at, message, word);
+    codes::encode(figures, at, message, word);
     spoil(at, burst_len(figures), damage, word);
-    decoder::decode(figures, word, read)
+    codes::decode(figures, word, read)
 }
 
-// b of figures of either construction.
+// b of any code's figures.
 fn burst_len(figures: Figures) -> u32
     ensures { λ r. ⌜ r ≡ codingOf figures .burstLen ⌝ }
 {
     match figures {
         Figures::Ranked(given) => given.b,
         Figures::Long(given) => given.b,
+        Figures::Larsson(given) => given.b,
     }
 }
 

@@ -5,8 +5,8 @@ ghost use Rattle.construction_a.specs.Outcomes.{decodeOut};
 ghost use Rattle.params.specs.Bridge.{given};
 ghost use Rattle.decoder.specs.Answer.{decodedAs};
 ghost use Rattle.slips.specs.Reading.{ReadsSlipped};
+use codes::Figures;
 use decoder::Decoded;
-use params::Figures;
 use params::Params;
 
 // What two found words are answered with.
@@ -29,7 +29,7 @@ pub fn decode_both(
     ensures claim { λ r. ⌜ ReadsSlipped (given figures) (now (strip .entry)) (now (altered .entry)) (now (message .entry)) (now (changed .entry))
         (decodedAs (r .first) (now (message .exit))) (decodedAs (r .second) (now (changed .exit))) ⌝ }
 {
-    let first = decoder::decode(Figures::Ranked(figures), strip, message);
-    let second = decoder::decode(Figures::Ranked(figures), altered, changed);
+    let first = codes::decode(Figures::Ranked(figures), strip, message);
+    let second = codes::decode(Figures::Ranked(figures), altered, changed);
     BothDecoded { first, second }
 }

@@ -1,9 +1,9 @@
 // Runs the bench strips that are not starred, strips at the limits of document 02, ticket 11, and word write on starred ones, and writes what the proved
 // functions answer, a line for each. Assumes nothing.
+use codes::Figures;
+use codes::FiguresAnswer;
 use decoder::WordAnswer;
 use jobs::JobTable;
-use params::Figures;
-use params::LayoutAnswer;
 use params::Params;
 use placements::CoverAnswer;
 use placements::Placement;
@@ -46,10 +46,10 @@ fn figures_row(p: Params) {
     put(b" q ", p.q as u64);
     put(b" m ", p.m as u64);
     put(b" b ", p.b as u64);
-    let answer = Params::figures(p.n, p.q, p.m, p.b);
+    let answer = Figures::Ranked(p).layout();
     match answer {
-        LayoutAnswer::Refused(number) => put(b": refused ", number as u64),
-        LayoutAnswer::Fit(layout) => {
+        FiguresAnswer::Refused(number) => put(b": refused ", number as u64),
+        FiguresAnswer::Fit(layout) => {
             put(b": T ", layout.placement_count);
             put(b", r ", layout.index_tail as u64);
             put(b", k ", layout.message_len as u64);
@@ -61,14 +61,14 @@ fn figures_row(p: Params) {
 // Covering on the first strip, without a defect and with one at position 12.
 fn sound_row() {
     let map = [0u8; 30];
-    let answer = placements::cover(Figures::Ranked(first_strip()), &map);
+    let answer = codes::cover(Figures::Ranked(first_strip()), &map);
     cover_row(b"no defect", answer);
 }
 
 fn worn_row() {
     let mut map = [0u8; 30];
     map[12] = 1;
-    let answer = placements::cover(Figures::Ranked(first_strip()), &map);
+    let answer = codes::cover(Figures::Ranked(first_strip()), &map);
     cover_row(b"defect at 12", answer);
 }
 
@@ -114,7 +114,7 @@ fn third_written() {
 
 // The answer, and what the word then holds.
 fn write_row(what: &[u8], figures: Params, at: Placement, message: &[u8], word: &mut [u8]) {
-    let answer = encoder::encode(Figures::Ranked(figures), at, message, word);
+    let answer = codes::encode(Figures::Ranked(figures), at, message, word);
     put(what, answer as u64);
     io::write_all(libc::STDOUT_FILENO, b" ");
     put_symbols(word);
@@ -157,7 +157,7 @@ fn first_word(index: [u8; 6]) -> [u8; 30] {
 fn read_row(what: &[u8], word: &[u8]) {
     let mut message = [0u8; 20];
     io::write_all(libc::STDOUT_FILENO, what);
-    let found = decoder::decode(Figures::Ranked(first_strip()), word, &mut message);
+    let found = codes::decode(Figures::Ranked(first_strip()), word, &mut message);
     let answer = found.answer;
     match answer {
         WordAnswer::Refused(number) => put(b": refused ", number as u64),

@@ -11,8 +11,8 @@ use lib.ListN.{drop}
 use Rattle.refusals.specs.Refusals.{must}
 use Rattle.combinatorics.proofs.Cases.{eqb-true}
 use Rattle.cells.specs.Outcomes.{FiguresOut, figured, unserved, figuresUnder}
-use Rattle.params.specs.Bridge.{codingOf}
-use Rattle.params.specs.declared.Figures.{Figures}
+use Rattle.codes.specs.Bridge.{codingOf}
+use Rattle.codes.specs.declared.Figures.{Figures}
 use Rattle.jobs.specs.declared.Entry.{Entry}
 use Rattle.jobs.specs.Letters.{kindOf, callBy, isLetter}
 use Rattle.jobs.specs.Table.{twice}

@@ -12,8 +12,8 @@ use Rattle.refusals.specs.Refusals.{must}
 use Rattle.combinatorics.proofs.Cases.{eqb-other, leb-holds, leb-fails}
 use Rattle.combinatorics.proofs.Lists.{both}
 use Rattle.cells.specs.Outcomes.{FiguresOut, figured, unserved, figuresUnder}
-use Rattle.params.specs.Bridge.{codingOf}
-use Rattle.params.specs.declared.Figures.{Figures}
+use Rattle.codes.specs.Bridge.{codingOf}
+use Rattle.codes.specs.declared.Figures.{Figures}
 use Rattle.jobs.specs.Letters.{kindOf, callBy, isLetter}
 use Rattle.payloads.specs.Payload.{jobNumber}
 use Rattle.records.proofs.Readable.{reaches}

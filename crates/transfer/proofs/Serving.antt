@@ -12,9 +12,9 @@ use Rattle.refusals.specs.Refusals.{must, served, invalid, unfit, wrongLength, 
 use Rattle.combinatorics.proofs.Cases.{eqb-same, eqb-other, eqb-true, leb-holds, leb-fails}
 use Rattle.cells.specs.Bytes.{payloadLen}
 use Rattle.cells.specs.Outcomes.{Coding, Held, Encoded, figuresUnder}
-use Rattle.params.specs.Bridge.{codingOf}
-use Rattle.params.specs.declared.Figures.{Figures}
-use Rattle.params.specs.declared.Layout.{Layout}
+use Rattle.codes.specs.Bridge.{codingOf}
+use Rattle.codes.specs.declared.Figures.{Figures}
+use Rattle.codes.specs.declared.WordLayout.{WordLayout}
 use Rattle.jobs.specs.declared.Entry.{Entry}
 use Rattle.jobs.specs.Letters.{kindOf, callBy, isLetter}
 use Rattle.jobs.specs.Table.{twice}
@@ -108,7 +108,7 @@ module _ (n : ℕ) (before line : List ℕ) (es : List Entry) where
       (ap (λ (x : Coding). jobReadUnder x es w y) e₁ ∙ ap₂ (λ (a b : List ℕ). jobReadUnder d′ es a b) e₂ e₃)
 
 -- figures that are the current ones, and what is known of the table
-pub record-laid : (last : Option Figures) (f : Figures) (l : Layout) → IsCurrent last f l → (es : List Entry) (isTwice : Bool) → isTwice ≡ twice es
+pub record-laid : (last : Option Figures) (f : Figures) (l : WordLayout) → IsCurrent last f l → (es : List Entry) (isTwice : Bool) → isTwice ≡ twice es
     → (line : List ℕ) → maxLine ≤ length line → (long : ℕ) (bytes : List ℕ) → long ≤ length bytes → RecordLaid es line f l isTwice long bytes
 record-laid last f l is es isTwice told line room long bytes enough =
     let gives = current-serves last f l is in

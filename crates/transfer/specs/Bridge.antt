@@ -5,11 +5,11 @@ use mathlib.Core.Option.{Option}
 use mathlib.Core.List.{List}
 use Prim.Native.Nat.{ℕ, _≤_, _<_}
 use lib.ListN.{length}
-use Rattle.params.specs.Answer.{HasNumbers, Small}
-use Rattle.params.specs.Bridge.{codingOf}
-use Rattle.params.specs.Given.{codingIn, Serves}
-use Rattle.params.specs.declared.Figures.{Figures}
-use Rattle.params.specs.declared.Layout.{Layout}
+use Rattle.codes.specs.Given.{HasNumbers, codingIn, Serves}
+use Rattle.params.specs.Answer.{Small}
+use Rattle.codes.specs.Bridge.{codingOf}
+use Rattle.codes.specs.declared.Figures.{Figures}
+use Rattle.codes.specs.declared.WordLayout.{WordLayout}
 use Rattle.jobs.specs.Table.{twice}
 use Rattle.jobs.specs.declared.Entry.{Entry}
 use Rattle.records.specs.declared.Known.{Known}
@@ -42,12 +42,12 @@ pub record Put (len : ℕ) (before line : List ℕ) (step : Session → Step) : 
   pub length-is : (s : Session) → len ≡ length (step s .line)
 
 -- a layout of figures that fit, and whether the table holds a number twice
-pub record ServesTold (l : Layout) (isTwice : Bool) (es : List Entry) : Type 0 where
+pub record ServesTold (l : WordLayout) (isTwice : Bool) (es : List Entry) : Type 0 where
   pub serves : Serves l
   pub told : isTwice ≡ twice es
 
 -- the figures that a W or R record is read by with their layout and its numbers, what is told of the table, and a record as long as it needs at least
-pub record RecordLaid (es : List Entry) (line : List ℕ) (f : Figures) (l : Layout) (isTwice : Bool) (long : ℕ) (bytes : List ℕ) : Type 0 where
+pub record RecordLaid (es : List Entry) (line : List ℕ) (f : Figures) (l : WordLayout) (isTwice : Bool) (long : ℕ) (bytes : List ℕ) : Type 0 where
   pub room : maxLine ≤ length line
   pub same : codingIn l ≡ codingOf f
   pub table : ServesTold l isTwice es

@@ -7,8 +7,8 @@ use lib.Dec.{ltb, eqb}
 use lib.ListN.{length, take, drop, replicate}
 use Rattle.refusals.specs.Refusals.{must, served}
 use Rattle.cells.specs.Outcomes.{Encoded, FiguresOut, figured, unserved, figuresUnder}
-use Rattle.params.specs.Bridge.{codingOf}
-use Rattle.params.specs.declared.Figures.{Figures}
+use Rattle.codes.specs.Bridge.{codingOf}
+use Rattle.codes.specs.declared.Figures.{Figures}
 use Rattle.jobs.specs.Letters.{kindOf, callBy, isLetter}
 use Rattle.jobs.specs.Table.{TableOut}
 use Rattle.payloads.specs.Payload.{jobNumber}

@@ -8,8 +8,8 @@ ghost use Rattle.jobs.specs.Slots.{entries};
 ghost use Rattle.jobcodec.specs.JobWrite.{jobWriteUnder};
 ghost use Rattle.jobcodec.specs.JobRead.{jobReadUnder};
 ghost use Rattle.jobcodec.specs.Given.{seen};
-ghost use Rattle.params.specs.Given.{codingIn};
-ghost use Rattle.params.specs.Bridge.{codingOf};
+ghost use Rattle.codes.specs.Given.{codingIn};
+ghost use Rattle.codes.specs.Bridge.{codingOf};
 ghost use Rattle.placements.specs.Bridge.{heldAs};
 ghost use Rattle.lines.specs.Lines.{maxLine};
 ghost use Rattle.records.specs.Records.{recordHeadLen, writeLen, readLen, payloadLenOf, recordStarts, payloadOf, current as currentOf};
@@ -21,9 +21,9 @@ use crate::SHORT_WORD;
 use crate::StepAnswer;
 use crate::counted;
 use crate::stop;
+use codes::Figures;
+use codes::WordLayout;
 use jobs::JobTable;
-use params::Figures;
-use params::Layout;
 use params::bytes;
 use placements::Placement;
 use records::CurrentAnswer;
@@ -51,7 +51,7 @@ pub fn serve_write(session: Session, known: Known, received: &[u8], line: &mut [
 fn write_laid(
     table: JobTable,
     figures: Figures,
-    layout: Layout,
+    layout: WordLayout,
     twice: bool,
     received: &[u8],
     line: &mut [u8],
@@ -91,7 +91,7 @@ fn write_laid(
 // W, with a lent word that holds 0.
 fn write_word(
     table: JobTable,
-    layout: Layout,
+    layout: WordLayout,
     twice: bool,
     at: Placement,
     payload: &[u8],
@@ -111,7 +111,7 @@ fn write_word(
 
 // Job write for figures that fit, with what is known of the table.
 fn job_write(
-    layout: Layout,
+    layout: WordLayout,
     twice: bool,
     table: JobTable,
     at: Placement,
@@ -146,7 +146,7 @@ pub fn serve_read(session: Session, known: Known, received: &[u8], line: &mut [u
 fn read_laid(
     table: JobTable,
     figures: Figures,
-    layout: Layout,
+    layout: WordLayout,
     twice: bool,
     received: &[u8],
     line: &mut [u8],
@@ -181,7 +181,7 @@ fn read_laid(
 // R, with a lent payload that holds 0.
 fn read_payload(
     table: JobTable,
-    layout: Layout,
+    layout: WordLayout,
     twice: bool,
     word: &[u8],
     payload: &mut [u8],
@@ -199,7 +199,7 @@ fn read_payload(
 }
 
 // Job read likewise.
-fn job_read(layout: Layout, twice: bool, table: JobTable, word: &[u8], payload: &mut [u8]) -> u8
+fn job_read(layout: WordLayout, twice: bool, table: JobTable, word: &[u8], payload: &mut [u8]) -> u8
     requires { ⌜ ServesTold layout twice (entries table) ⌝ }
     ensures { λ r. ⌜ seen r (now (payload .exit)) ≡ jobReadUnder (codingIn layout) (entries table) (now (word .entry)) (now (payload .entry)) ⌝ }
 {

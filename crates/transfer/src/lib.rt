@@ -6,7 +6,7 @@ ghost use lib.ListN.{length};
 ghost use Rattle.cells.specs.Outcomes.{figuresUnder};
 ghost use Rattle.jobs.specs.Letters.{kindOf, callBy};
 ghost use Rattle.jobs.specs.Slots.{entries};
-ghost use Rattle.params.specs.Bridge.{codingOf};
+ghost use Rattle.codes.specs.Bridge.{codingOf};
 ghost use Rattle.text.specs.Text.{overwrite};
 ghost use Rattle.records.specs.Session.{maxRecords, nextSession as afterRecord};
 ghost use Rattle.lines.specs.Lines.{stopLine, maxLine};
@@ -14,9 +14,9 @@ ghost use Rattle.records.specs.Records.{recordLen, letterOf};
 ghost use Rattle.transfer.specs.Steps.{serveOut, stepOut, stopped, ended, figuresStep, callStep};
 ghost use Rattle.records.specs.Bridge.{lastFigures, sessionOf, Knows};
 ghost use Rattle.transfer.specs.Bridge.{Ready, Shown, Whole};
+use codes::Figures;
+use codes::FiguresAnswer;
 use jobs::JobTable;
-use params::Figures;
-use params::LayoutAnswer;
 use params::Params;
 use params::bytes;
 use records::HEAD_LEN;
@@ -125,11 +125,11 @@ fn serve_figures(session: Session, letter: u8, figures: Figures, line: &mut [u8]
 {
     let answer = figures.layout();
     match answer {
-        LayoutAnswer::Refused(number) => {
+        FiguresAnswer::Refused(number) => {
             let len = lines::put_refusal(line, letter, number);
             counted(session, len)
         }
-        LayoutAnswer::Fit(layout) => {
+        FiguresAnswer::Fit(layout) => {
             let len = lines::put_figures(
                 line,
                 letter,

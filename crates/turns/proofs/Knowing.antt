@@ -6,7 +6,7 @@ use Prim.Native.Nat.{ℕ}
 use native.Mathlib.Omega.{arith}
 use lib.ListN.{take}
 use lib.Seq.{getD-take}
-use Rattle.params.specs.declared.Figures.{Figures}
+use Rattle.codes.specs.declared.Figures.{Figures}
 use Rattle.records.specs.declared.Known.{Known}
 use Rattle.records.specs.Bridge.{Current, Knows, StillKnown}
 use Rattle.records.specs.Records.{letterOf}

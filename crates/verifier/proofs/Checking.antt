@@ -8,23 +8,18 @@ use native.Mathlib.Omega.{arith}
 use lib.Dec.{eqb}
 use lib.ListN.{length, getD}
 use lib.Seq.{length-take-le}
-use Rattle.combinatorics.specs.Bursts.{apart, inBurst}
 use Rattle.combinatorics.specs.Lists.{allBelow}
 use Rattle.combinatorics.specs.Stretch.{has}
 use Rattle.combinatorics.proofs.Cases.{by-bool, by-eq, eqb-same, eqb-other, eqb-true}
 use Rattle.combinatorics.proofs.Lists.{below-at}
 use Rattle.combinatorics.proofs.Stretch.{has-none, has-some, has-ext}
 use Rattle.cells.specs.Codec.{Codec, accepted, Word, LeadsTo, Exact}
-use Rattle.cells.specs.Erasures.{foundBound}
-use Rattle.construction_a.specs.DemandTwo.{constructionA}
-use Rattle.cells.specs.Figures.{Params, inRange, isPlacement}
-use Rattle.construction_a.specs.Figures.{fits, messageLen}
-use Rattle.construction_a.specs.Outcomes.{Held, inUse}
-use Rattle.construction_a.specs.Reading.{read}
-use Rattle.construction_a.specs.Writing.{word}
-use Rattle.construction_a.proofs.DemandTwo.{demand-two}
-use Rattle.cells.proofs.Figures.{ranged}
-use Rattle.verifier.specs.Verify.{differsAt, agreesOutside, Verdict, agreeing, differing, verifyOut, Checkable, SameOutside, Verifies, VerifiesWords}
+use Rattle.cells.specs.Outcomes.{Coding, Held, inUse}
+use Rattle.codes.specs.declared.Figures.{Figures}
+use Rattle.codes.specs.Bridge.{codingOf}
+use Rattle.codes.proofs.Layouts.{small}
+use Rattle.codes.proofs.Exact.{reads-exactly, placed-of}
+use Rattle.verifier.specs.Verify.{differsAt, agreesOutside, Verdict, agreeing, differing, verifyUnder, Checkable, SameOutside, Verifies, VerifiesWords}
 
 -- ---- The test, under any codec
 
@@ -61,76 +56,79 @@ agreed : (b : Bool) → (cond b agreeing differing ≡ agreeing) ↔ (b ≡ true
 agreed true = (λ _. refl, λ _. refl)
 agreed false = (λ e. not-both e, λ e. absurd (true≢false (sym e)))
 
-module _ (f : Params) (at : Held) (ms w : List ℕ) (ok : Checkable f at ms w) where
+module _ (d : Coding) (at : Held) (ms w : List ℕ) (ok : Checkable d at ms w) where
   -- nothing is refused
-  pub checked : verifyOut f at ms w ≡ cond (agreesOutside (constructionA f) w (inUse at) ms) agreeing differing
-  unfolding verifyOut
+  pub checked : verifyUnder d at ms w ≡ cond (agreesOutside (d .codec) w (inUse at) ms) agreeing differing
   checked =
       rw (
         ok .range,
         ok .fit,
-        eqb-same (at .count) (f .m) (ok .count),
-        eqb-same (length ms) (messageLen f) (ok .message),
-        eqb-same (length w) (f .n) (ok .complete),
+        eqb-same (at .count) (d .bursts) (ok .count),
+        eqb-same (length ms) (d .codec .messageLen) (ok .message),
+        eqb-same (length w) (d .codec .wordLen) (ok .complete),
         ok .starts,
         ok .symbols,
         ok .found,
       )
 
-  yes-exactly : (verifyOut f at ms w ≡ agreeing) ↔ (agreesOutside (constructionA f) w (inUse at) ms ≡ true)
+  yes-exactly : (verifyUnder d at ms w ≡ agreeing) ↔ (agreesOutside (d .codec) w (inUse at) ms ≡ true)
   yes-exactly =
-      let a = agreed (agreesOutside (constructionA f) w (inUse at) ms) in
+      let a = agreed (agreesOutside (d .codec) w (inUse at) ms) in
       (λ e. a .0 (sym checked ∙ e), λ e. checked ∙ a .1 e)
 
-  placed : isPlacement f (inUse at) ≡ true
-  unfolding isPlacement
-  placed =
-      let r = ranged f (ok .range) in
-      let e : length (inUse at) ≡ f .m = length-take-le (at .count) (at .starts) (omega (arith, ok .held, ok .count, r .m-most)) ∙ ok .count in
-      rw (eqb-same (length (inUse at)) (f .m) e, ok .starts)
-
-  seen : Word (constructionA f) w
-  seen = record { complete = ok .complete; symbols = ok .found }
-
-  pub exactly : (verifyOut f at ms w ≡ agreeing) ↔ SameOutside f (inUse at) w (word f (inUse at) ms)
+  pub exactly : (verifyUnder d at ms w ≡ agreeing) ↔ SameOutside (d .codec) (inUse at) w (d .codec .encode (inUse at) ms)
   exactly = (
-    λ e. agrees-outside (constructionA f) w (inUse at) ms (yes-exactly .0 e),
-    λ h. yes-exactly .1 (outside-agrees (constructionA f) w (inUse at) ms h),
+    λ e. agrees-outside (d .codec) w (inUse at) ms (yes-exactly .0 e),
+    λ h. yes-exactly .1 (outside-agrees (d .codec) w (inUse at) ms h),
   )
 
-  pub reads : (verifyOut f at ms w ≡ agreeing) ↔ (read f w ≡ accepted (inUse at) ms)
-  reads =
-      let two = demand-two f (ok .range) (ok .fit) in
-      let a = agrees-reads (constructionA f) w (inUse at) ms (two .exactly) seen placed (ok .message) (ok .symbols) in
-      (λ e. a .0 (yes-exactly .0 e), λ e. yes-exactly .1 (a .1 e))
-
-  pub else-no : (verifyOut f at ms w ≡ agreeing → ⊥) → verifyOut f at ms w ≡ differing
+  pub else-no : (verifyUnder d at ms w ≡ agreeing → ⊥) → verifyUnder d at ms w ≡ differing
   else-no h =
-      by-bool (agreesOutside (constructionA f) w (inUse at) ms) (λ t. absurd (h (yes-exactly .1 t)))
+      by-bool (agreesOutside (d .codec) w (inUse at) ms) (λ t. absurd (h (yes-exactly .1 t)))
       (λ t. checked ∙ ap (λ (b : Bool). cond b agreeing differing) t)
 
-  pub erasure-differs : (x : ℕ) → x < f .n → inBurst (f .b) (inUse at) x ≡ false → getD w x 0 ≡ f .q → verifyOut f at ms w ≡ differing
-  erasure-differs x lx out e =
-      let two = demand-two f (ok .range) (ok .fit) in
-      let below = below-at (f .q) (word f (inUse at) ms) (omega (arith, ranged f (ok .range) .q-least))
-      (two .written (inUse at) ms placed (ok .message) (ok .symbols) .1) x in
-      else-no (λ y. let same = exactly .0 y x lx out in omega (arith, same, below))
-
 -- two words that agree outside the runs get one answer
-same-test : (f : Params) (w w′ starts ms : List ℕ) → SameOutside f starts w′ w
-    → agreesOutside (constructionA f) w′ starts ms ≡ agreesOutside (constructionA f) w starts ms
+same-test : (c : Codec) (w w′ starts ms : List ℕ) → SameOutside c starts w′ w → agreesOutside c w′ starts ms ≡ agreesOutside c w starts ms
 unfolding agreesOutside
-same-test f w w′ starts ms h =
-    ap not (has-ext (f .n) 0 (differsAt (constructionA f) w′ starts ms) (differsAt (constructionA f) w starts ms)
-    (λ x _ lx. by-bool (inBurst (f .b) starts x) (λ t. rw t) (λ t. rw (h x (omega arith) t))))
+same-test c w w′ starts ms h =
+    ap not (has-ext (c .wordLen) 0 (differsAt c w′ starts ms) (differsAt c w starts ms)
+    (λ x _ lx. by-bool (c .spoilt starts x) (λ t. rw t) (λ t. rw (t, h x (omega arith) t))))
+
+-- ---- Under the figures of each code
+
+module _ (f : Figures) (at : Held) (ms w : List ℕ) (ok : Checkable (codingOf f) at ms w) where
+  placed : codingOf f .codec .placed (inUse at) ≡ true
+  placed =
+      let few = small f (ok .range) in
+      placed-of f (inUse at)
+      (length-take-le (at .count) (at .starts) (omega (arith, ok .held, ok .count, few .bursts-most)) ∙ ok .count) (ok .starts)
+
+  pub reads : (verifyUnder (codingOf f) at ms w ≡ agreeing) ↔ (codingOf f .codec .decode w ≡ accepted (inUse at) ms)
+  reads =
+      let c = codingOf f .codec in
+      let two = reads-exactly f (ok .range) (ok .fit) in
+      let seen : Word c w = record { complete = ok .complete; symbols = ok .found } in
+      let a = agrees-reads c w (inUse at) ms (two .exactly) seen placed (ok .message) (ok .symbols) in
+      let y = yes-exactly (codingOf f) at ms w ok in
+      (λ e. a .0 (y .0 e), λ e. y .1 (a .1 e))
+
+  pub erasure-differs : (x : ℕ) → x < codingOf f .codec .wordLen → codingOf f .codec .spoilt (inUse at) x ≡ false → getD w x 0 ≡ codingOf f .codec .alphabet
+      → verifyUnder (codingOf f) at ms w ≡ differing
+  erasure-differs x lx out e =
+      let c = codingOf f .codec in
+      let two = reads-exactly f (ok .range) (ok .fit) in
+      let below = below-at (c .alphabet) (c .encode (inUse at) ms) (omega (arith, small f (ok .range) .alphabet-least))
+      (two .written (inUse at) ms placed (ok .message) (ok .symbols) .1) x in
+      else-no (codingOf f) at ms w ok (λ y. let same = exactly (codingOf f) at ms w ok .0 y x lx out in omega (arith, same, below))
 
 pub verifies : VerifiesWords
 verifies f at ms w ok =
+    let d = codingOf f in
     record {
-      exactly = exactly f at ms w ok;
+      exactly = exactly d at ms w ok;
       reads = reads f at ms w ok;
-      else = else-no f at ms w ok;
+      else = else-no d at ms w ok;
       no-opinion = λ w′ ok′ h.
-          checked f at ms w′ ok′ ∙ ap (λ (b : Bool). cond b agreeing differing) (same-test f w w′ (inUse at) ms h) ∙ sym (checked f at ms w ok);
+          checked d at ms w′ ok′ ∙ ap (λ (b : Bool). cond b agreeing differing) (same-test (d .codec) w w′ (inUse at) ms h) ∙ sym (checked d at ms w ok);
       erasure = erasure-differs f at ms w ok;
     }

@@ -8,19 +8,17 @@ use Prim.Native.Nat.{ℕ, _<_}
 use lib.Dec.{eqb}
 use lib.ListN.{length, getD}
 use Rattle.refusals.specs.Refusals.{must, served, invalid, unfit, wrongLength, badSymbol, badStarts}
-use Rattle.combinatorics.specs.Bursts.{apart, inBurst}
+use Rattle.combinatorics.specs.Bursts.{apart}
 use Rattle.combinatorics.specs.Lists.{allBelow}
 use Rattle.combinatorics.specs.Stretch.{has}
 use Rattle.cells.specs.Codec.{Codec, accepted}
-use Rattle.cells.specs.Outcomes.{Coding}
-use Rattle.cells.specs.Erasures.{foundBound}
-use Rattle.cells.specs.Figures.{Params, maxBursts, inRange}
-use Rattle.construction_a.specs.Figures.{fits, messageLen}
-use Rattle.construction_a.specs.Outcomes.{Held, inUse, coding}
-use Rattle.construction_a.specs.Reading.{read}
-use Rattle.construction_a.specs.Writing.{word}
+use Rattle.cells.specs.Outcomes.{Coding, Held, inUse}
+use Rattle.cells.specs.Figures.{Params, maxBursts}
+use Rattle.construction_a.specs.Outcomes.{coding}
+use Rattle.codes.specs.declared.Figures.{Figures}
+use Rattle.codes.specs.Bridge.{codingOf}
 
--- "yes exactly when the word agrees with Construction A's word at every position outside the runs", under any codec
+-- "yes exactly when the word agrees with Construction A's word at every position outside the runs", and so with any code's
 abbrev pub differsAt : Codec → List ℕ → List ℕ → List ℕ → ℕ → Bool
 differsAt c w starts ms x = not (c .spoilt starts x) && not (eqb (getD w x 0) (getD (c .encode starts ms) x 0))
 
@@ -55,33 +53,34 @@ verifyOut f = verifyUnder (coding f)
 
 -- ---- What the answer means where nothing is refused
 
-pub record Checkable (f : Params) (at : Held) (ms w : List ℕ) : Type 0 where
-  pub range : inRange f ≡ true
-  pub fit : fits f ≡ true
+pub record Checkable (d : Coding) (at : Held) (ms w : List ℕ) : Type 0 where
+  pub range : d .inRange ≡ true
+  pub fit : d .fits ≡ true
   -- "A placement is held as six starts and the count in use", eight since document 02, ticket 11
   pub held : length (at .starts) ≡ maxBursts
-  pub count : at .count ≡ f .m
-  pub message : length ms ≡ messageLen f
-  pub complete : length w ≡ f .n
-  pub starts : apart (f .b) (f .n) 0 (inUse at) ≡ true
-  pub symbols : allBelow (f .q) ms ≡ true
-  pub found : allBelow (foundBound (f .q)) w ≡ true
+  pub count : at .count ≡ d .bursts
+  pub message : length ms ≡ d .codec .messageLen
+  pub complete : length w ≡ d .codec .wordLen
+  pub starts : apart (d .burstLen) (d .codec .wordLen) 0 (inUse at) ≡ true
+  pub symbols : allBelow (d .codec .alphabet) ms ≡ true
+  pub found : allBelow (d .codec .foundBound) w ≡ true
 
 -- "at every position outside the runs"
-abbrev pub SameOutside : Params → List ℕ → List ℕ → List ℕ → Type 0
-SameOutside f starts v w = (x : ℕ) → x < f .n → inBurst (f .b) starts x ≡ false → getD v x 0 ≡ getD w x 0
+abbrev pub SameOutside : Codec → List ℕ → List ℕ → List ℕ → Type 0
+SameOutside c starts v w = (x : ℕ) → x < c .wordLen → c .spoilt starts x ≡ false → getD v x 0 ≡ getD w x 0
 
-pub record Verifies (f : Params) (at : Held) (ms w : List ℕ) : Type 0 where
-  -- yes exactly when the word agrees with Construction A's outside the runs
-  pub exactly : (verifyOut f at ms w ≡ agreeing) ↔ SameOutside f (inUse at) w (word f (inUse at) ms)
+pub record Verifies (d : Coding) (at : Held) (ms w : List ℕ) : Type 0 where
+  -- yes exactly when the word agrees with the code's outside the runs
+  pub exactly : (verifyUnder d at ms w ≡ agreeing) ↔ SameOutside (d .codec) (inUse at) w (d .codec .encode (inUse at) ms)
   -- exactly when the reader gives back this placement and message
-  pub reads : (verifyOut f at ms w ≡ agreeing) ↔ (read f w ≡ accepted (inUse at) ms)
+  pub reads : (verifyUnder d at ms w ≡ agreeing) ↔ (d .codec .decode w ≡ accepted (inUse at) ms)
   -- else no
-  pub else : (verifyOut f at ms w ≡ agreeing → ⊥) → verifyOut f at ms w ≡ differing
+  pub else : (verifyUnder d at ms w ≡ agreeing → ⊥) → verifyUnder d at ms w ≡ differing
   -- "The answer carries no opinion on the cells inside them."
-  pub no-opinion : (w′ : List ℕ) → Checkable f at ms w′ → SameOutside f (inUse at) w′ w → verifyOut f at ms w′ ≡ verifyOut f at ms w
+  pub no-opinion : (w′ : List ℕ) → Checkable d at ms w′ → SameOutside (d .codec) (inUse at) w′ w → verifyUnder d at ms w′ ≡ verifyUnder d at ms w
   -- "silent cells count as disagreeing outside the runs"
-  pub erasure : (x : ℕ) → x < f .n → inBurst (f .b) (inUse at) x ≡ false → getD w x 0 ≡ f .q → verifyOut f at ms w ≡ differing
+  pub erasure : (x : ℕ) → x < d .codec .wordLen → d .codec .spoilt (inUse at) x ≡ false → getD w x 0 ≡ d .codec .alphabet → verifyUnder d at ms w ≡ differing
 
+-- under the figures of each code
 abbrev pub VerifiesWords : Type 0
-VerifiesWords = (f : Params) (at : Held) (ms w : List ℕ) → Checkable f at ms w → Verifies f at ms w
+VerifiesWords = (f : Figures) (at : Held) (ms w : List ℕ) → Checkable (codingOf f) at ms w → Verifies (codingOf f) at ms w

@@ -1,13 +1,14 @@
 // The check of a word against the placement and the message that it should hold (document 02, "Strips from the frame maker"). Assumes nothing.
 ghost use mathlib.Core.Path.{_≡_};
-ghost use Rattle.params.specs.Bridge.{given};
 ghost use Rattle.placements.specs.Bridge.{heldAs};
+ghost use Rattle.codes.specs.Bridge.{codingOf};
+ghost use Rattle.codes.specs.Given.{codingIn, Serves};
 ghost use Rattle.verifier.specs.Answer.{verdictAs};
-ghost use Rattle.verifier.specs.Given.{LaidFor, ExpectedWord};
-ghost use Rattle.verifier.specs.Verify.{verifyOut};
-use params::Figures;
-use params::Layout;
-use params::LayoutAnswer;
+ghost use Rattle.verifier.specs.Given.{ExpectedWord};
+ghost use Rattle.verifier.specs.Verify.{verifyUnder};
+use codes::Figures;
+use codes::FiguresAnswer;
+use codes::WordLayout;
 use params::Params;
 use placements::Placement;
 use placements::bursts::cover_differences;
@@ -21,55 +22,48 @@ pub enum VerifyAnswer {
 }
 
 // The check of a found word of n symbols. What the cells inside the bursts hold makes no difference. Refusals: 1 2 3 5 4.
-pub fn verify(figures: Params, at: Placement, message: &[u8], word: &[u8]) -> VerifyAnswer
-    ensures { λ r. ⌜ verdictAs r ≡ verifyOut (given figures) (heldAs at) (now (message .entry)) (now (word .entry)) ⌝ }
+pub fn verify(figures: Figures, at: Placement, message: &[u8], word: &[u8]) -> VerifyAnswer
+    ensures { λ r. ⌜ verdictAs r ≡ verifyUnder (codingOf figures) (heldAs at) (now (message .entry)) (now (word .entry)) ⌝ }
 {
-    let answer = Figures::Ranked(figures).layout();
+    let answer = figures.layout();
     match answer {
-        LayoutAnswer::Refused(number) => VerifyAnswer::Refused(number),
-        LayoutAnswer::Fit(layout) => verify_fitting(figures, layout, at, message, word),
+        FiguresAnswer::Refused(number) => VerifyAnswer::Refused(number),
+        FiguresAnswer::Fit(layout) => verify_fitting(layout, at, message, word),
     }
 }
 
 // The same for figures that fit. Refusals: 3 5 4. The word that would be written stands in a local array.
-fn verify_fitting(
-    figures: Params,
-    layout: Layout,
-    at: Placement,
-    message: &[u8],
-    word: &[u8],
-) -> VerifyAnswer
-    requires { ⌜ LaidFor (given figures) layout ⌝ }
-    ensures { λ r. ⌜ verdictAs r ≡ verifyOut (given figures) (heldAs at) (now (message .entry)) (now (word .entry)) ⌝ }
+fn verify_fitting(layout: WordLayout, at: Placement, message: &[u8], word: &[u8]) -> VerifyAnswer
+    requires { ⌜ Serves layout ⌝ }
+    ensures { λ r. ⌜ verdictAs r ≡ verifyUnder (codingIn layout) (heldAs at) (now (message .entry)) (now (word .entry)) ⌝ }
 {
     let n = layout.n;
     if word.len() != n {
         return VerifyAnswer::Refused(Refusal::LENGTH);
     }
     let mut expected = [0u8; Params::MAX_WORD as usize];
-    verify_against(figures, layout, at, message, word, &mut expected[..n])
+    verify_against(layout, at, message, word, &mut expected[..n])
 }
 
 // The same for a word of n symbols, and room for as many. Refusals: 3 5 4.
 fn verify_against(
-    figures: Params,
-    layout: Layout,
+    layout: WordLayout,
     at: Placement,
     message: &[u8],
     word: &[u8],
     expected: &mut [u8],
 ) -> VerifyAnswer
-    requires { ⌜ ExpectedWord (given figures) layout (now word) (now expected) ⌝ }
-    ensures { λ r. ⌜ verdictAs r ≡ verifyOut (given figures) (heldAs at) (now (message .entry)) (now (word .entry)) ⌝ }
+    requires { ⌜ ExpectedWord layout (now word) (now expected) ⌝ }
+    ensures { λ r. ⌜ verdictAs r ≡ verifyUnder (codingIn layout) (heldAs at) (now (message .entry)) (now (word .entry)) ⌝ }
 {
-    let refusal = encoder::encode(Figures::Ranked(figures), at, message, expected);
+    let refusal = codes::encode_fitting(layout, at, message, expected);
     if refusal != Refusal::NONE {
         return VerifyAnswer::Refused(refusal);
     }
     if !symbols::all_below(word, layout.found_bound()) {
         return VerifyAnswer::Refused(Refusal::SYMBOL);
     }
-    if cover_differences(at, figures.b, word, expected) {
+    if cover_differences(at, layout.b as u32, word, expected) {
         return VerifyAnswer::Agrees;
     }
     VerifyAnswer::Differs

@@ -15,6 +15,7 @@ use Rattle.exports.proofs.burgzemi_verify.Tie as tie
 -- the answer's number is the outcome's
 told : (c : tie.After-verify) (r : VerifyAnswer) → c .verify .result ≡ r → (let a = c .before .before .before .before .before .args in
     verdictNumber (verdictAs r) ≡ verdictNumber (verifyBytesOut (params (a .n) (a .q) (a .m) (a .b)) (a .starts .now) (a .message .now) (a .word .now)))
+unfolding verifyOut
 told c r e =
     let a = c .before .before .before .before .before .args in
     let f = params (a .n) (a .q) (a .m) (a .b) in

@@ -2,8 +2,8 @@
 use mathlib.Core.Path.{_≡_, sym, ap, _∙_}
 use borrow.Author.Needs.{needs}
 use Rattle.cells.specs.Outcomes.{Coding, Encoded}
-use Rattle.params.specs.Answer.{figuredAs}
-use Rattle.params.specs.Bridge.{codingOf}
+use Rattle.codes.specs.Answer.{figuredAs}
+use Rattle.codes.specs.Bridge.{codingOf}
 use Rattle.placements.specs.Bridge.{heldAs}
 use Rattle.jobs.specs.Slots.{entries}
 use Rattle.jobcodec.specs.JobWrite.{jobWriteUnder}

@@ -6,7 +6,8 @@ use borrow.Author.Needs.{needs}
 use lib.ListN.{take, replicate}
 use lib.Seq.{length-take-le}
 use Rattle.cells.specs.Figures.{maxWord}
-use Rattle.params.specs.Given.{shortWord, codingIn}
+use Rattle.params.specs.Given.{shortWord}
+use Rattle.codes.specs.Given.{codingIn}
 use Rattle.jobs.specs.Slots.{entries}
 use Rattle.jobcodec.specs.Given.{ReadableJob}
 use Rattle.jobcodec.proofs.Calls.{alphabet-few, bytes-are, message-short, room-is, ready, read-few, read-length}

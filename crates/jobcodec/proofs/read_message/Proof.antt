@@ -5,8 +5,8 @@ use Prim.Native.Nat.{ℕ}
 use borrow.Author.Needs.{needs}
 use lib.ListN.{length}
 use Rattle.cells.specs.Outcomes.{decodeUnder}
-use Rattle.params.specs.Given.{codingIn}
-use Rattle.params.proofs.Either.{in-order, numbers-in}
+use Rattle.codes.specs.Given.{codingIn}
+use Rattle.codes.proofs.Layouts.{in-order, numbers-in}
 use Rattle.jobs.specs.Slots.{entries}
 use Rattle.payloads.specs.Payload.{payloadIn}
 use Rattle.decoder.specs.declared.WordAnswer.{WordAnswer}

@@ -6,9 +6,8 @@ use borrow.Author.Needs.{needs}
 use borrow.Author.Tests.{not-true, not-false}
 use lib.ListN.{length}
 use Rattle.cells.specs.Outcomes.{Decoded as Outcome, decodeUnder}
-use Rattle.params.specs.Given.{codingIn}
-use Rattle.params.proofs.Either.{in-shape}
-use Rattle.params.proofs.Shape.{bound}
+use Rattle.codes.specs.Given.{codingIn}
+use Rattle.codes.proofs.Layouts.{bound}
 use Rattle.payloads.specs.Payload.{spellsPayload}
 use Rattle.decoder.specs.declared.Decoded.{Decoded}
 use Rattle.decoder.specs.declared.WordAnswer.{WordAnswer}
@@ -32,7 +31,7 @@ module _ (s : tie.Start) where
   found = decodeUnder (codingIn (s .args .layout)) (s .args .word .now) (s .args .message .now)
 
   few : (2 ≤ q) × (q ≤ 256)
-  few = let l = s .args .layout in let is = bound l (in-shape l (s .pre)) in (is .q-least, is .q-most)
+  few = let l = s .args .layout in let is = bound l (s .pre) in (is .q-least, is .q-most)
 
   told : (d : Decoded) (ms : List ℕ) (said : WordAnswer) → d .answer ≡ said → decodedAs d ms ≡ found
       → spelledAs q k ms (answerAs said) ≡ spelledAnswer q k found

@@ -3,13 +3,13 @@ use mathlib.Core.Path.{_≡_, sym, ap₂, subst}
 use mathlib.Core.List.{List}
 use Prim.Native.Nat.{ℕ}
 use borrow.Author.Needs.{needs}
-use Rattle.params.specs.Bridge.{codingOf}
+use Rattle.codes.specs.Bridge.{codingOf}
 use Rattle.ledger.specs.Replay.{callsOf, replayed}
 use Rattle.jobs.specs.Slots.{entries}
 use Rattle.jobcodec.specs.JobRead.{JobRead, jobReadUnder}
 use Rattle.jobcodec.specs.DemandThree.{Claim}
 use Rattle.jobcodec.specs.Given.{seen}
-use Rattle.jobcodec.proofs.DemandThree.{follows-either}
+use Rattle.jobcodec.proofs.DemandThree.{follows-figures}
 use Rattle.jobcodec.proofs.Calls.{list-refused, list-goes-on}
 use Rattle.jobcodec.proofs.replay_and_read.Statement.{statement}
 use Rattle.jobcodec.proofs.replay_and_read.Tie as tie
@@ -53,7 +53,7 @@ returns-2 c =
       list-goes-on d (entries (a .table)) (a .letters .now) (a .numbers .now) (a .answers .now) (a .word .now) (a .payload .now)
           (replayed (r .result) answers) (r .ensures .0) (seen (j .result) (j .last .1 .1 .1 .0)) served read,
       λ before agrees. subst (Claim d before calls (a .word .now) (a .payload .now) answers) (sym read)
-          (follows-either (a .figures) before calls answers es (a .word .now) (a .payload .now) (r .ensures .1 before agrees served)),
+          (follows-figures (a .figures) before calls answers es (a .word .now) (a .payload .now) (r .ensures .1 before agrees served)),
     )
 
 pub replay-and-read-spec : {M : Type 1} → statement M

@@ -9,12 +9,12 @@ use Rattle.combinatorics.proofs.Lists.{at-below}
 use Rattle.cells.specs.Bytes.{byteValues, payloadLen}
 use Rattle.cells.specs.Outcomes.{unwritten, encodeUnder}
 use Rattle.cells.specs.Figures.{maxWord}
-use Rattle.params.specs.Given.{shortWord, codingIn}
-use Rattle.params.proofs.Either.{numbers-in}
+use Rattle.params.specs.Given.{shortWord}
+use Rattle.codes.specs.Given.{codingIn}
+use Rattle.codes.proofs.Layouts.{numbers-in, small-in}
 use Rattle.placements.specs.Bridge.{heldAs}
 use Rattle.jobs.specs.Slots.{entries}
 use Rattle.payloads.specs.Payload.{messageOf}
-use Rattle.jobcodec.proofs.Limits.{small-in}
 use Rattle.jobcodec.specs.Given.{PayloadFits}
 use Rattle.jobcodec.specs.JobWrite.{jobWriteUnder}
 use Rattle.jobcodec.proofs.Outcomes.{write-encodes}

@@ -5,15 +5,14 @@ use Prim.Native.Nat.{ℕ, _≤_}
 use native.Mathlib.Omega.{arith}
 use borrow.Author.Needs.{needs}
 use Rattle.cells.specs.Outcomes.{Encoded, encodeUnder}
-use Rattle.params.specs.Given.{codingIn}
-use Rattle.params.proofs.Either.{in-shape}
-use Rattle.params.proofs.Shape.{bound}
+use Rattle.codes.specs.Given.{codingIn}
+use Rattle.codes.proofs.Layouts.{bound}
 use Rattle.placements.specs.Bridge.{heldAs}
 use Rattle.jobcodec.proofs.write_message.Statement.{statement}
 use Rattle.jobcodec.proofs.write_message.Tie as tie
 
 few : (s : tie.Start) → (2 ≤ s .args .layout .q) × (s .args .layout .q ≤ 256)
-few s = let l = s .args .layout in let is = bound l (in-shape l (s .pre .serves)) in (is .q-least, is .q-most)
+few s = let l = s .args .layout in let is = bound l (s .pre .serves) in (is .q-least, is .q-most)
 
 byte-width-requires : tie.Need-byte-width-requires
 byte-width-requires c κs = few (c .before .before .before) .1

@@ -7,11 +7,9 @@ use borrow.Author.Needs.{needs}
 use borrow.Author.Tests.{not-true, not-false}
 use Rattle.cells.specs.Bytes.{payloadLen}
 use Rattle.cells.specs.Outcomes.{Coding, Held, Encoded}
-use Rattle.params.specs.Answer.{HasNumbers}
-use Rattle.params.specs.Given.{codingIn}
-use Rattle.params.specs.declared.Layout.{Layout}
-use Rattle.params.proofs.Either.{in-shape, numbers-in, apart-in}
-use Rattle.params.proofs.Shape.{bound, long}
+use Rattle.codes.specs.Given.{HasNumbers, codingIn}
+use Rattle.codes.specs.declared.WordLayout.{WordLayout}
+use Rattle.codes.proofs.Layouts.{numbers-in, apart-in, bound}
 use Rattle.placements.specs.Bridge.{heldAs, startsIn}
 use Rattle.jobs.specs.declared.Entry.{Entry}
 use Rattle.jobs.specs.Jobs.{isJob, needsOpen}
@@ -28,7 +26,7 @@ answer r = r .answer
 
 -- ---- What the contract lends
 
-abbrev l : tie.Start → Layout
+abbrev l : tie.Start → WordLayout
 l s = s .args .layout
 
 abbrev d : tie.Start → Coding
@@ -90,16 +88,16 @@ returns-4 c =
 
 cast-apart : tie.Need-cast-apart
 cast-apart c = let s = c .before .before .before .before .before .before .before .before .before .before .before in
-    omega (arith, bound (l s) (in-shape (l s) (s .pre .serves)) .n-most)
+    omega (arith, bound (l s) (s .pre .serves) .n-most)
 
 cast-apart-2 : tie.Need-cast-apart-2
 cast-apart-2 c =
     let s = c .before .before .before .before .before .before .before .before .before .before .before .before in
-    omega (arith, bound (l s) (in-shape (l s) (s .pre .serves)) .n-most, long (l s) (in-shape (l s) (s .pre .serves)))
+    omega (arith, bound (l s) (s .pre .serves) .n-most, bound (l s) (s .pre .serves) .long)
 
 apart-requires : tie.Need-apart-requires
 apart-requires c κs = let s = c .before .before .before .before .before .before .before .before .before .before .before .before in
-    omega (arith, c .before .before .before .before .before .if2 .left, bound (l s) (in-shape (l s) (s .pre .serves)) .m-most)
+    omega (arith, c .before .before .before .before .before .if2 .left, bound (l s) (s .pre .serves) .m-most)
 
 returns-5 : tie.Need-returns-5
 returns-5 c =

@@ -5,7 +5,7 @@ use Prim.Native.Nat.{ℕ}
 use native.Mathlib.Nat.{mul-comm}
 use Rattle.refusals.specs.Refusals.{served}
 use Rattle.cells.specs.Erasures.{foundBound}
-use Rattle.params.specs.Given.{codingIn}
+use Rattle.codes.specs.Given.{codingIn}
 use Rattle.lanes.specs.Interleaving.{deinterleaved}
 use Rattle.lanes.specs.Outcomes.{unfilled, rearranged}
 use Rattle.lanes.proofs.Outcomes.{passes, judged-refused, judged-passed, length-in, deinterleave-in}
@@ -34,7 +34,7 @@ returns c =
     let k = codingIn (s .args .layout) in
     judged-refused k (s .args .depth) (foundBound (s .args .layout .q)) (s .args .strip .now)
     (s .args .words .now) taken (c .before .judged .result) (told (c .before) taken) (c .if1 .taken)
-    ∙ sym (deinterleave-in (s .args .layout) (s .args .depth) (s .args .strip .now) (s .args .words .now))
+    ∙ sym (deinterleave-in (s .args .layout) (s .pre) (s .args .depth) (s .args .strip .now) (s .args .words .now))
 
 transpose-requires : tie.Need-transpose-requires
 transpose-requires c κs =
@@ -43,7 +43,7 @@ transpose-requires c κs =
     let k = codingIn (s .args .layout) in
     let p = judged-passed k (s .args .depth) (foundBound (s .args .layout .q))
     (s .args .strip .now) (s .args .words .now) taken (c .before .before .judged .result) (told (c .before .before) taken) (c .before .if1 .left) in
-    let swap = length-in (s .args .layout) (s .args .depth) ∙ mul-comm (s .args .depth) (s .args .layout .n) in
+    let swap = length-in (s .args .layout) (s .pre) (s .args .depth) ∙ mul-comm (s .args .depth) (s .args .layout .n) in
     (record { source = p .lent ∙ swap; room = p .room ∙ swap })
 
 same-length : tie.Need-same-length
@@ -61,7 +61,7 @@ returns-2 c =
     (s .args .words .now) taken
     (c .before .before .before .before .before .judged .result) (told (c .before .before .before .before .before) taken)
     (c .before .before .before .before .if1 .left)))
-    ∙ sym (deinterleave-in (s .args .layout) (s .args .depth) (s .args .strip .now) (s .args .words .now))
+    ∙ sym (deinterleave-in (s .args .layout) (s .pre) (s .args .depth) (s .args .strip .now) (s .args .words .now))
 
 pub deinterleave-fitting-spec : {M : Type 1} → statement M
 deinterleave-fitting-spec =

@@ -3,7 +3,7 @@ use mathlib.Core.Path.{refl, sym, ap, _∙_}
 use mathlib.Core.List.{List}
 use Prim.Native.Nat.{ℕ}
 use Rattle.refusals.specs.Refusals.{served}
-use Rattle.params.specs.Given.{codingIn}
+use Rattle.codes.specs.Given.{codingIn}
 use Rattle.lanes.specs.Interleaving.{interleaved}
 use Rattle.lanes.specs.Outcomes.{unfilled}
 use Rattle.lanes.proofs.Outcomes.{passes, judged-refused, judged-passed, length-in, interleave-in}
@@ -22,7 +22,7 @@ returns c =
     let told = c .before .judged .ensures (s .args .strip .now) laid refl in
     judged-refused k (s .args .depth) (s .args .layout .q) (s .args .words .now) (s .args .strip .now)
     laid (c .before .judged .result) told (c .if1 .taken)
-    ∙ sym (interleave-in (s .args .layout) (s .args .depth) (s .args .words .now) (s .args .strip .now))
+    ∙ sym (interleave-in (s .args .layout) (s .pre) (s .args .depth) (s .args .words .now) (s .args .strip .now))
 
 transpose-requires : tie.Need-transpose-requires
 transpose-requires c κs =
@@ -32,7 +32,7 @@ transpose-requires c κs =
     let told = c .before .before .judged .ensures (s .args .strip .now) laid refl in
     let p = judged-passed k (s .args .depth) (s .args .layout .q)
     (s .args .words .now) (s .args .strip .now) laid (c .before .before .judged .result) told (c .before .if1 .left) in
-    let own = length-in (s .args .layout) (s .args .depth) in
+    let own = length-in (s .args .layout) (s .pre) (s .args .depth) in
     (record { source = p .lent ∙ own; room = p .room ∙ own })
 
 same-length : tie.Need-same-length
@@ -50,7 +50,7 @@ returns-2 c =
     (judged-passed k (s .args .depth) (s .args .layout .q) (s .args .words .now) (s .args .strip .now)
     laid (c .before .before .before .before .before .judged .result) told
     (c .before .before .before .before .if1 .left)))
-    ∙ sym (interleave-in (s .args .layout) (s .args .depth) (s .args .words .now) (s .args .strip .now))
+    ∙ sym (interleave-in (s .args .layout) (s .pre) (s .args .depth) (s .args .words .now) (s .args .strip .now))
 
 pub interleave-fitting-spec : {M : Type 1} → statement M
 interleave-fitting-spec =

@@ -4,9 +4,8 @@ use mathlib.Core.Bool.{true}
 use native.Mathlib.Nat.{mul-le-mul-right}
 use native.Mathlib.Omega.{arith}
 use borrow.Author.Tests.{not-true, not-false}
-use Rattle.params.specs.Given.{codingIn}
-use Rattle.params.proofs.Either.{in-shape, in-order, numbers-in}
-use Rattle.params.proofs.Shape.{bound}
+use Rattle.codes.specs.Given.{codingIn}
+use Rattle.codes.proofs.Layouts.{in-order, numbers-in, bound}
 use Rattle.lanes.proofs.Outcomes.{too-few, too-many, words-length, room-length, symbol-refused, nothing-refused}
 use borrow.Author.Needs.{needs}
 use Rattle.lanes.proofs.judged.Statement.{statement}
@@ -35,7 +34,7 @@ mul-len c =
     let s = c .before .before .before .before in
     omega (
       arith,
-      bound (s .args .layout) (in-shape (s .args .layout) (s .pre)) .n-most,
+      bound (s .args .layout) (s .pre) .n-most,
       mul-le-mul-right {m = s .args .depth} {n = 16} (s .args .layout .n)
           (omega arith),
     )

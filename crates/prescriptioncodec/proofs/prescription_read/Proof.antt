@@ -1,8 +1,8 @@
 -- `prescription_read` meets its contract. Assumes nothing.
 use mathlib.Core.Path.{sym, ap, _∙_}
 use borrow.Author.Needs.{needs}
-use Rattle.params.specs.Bridge.{codingOf}
-use Rattle.params.specs.Answer.{figuredAs}
+use Rattle.codes.specs.Bridge.{codingOf}
+use Rattle.codes.specs.Answer.{figuredAs}
 use Rattle.jobs.specs.Slots.{entries}
 use Rattle.jobcodec.proofs.Calls.{LaidFor, laid}
 use Rattle.cells.specs.Outcomes.{Coding}

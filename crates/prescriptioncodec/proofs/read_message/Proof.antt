@@ -3,7 +3,7 @@ use mathlib.Core.Path.{_≡_, sym, ap, _∙_}
 use borrow.Author.Needs.{needs}
 use lib.ListN.{length}
 use Rattle.construction_a.specs.Figures.{messageLen}
-use Rattle.params.specs.Given.{codingIn}
+use Rattle.codes.specs.Given.{codingIn}
 use Rattle.jobs.specs.Slots.{entries}
 use Rattle.decoder.specs.Answer.{answerAs}
 use Rattle.jobcodec.proofs.Outcomes.{holding}

@@ -8,11 +8,10 @@ use lib.ListN.{length, take, replicate}
 use Rattle.cells.specs.Bytes.{payloadLen}
 use Rattle.cells.specs.Outcomes.{Coding}
 use Rattle.cells.specs.Figures.{maxWord}
-use Rattle.params.specs.Answer.{HasNumbers}
-use Rattle.params.specs.Given.{shortWord, codingIn}
-use Rattle.params.specs.declared.Layout.{Layout}
-use Rattle.params.proofs.Either.{in-shape, numbers-in, apart-in}
-use Rattle.params.proofs.Shape.{bound, long}
+use Rattle.codes.specs.Given.{HasNumbers, codingIn}
+use Rattle.params.specs.Given.{shortWord}
+use Rattle.codes.specs.declared.WordLayout.{WordLayout}
+use Rattle.codes.proofs.Layouts.{numbers-in, apart-in, bound}
 use Rattle.placements.specs.Bridge.{heldAs, startsIn}
 use Rattle.jobs.specs.Slots.{entries}
 use Rattle.jobcodec.specs.Given.{ReadyUnder}
@@ -24,7 +23,7 @@ use Rattle.prescriptioncodec.proofs.Payload.{payload-within, lent-is}
 use Rattle.prescriptioncodec.proofs.write_laid.Statement.{statement}
 use Rattle.prescriptioncodec.proofs.write_laid.Tie as tie
 
-abbrev l : tie.Start → Layout
+abbrev l : tie.Start → WordLayout
 l s = s .args .layout
 
 abbrev d : tie.Start → Coding
@@ -105,16 +104,16 @@ returns-3 c =
 
 cast-apart : tie.Need-cast-apart
 cast-apart c = let s = c .before .before .before .before .before .before .before .before .before in
-    omega (arith, bound (l s) (in-shape (l s) (s .pre .serves)) .n-most)
+    omega (arith, bound (l s) (s .pre .serves) .n-most)
 
 cast-apart-2 : tie.Need-cast-apart-2
 cast-apart-2 c =
     let s = c .before .before .before .before .before .before .before .before .before .before in
-    omega (arith, bound (l s) (in-shape (l s) (s .pre .serves)) .n-most, long (l s) (in-shape (l s) (s .pre .serves)))
+    omega (arith, bound (l s) (s .pre .serves) .n-most, bound (l s) (s .pre .serves) .long)
 
 apart-requires : tie.Need-apart-requires
 apart-requires c κs = let s = c .before .before .before .before .before .before .before .before .before .before in
-    omega (arith, c .before .before .before .before .if2 .left, bound (l s) (in-shape (l s) (s .pre .serves)) .m-most)
+    omega (arith, c .before .before .before .before .if2 .left, bound (l s) (s .pre .serves) .m-most)
 
 returns-4 : tie.Need-returns-4
 returns-4 c =

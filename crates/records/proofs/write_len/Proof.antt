@@ -2,8 +2,8 @@
 use mathlib.Core.Path.{sym, ap, _∙_}
 use native.Mathlib.Omega.{arith}
 use borrow.Author.Needs.{needs}
-use Rattle.params.specs.declared.Layout.{Layout}
-use Rattle.params.specs.declared.Figures.{Figures}
+use Rattle.codes.specs.declared.WordLayout.{WordLayout}
+use Rattle.codes.specs.declared.Figures.{Figures}
 use Rattle.records.specs.Records.{writeLen}
 use Rattle.records.specs.Bridge.{lastFigures, orZero, IsCurrent}
 use Rattle.records.proofs.Lengths.{current-laid, current-none, bursts-few, alphabet-few, payload-short, write-len-is}
@@ -25,7 +25,7 @@ returns c =
 abbrev figures : tie.After-struct-known → Figures
 figures c = c .before .before .current .given .0 .0
 
-abbrev layout : tie.After-struct-known → Layout
+abbrev layout : tie.After-struct-known → WordLayout
 layout c = c .before .before .current .given .0 .1 .0
 
 is-current : (c : tie.After-struct-known) → IsCurrent (lastFigures (c .before .before .before .before .args .figures)) (figures c) (layout c)

@@ -6,7 +6,7 @@ use borrow.Author.Needs.{needs}
 use lib.ListN.{length}
 use Rattle.combinatorics.specs.Bursts.{inBurst}
 use Rattle.cells.specs.Outcomes.{decodeUnder}
-use Rattle.params.specs.Bridge.{codingOf}
+use Rattle.codes.specs.Bridge.{codingOf}
 use Rattle.placements.specs.Bridge.{heldAs, startsIn}
 use Rattle.roundtrip.specs.Damage.{damaged}
 use Rattle.roundtrip.proofs.ReadBack.{is-written, few-bursts, written-len, reads-back}

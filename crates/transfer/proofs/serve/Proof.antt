@@ -6,8 +6,8 @@ use native.Mathlib.Omega.{arith}
 use borrow.Author.Needs.{needs}
 use lib.ListN.{length, length-drop}
 use Rattle.cells.specs.Outcomes.{figuresUnder}
-use Rattle.params.specs.Bridge.{codingOf}
-use Rattle.params.specs.declared.Figures.{Figures}
+use Rattle.codes.specs.Bridge.{codingOf}
+use Rattle.codes.specs.declared.Figures.{Figures}
 use Rattle.jobs.specs.Letters.{kindOf, callBy}
 use Rattle.payloads.specs.Payload.{jobNumber}
 use Rattle.records.specs.Records.{recordHeadLen, letterOf, recordLen, isWhole}

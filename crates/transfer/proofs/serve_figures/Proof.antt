@@ -4,8 +4,8 @@ use mathlib.Core.List.{[], _∷_}
 use mathlib.Core.Option.{some}
 use borrow.Author.Needs.{needs}
 use Rattle.cells.specs.Outcomes.{FiguresOut, figured, figuresUnder}
-use Rattle.params.specs.Answer.{figuredAs}
-use Rattle.params.specs.Bridge.{codingOf}
+use Rattle.codes.specs.Answer.{figuredAs}
+use Rattle.codes.specs.Bridge.{codingOf}
 use Rattle.text.specs.Text.{decimal}
 use Rattle.records.specs.Session.{nextSession}
 use Rattle.lines.specs.Lines.{refusalLine, servedLine}

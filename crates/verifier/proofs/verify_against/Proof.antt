@@ -3,52 +3,52 @@ use mathlib.Core.Path.{_≡_, sym, ap, _∙_}
 use mathlib.Core.Bool.{Bool, true, false, cond}
 use mathlib.Core.List.{List}
 use Prim.Native.Nat.{ℕ}
+use native.Mathlib.Omega.{arith}
 use borrow.Author.Needs.{needs}
 use borrow.Author.Tests.{not-true, not-false}
 use lib.ListN.{length}
 use Rattle.refusals.specs.Refusals.{must, badSymbol}
 use Rattle.combinatorics.specs.Bursts.{covers}
 use Rattle.combinatorics.specs.Lists.{allBelow}
-use Rattle.cells.specs.Erasures.{foundBound}
-use Rattle.construction_a.specs.DemandTwo.{constructionA}
-use Rattle.cells.specs.Figures.{Params}
-use Rattle.construction_a.specs.Outcomes.{Held, inUse, encodeOut}
-use Rattle.construction_a.specs.Writing.{word}
-use Rattle.params.specs.Bridge.{given}
+use Rattle.cells.specs.Outcomes.{Coding}
 use Rattle.placements.specs.Bridge.{heldAs, startsIn, differAt}
-use Rattle.verifier.specs.Verify.{agreesOutside, Verdict, agreeing, differing, unchecked, verifyOut}
-use Rattle.verifier.proofs.Calls.{Wrote, verify-refused, verify-passed, word-length, agreement}
+use Rattle.codes.specs.declared.WordLayout.{WordLayout}
+use Rattle.codes.specs.Given.{codingIn}
+use Rattle.codes.proofs.Layouts.{numbers-in, small-in, bound, found-in, spoilt-in}
+use Rattle.verifier.specs.Verify.{agreesOutside, Verdict, agreeing, differing, unchecked, verifyUnder}
+use Rattle.verifier.proofs.Calls.{Wrote, verify-refused, verify-passed, agreement}
 use Rattle.verifier.proofs.verify_against.Statement.{statement}
 use Rattle.verifier.proofs.verify_against.Tie as tie
 
-abbrev f : tie.Start → Params
-f s = given (s .args .figures)
+abbrev l : tie.Start → WordLayout
+l s = s .args .layout
+
+abbrev d : tie.Start → Coding
+d s = codingIn (s .args .layout)
 
 -- writing was refused nothing
-wrote : (c : tie.Else1) → Wrote (f (c .before .before .before .before .before .before .before .before))
+wrote : (c : tie.Else1) → Wrote (d (c .before .before .before .before .before .before .before .before))
     (heldAs (c .before .before .before .before .before .before .before .before .args .at))
     (c .before .before .before .before .before .before .before .before .args .message .now)
     (c .before .before .before .before .before .before .before .before .args .word .now)
     (c .before .before .before .before .before .before .before .before .args .expected .now)
-unfolding encodeOut
 wrote c =
     let s = c .before .before .before .before .before .before .before .before in
-    verify-passed (f s) (heldAs (s .args .at)) (s .args .message .now) (s .args .word .now) (s .args .expected .now) (s .pre .room ∙ sym (s .pre .complete))
-    (sym (c .before .before .before .encode .ensures .0) ∙ c .if1 .left)
+    verify-passed (d s) (heldAs (s .args .at)) (s .args .message .now) (s .args .word .now) (s .args .expected .now) (s .pre .room ∙ sym (s .pre .complete))
+    (sym (c .before .before .before .encode-fitting .ensures .0) ∙ c .if1 .left)
 
-encode-requires : tie.Need-encode-requires
-encode-requires c κs = search needs
+encode-fitting-requires : tie.Need-encode-fitting-requires
+encode-fitting-requires c κs = search needs
 
 same-length : tie.Need-same-length
 same-length c = search needs
 
 returns : tie.Need-returns
-unfolding encodeOut
 returns c =
     let s = c .before .before .before .before .before .before .before .before in
-    let e = c .before .before .before .encode .ensures .0 in
+    let e = c .before .before .before .encode-fitting .ensures .0 in
     ap unchecked e
-    ∙ sym (verify-refused (f s) (heldAs (s .args .at)) (s .args .message .now) (s .args .word .now) (s .args .expected .now)
+    ∙ sym (verify-refused (d s) (heldAs (s .args .at)) (s .args .message .now) (s .args .word .now) (s .args .expected .now)
     (s .pre .room ∙ sym (s .pre .complete))
     (λ d. c .if1 .taken (e ∙ d)))
 
@@ -63,56 +63,60 @@ same-length-2 c = search needs
 
 -- the test of the word's symbols
 symbols-are : (c : tie.After-all-below) → c .all-below .result ≡ allBelow
-    (foundBound (f (c .before .before .before .before .before .before .before .before .before .before) .q))
+    (d (c .before .before .before .before .before .before .before .before .before .before) .codec .foundBound)
     (c .before .before .before .before .before .before .before .before .before .before .args .word .now)
 symbols-are c =
     let s = c .before .before .before .before .before .before .before .before .before .before in
     c .all-below .ensures
-    ∙ ap (λ (n : ℕ). allBelow n (s .args .word .now)) (c .before .found-bound .ensures ∙ ap (λ (g : Params). foundBound (g .q)) (s .pre .laid .same))
+    ∙ ap (λ (n : ℕ). allBelow n (s .args .word .now)) (c .before .found-bound .ensures ∙ sym (found-in (l s) (s .pre .serves)))
 
 returns-2 : tie.Need-returns-2
 returns-2 c =
     let s = c .before .before .before .before .before .before .before .before .before .before .before in
     sym (wrote (c .before .before .before) .rest
-    ∙ ap (λ (t : Bool). must t (unchecked badSymbol) (cond (agreesOutside (constructionA (f s)) (s .args .word .now) (startsIn (s .args .at))
+    ∙ ap (λ (t : Bool). must t (unchecked badSymbol) (cond (agreesOutside (d s .codec) (s .args .word .now) (startsIn (s .args .at))
     (s .args .message .now)) agreeing differing))
     (sym (symbols-are (c .before)) ∙ not-true _ (c .if2 .taken)))
 
+cast-cover-differences : tie.Need-cast-cover-differences
+cast-cover-differences c =
+    let s = c .before .before .before .before .before .before .before .before .before .before .before .before in
+    omega (arith, bound (l s) (s .pre .serves))
+
 cover-differences-requires : tie.Need-cover-differences-requires
-unfolding encodeOut
 cover-differences-requires c κs =
-    let s = c .before .before .before .before .before .before .before .before .before .before .before .before in (
-      wrote (c .before .before .before .before) .few,
-      ap length (c .before .before .before .before .before .before .before .encode .ensures .1
-          ∙ wrote (c .before .before .before .before) .word-is) ∙ word-length (f s) (startsIn (s .args .at)) (s .args .message .now)
-          ∙ ap (λ (g : Params). g .n) (sym (s .pre .laid .same)) ∙ sym (s .pre .complete),
-    )
+    let s = c .before .before .before .before .before .before .before .before .before .before .before .before .before in
+    let few = small-in (l s) (s .pre .serves) in
+    let same : length (c .before .before .before .before .before .before .before .before .encode-fitting .last .1 .1 .1 .0) ≡ length (s .args .expected .now) =
+    search needs in
+    (omega (arith, wrote (c .before .before .before .before .before) .count, few .bursts-most), same ∙ s .pre .room ∙ sym (s .pre .complete))
 
 same-length-3 : tie.Need-same-length-3
 same-length-3 c = search needs
 
 -- the verdict is that of the differences
 judged : (c : tie.After-cover-differences) (b : Bool) → c .cover-differences .result ≡ b
-    → verifyOut (f (c .before .before .before .before .before .before .before .before .before .before .before .before .before))
-    (heldAs (c .before .before .before .before .before .before .before .before .before .before .before .before .before .args .at))
-    (c .before .before .before .before .before .before .before .before .before .before .before .before .before .args .message .now)
-    (c .before .before .before .before .before .before .before .before .before .before .before .before .before .args .word .now) ≡ cond b agreeing differing
-unfolding encodeOut
+    → verifyUnder (d (c .before .before .before .before .before .before .before .before .before .before .before .before .before .before))
+    (heldAs (c .before .before .before .before .before .before .before .before .before .before .before .before .before .before .args .at))
+    (c .before .before .before .before .before .before .before .before .before .before .before .before .before .before .args .message .now)
+    (c .before .before .before .before .before .before .before .before .before .before .before .before .before .before .args .word .now)
+    ≡ cond b agreeing differing
 judged c b e =
-    let s = c .before .before .before .before .before .before .before .before .before .before .before .before .before in
+    let s = c .before .before .before .before .before .before .before .before .before .before .before .before .before .before in
     let w = s .args .word .now in
     let ss = startsIn (s .args .at) in
     let ms = s .args .message .now in
-    let held = wrote (c .before .before .before .before .before) in
-    let n-is : length w ≡ f s .n = s .pre .complete ∙ ap (λ (g : Params). g .n) (s .pre .laid .same) in
-    let agrees : agreesOutside (constructionA (f s)) w ss ms ≡ b =
-    sym (agreement (f s) w ss ms) ∙ ap (λ (n : ℕ). covers n (f s .b) (differAt w (word (f s) ss ms)) ss) (sym n-is)
-    ∙ ap (λ (v : List ℕ). covers (length w) (f s .b) (differAt w v) ss)
-    (sym (c .before .before .before .before .before .before .before .before .encode .ensures .1 ∙ held .word-is))
+    let held = wrote (c .before .before .before .before .before .before) in
+    let n-is : length w ≡ d s .codec .wordLen = s .pre .complete ∙ numbers-in (l s) (s .pre .serves) .word-is in
+    let agrees : agreesOutside (d s .codec) w ss ms ≡ b =
+    sym (agreement (d s .codec) (l s .b) (spoilt-in (l s) (s .pre .serves)) w ss ms)
+    ∙ ap (λ (n : ℕ). covers n (l s .b) (differAt w (d s .codec .encode ss ms)) ss) (sym n-is)
+    ∙ ap (λ (v : List ℕ). covers (length w) (l s .b) (differAt w v) ss)
+    (sym (c .before .before .before .before .before .before .before .before .before .encode-fitting .ensures .1 ∙ held .word-is))
     ∙ sym (c .cover-differences .ensures) ∙ e in
     held .rest
-    ∙ ap (λ (t : Bool). must t (unchecked badSymbol) (cond (agreesOutside (constructionA (f s)) w ss ms) agreeing differing))
-    (sym (symbols-are (c .before .before .before)) ∙ not-false _ (c .before .before .if2 .left))
+    ∙ ap (λ (t : Bool). must t (unchecked badSymbol) (cond (agreesOutside (d s .codec) w ss ms) agreeing differing))
+    (sym (symbols-are (c .before .before .before .before)) ∙ not-false _ (c .before .before .before .if2 .left))
     ∙ ap (λ (t : Bool). cond t agreeing differing) agrees
 
 returns-3 : tie.Need-returns-3
@@ -128,5 +132,5 @@ pub verify-against-spec : {M : Type 1} → statement M
 verify-against-spec =
     tie.close
     (tie.spec
-    encode-requires same-length returns found-bound-requires all-below-requires same-length-2 returns-2 cover-differences-requires
-    same-length-3 returns-3 same-length-4 returns-4)
+    encode-fitting-requires same-length returns found-bound-requires all-below-requires same-length-2 returns-2 cast-cover-differences
+    cover-differences-requires same-length-3 returns-3 same-length-4 returns-4)

@@ -3,7 +3,7 @@ use mathlib.Core.Path.{sym, ap, _∙_}
 use mathlib.Core.List.{List}
 use borrow.Author.Needs.{needs}
 use borrow.Author.Tests.{not-true, not-false}
-use Rattle.params.specs.Bridge.{codingOf}
+use Rattle.codes.specs.Bridge.{codingOf}
 use Rattle.jobs.specs.declared.Entry.{Entry}
 use Rattle.jobs.specs.Slots.{entries}
 use Rattle.jobcodec.specs.JobRead.{withhold, jobReadUnder}

@@ -3,7 +3,7 @@ use mathlib.Core.Path.{sym, ap, ap₂, _∙_}
 use mathlib.Core.List.{List}
 use borrow.Author.Needs.{needs}
 use borrow.Author.Tests.{not-true, not-false}
-use Rattle.params.specs.Bridge.{codingOf}
+use Rattle.codes.specs.Bridge.{codingOf}
 use Rattle.cells.specs.Outcomes.{Held, unwritten}
 use Rattle.placements.specs.Bridge.{heldAs}
 use Rattle.jobs.specs.declared.Entry.{Entry}

@@ -2,9 +2,9 @@
 use mathlib.Core.Path.{sym, ap, _∙_}
 use borrow.Author.Needs.{needs}
 use Rattle.cells.specs.Outcomes.{Coding}
-use Rattle.params.specs.Answer.{figuredAs}
-use Rattle.params.specs.Bridge.{codingOf}
-use Rattle.params.proofs.Either.{ServesAs, serves}
+use Rattle.codes.specs.Answer.{figuredAs, ServesAs}
+use Rattle.codes.specs.Bridge.{codingOf}
+use Rattle.codes.proofs.Answered.{serves}
 use Rattle.lent.specs.Covering.{coverBytesUnder}
 use Rattle.lent.proofs.Covering.{cover-bytes-unfit}
 use Rattle.lent.proofs.starts.cover_bytes.Statement.{statement}

@@ -3,16 +3,16 @@ use mathlib.Core.Path.{_≡_, sym, ap, _∙_}
 use Prim.Native.Nat.{ℕ, _*_}
 use native.Mathlib.Omega.{arith}
 use borrow.Author.Needs.{needs}
-use Rattle.params.specs.Given.{codingIn}
-use Rattle.params.specs.declared.Layout.{Layout}
-use Rattle.params.proofs.Either.{in-order, numbers-in}
+use Rattle.codes.specs.Given.{codingIn}
+use Rattle.codes.specs.declared.WordLayout.{WordLayout}
+use Rattle.codes.proofs.Layouts.{in-order, numbers-in}
 use Rattle.placements.specs.Bridge.{coveredAs}
-use Rattle.placements.proofs.Calls.{room-in, covers-within}
+use Rattle.codes.proofs.Covering.{room-in, covers-within}
 use Rattle.lent.proofs.Covering.{cover-bytes-length, cover-bytes-put, cover-fits}
 use Rattle.lent.proofs.starts.cover_laid.Statement.{statement}
 use Rattle.lent.proofs.starts.cover_laid.Tie as tie
 
-abbrev l : tie.Start → Layout
+abbrev l : tie.Start → WordLayout
 l s = s .args .layout
 
 -- m of the code is the layout's

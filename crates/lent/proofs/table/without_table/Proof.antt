@@ -5,9 +5,11 @@ use native.Mathlib.Omega.{arith}
 use borrow.Author.Needs.{needs}
 use Rattle.cells.specs.Bytes.{payloadLen}
 use Rattle.cells.specs.Outcomes.{Coding}
-use Rattle.params.specs.Answer.{figuredAs, HasNumbers, Small}
-use Rattle.params.specs.Bridge.{codingOf}
-use Rattle.params.proofs.Either.{laid-learnt}
+use Rattle.codes.specs.Answer.{figuredAs}
+use Rattle.codes.specs.Given.{HasNumbers}
+use Rattle.params.specs.Answer.{Small}
+use Rattle.codes.specs.Bridge.{codingOf}
+use Rattle.codes.proofs.Answered.{laid-learnt}
 use Rattle.lent.proofs.WithTable.{without-unfit, without-payload, without-length}
 use Rattle.lent.proofs.table.without_table.Statement.{statement}
 use Rattle.lent.proofs.table.without_table.Tie as tie

@@ -2,11 +2,11 @@
 use mathlib.Core.Path.{_≡_, sym, ap, _∙_}
 use borrow.Author.Needs.{needs}
 use Rattle.cells.specs.Outcomes.{Coding}
-use Rattle.params.specs.Answer.{figuredAs}
-use Rattle.params.specs.Bridge.{codingOf}
-use Rattle.params.specs.Given.{codingIn, Serves}
-use Rattle.params.specs.declared.Figures.{Figures}
-use Rattle.params.proofs.Either.{serves}
+use Rattle.codes.specs.Answer.{figuredAs}
+use Rattle.codes.specs.Bridge.{codingOf}
+use Rattle.codes.specs.Given.{codingIn, Serves}
+use Rattle.codes.specs.declared.Figures.{Figures}
+use Rattle.codes.proofs.Answered.{serves}
 use Rattle.decoder.specs.Exported.{exportedUnder}
 use Rattle.decoder.proofs.Bytes.{exported-unfit}
 use Rattle.lent.proofs.words.decode.Statement.{statement}
@@ -31,8 +31,8 @@ enum-known-answer c = search needs
 enum-known-answer-2 : tie.Need-enum-known-answer-2
 enum-known-answer-2 c = search needs
 
-decode-bytes-requires : tie.Need-decode-bytes-requires
-decode-bytes-requires c κs = learnt (c .before .before .before) .1
+decode-laid-requires : tie.Need-decode-laid-requires
+decode-laid-requires c κs = learnt (c .before .before .before) .1
 
 returns : tie.Need-returns
 returns c =
@@ -51,11 +51,11 @@ same-length-2 c = search needs
 returns-2 : tie.Need-returns-2
 returns-2 c =
     let s = c .before .before .before .before .before .before .before .before .before .before .before .before .before .before in
-    c .before .before .before .before .decode-bytes .ensures ∙ ap (λ (d : Coding). exportedUnder d (s .args .word .now) (s .args .message .now)
+    c .before .before .before .before .decode-laid .ensures ∙ ap (λ (d : Coding). exportedUnder d (s .args .word .now) (s .args .message .now)
     (s .args .starts .now)) (learnt (c .before .before .before .before .before .before .before .before) .0)
 
 pub decode-spec : {M : Type 1} → statement M
 decode-spec =
     tie.close
     (tie.spec
-    layout-requires enum-known-answer enum-known-answer-2 decode-bytes-requires returns same-length same-length-2 returns-2)
+    layout-requires enum-known-answer enum-known-answer-2 decode-laid-requires returns same-length same-length-2 returns-2)

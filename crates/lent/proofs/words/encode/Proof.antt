@@ -2,11 +2,11 @@
 use mathlib.Core.Path.{_≡_, sym, ap, _∙_}
 use borrow.Author.Needs.{needs}
 use Rattle.cells.specs.Outcomes.{Coding}
-use Rattle.params.specs.Answer.{figuredAs}
-use Rattle.params.specs.Bridge.{codingOf}
-use Rattle.params.specs.Given.{codingIn, Serves}
-use Rattle.params.specs.declared.Figures.{Figures}
-use Rattle.params.proofs.Either.{serves}
+use Rattle.codes.specs.Answer.{figuredAs}
+use Rattle.codes.specs.Bridge.{codingOf}
+use Rattle.codes.specs.Given.{codingIn, Serves}
+use Rattle.codes.specs.declared.Figures.{Figures}
+use Rattle.codes.proofs.Answered.{serves}
 use Rattle.lent.specs.Words.{encodeBytesUnder}
 use Rattle.lent.proofs.WordLaws.{encode-unfit}
 use Rattle.lent.proofs.words.encode.Statement.{statement}

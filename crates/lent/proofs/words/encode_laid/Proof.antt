@@ -4,18 +4,18 @@ use Prim.Native.Nat.{ℕ, _*_}
 use native.Mathlib.Omega.{arith}
 use borrow.Author.Needs.{needs}
 use Rattle.cells.specs.Outcomes.{Held, held, encodeUnder}
-use Rattle.params.specs.Given.{codingIn}
-use Rattle.params.specs.declared.Layout.{Layout}
-use Rattle.params.proofs.Either.{in-order, numbers-in}
+use Rattle.codes.specs.Given.{codingIn}
+use Rattle.codes.specs.declared.WordLayout.{WordLayout}
+use Rattle.codes.proofs.Layouts.{in-order, numbers-in}
 use Rattle.placements.specs.Bridge.{heldAs}
-use Rattle.placements.proofs.Calls.{room-in}
+use Rattle.codes.proofs.Covering.{room-in}
 use Rattle.lent.proofs.StartLaws.{starts-read}
 use Rattle.lent.proofs.WithTable.{all-told}
 use Rattle.lent.proofs.WordLaws.{encode-length, encode-placed}
 use Rattle.lent.proofs.words.encode_laid.Statement.{statement}
 use Rattle.lent.proofs.words.encode_laid.Tie as tie
 
-abbrev l : tie.Start → Layout
+abbrev l : tie.Start → WordLayout
 l s = s .args .layout
 
 -- m of the code is the layout's

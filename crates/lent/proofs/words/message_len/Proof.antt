@@ -2,8 +2,8 @@
 use mathlib.Core.Path.{sym, ap, _∙_}
 use native.Mathlib.Omega.{arith}
 use borrow.Author.Needs.{needs}
-use Rattle.params.specs.Answer.{figuredAs}
-use Rattle.params.proofs.Either.{laid-learnt}
+use Rattle.codes.specs.Answer.{figuredAs}
+use Rattle.codes.proofs.Answered.{laid-learnt}
 use Rattle.decoder.specs.Exported.{lengthIn}
 use Rattle.lent.specs.Words.{messageLenUnder}
 use Rattle.lent.proofs.words.message_len.Statement.{statement}

@@ -5,10 +5,12 @@ use Prim.Native.Nat.{ℕ}
 use native.Mathlib.Omega.{arith}
 use borrow.Author.Needs.{needs}
 use Rattle.cells.specs.Bytes.{payloadLen}
-use Rattle.params.specs.Answer.{figuredAs, HasNumbers, Small}
-use Rattle.params.specs.Bridge.{codingOf}
-use Rattle.params.specs.declared.Figures.{Figures}
-use Rattle.params.proofs.Either.{laid-learnt}
+use Rattle.codes.specs.Answer.{figuredAs}
+use Rattle.codes.specs.Given.{HasNumbers}
+use Rattle.params.specs.Answer.{Small}
+use Rattle.codes.specs.Bridge.{codingOf}
+use Rattle.codes.specs.declared.Figures.{Figures}
+use Rattle.codes.proofs.Answered.{laid-learnt}
 use Rattle.lent.specs.Words.{payloadLenIn, payloadLenUnder}
 use Rattle.lent.proofs.WordLaws.{payload-short}
 use Rattle.lent.proofs.words.payload_len.Statement.{statement}

@@ -4,7 +4,7 @@ use mathlib.Core.List.{List}
 use Prim.Native.Nat.{ℕ}
 use lib.Ieee.{Float}
 use Rattle.refusals.specs.Refusals.{served}
-use Rattle.params.specs.Bridge.{codingOf}
+use Rattle.codes.specs.Bridge.{codingOf}
 use Rattle.jobs.specs.Slots.{entries}
 use Rattle.prescriptioncodec.specs.PrescriptionRead.{readAnswered}
 use Rattle.lent_prescriptions.specs.Eyes.{powersLent}

@@ -1,6 +1,6 @@
 -- `without_room` meets its contract: 1 for a table with a number twice, or what is refused without a table. Assumes nothing.
 use mathlib.Core.Path.{sym, _∙_}
-use Rattle.params.specs.Bridge.{codingOf}
+use Rattle.codes.specs.Bridge.{codingOf}
 use Rattle.jobs.specs.Slots.{entries}
 use Rattle.lent_prescriptions.proofs.PrescriptionLaws.{room-twice, room-once}
 use borrow.Author.Needs.{needs}

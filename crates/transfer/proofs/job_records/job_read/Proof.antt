@@ -1,7 +1,7 @@
 -- `job_read` meets its contract: 1 for a number twice, or the payload by the layout. Assumes nothing.
 use mathlib.Core.Path.{sym, _∙_}
 use borrow.Author.Needs.{needs}
-use Rattle.params.specs.Given.{codingIn}
+use Rattle.codes.specs.Given.{codingIn}
 use Rattle.jobs.specs.Slots.{entries}
 use Rattle.jobcodec.proofs.Calls.{read-twice}
 use Rattle.transfer.proofs.job_records.job_read.Statement.{statement}

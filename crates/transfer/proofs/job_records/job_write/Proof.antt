@@ -1,7 +1,7 @@
 -- `job_write` meets its contract: 1 for a number twice, or the word by the layout. Assumes nothing.
 use mathlib.Core.Path.{sym, _∙_}
 use borrow.Author.Needs.{needs}
-use Rattle.params.specs.Given.{codingIn}
+use Rattle.codes.specs.Given.{codingIn}
 use Rattle.placements.specs.Bridge.{heldAs}
 use Rattle.jobs.specs.Slots.{entries}
 use Rattle.jobcodec.proofs.Calls.{write-twice}

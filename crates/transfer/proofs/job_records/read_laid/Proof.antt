@@ -8,8 +8,9 @@ use lib.ListN.{length, take, drop, replicate, length-replicate}
 use lib.Seq.{length-take-le}
 use Rattle.cells.specs.Bytes.{payloadLen}
 use Rattle.cells.specs.Figures.{maxWord}
-use Rattle.params.specs.Bridge.{codingOf}
-use Rattle.params.specs.Given.{codingIn, shortWord}
+use Rattle.codes.specs.Bridge.{codingOf}
+use Rattle.codes.specs.Given.{codingIn}
+use Rattle.params.specs.Given.{shortWord}
 use Rattle.jobs.specs.Slots.{entries}
 use Rattle.jobcodec.specs.JobRead.{jobReadUnder}
 use Rattle.records.specs.Records.{recordHeadLen, payloadLenOf}

@@ -2,7 +2,7 @@
 use mathlib.Core.Path.{sym, subst}
 use mathlib.Core.Option.{Option}
 use borrow.Author.Needs.{needs}
-use Rattle.params.specs.declared.Figures.{Figures}
+use Rattle.codes.specs.declared.Figures.{Figures}
 use Rattle.transfer.specs.Steps.{readOut}
 use Rattle.records.specs.Session.{nextSession}
 use Rattle.records.specs.Bridge.{lastFigures, sessionOf}

@@ -9,8 +9,9 @@ use lib.Seq.{length-take-le}
 use Rattle.cells.specs.Figures.{maxWord}
 use Rattle.combinatorics.specs.Stretch.{tabulate}
 use Rattle.cells.specs.Outcomes.{held}
-use Rattle.params.specs.Bridge.{codingOf}
-use Rattle.params.specs.Given.{codingIn, shortWord}
+use Rattle.codes.specs.Bridge.{codingOf}
+use Rattle.codes.specs.Given.{codingIn}
+use Rattle.params.specs.Given.{shortWord}
 use Rattle.placements.specs.Bridge.{heldAs}
 use Rattle.jobs.specs.Slots.{entries}
 use Rattle.jobcodec.specs.JobWrite.{jobWriteUnder}

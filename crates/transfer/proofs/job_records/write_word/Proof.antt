@@ -3,7 +3,7 @@ use mathlib.Core.Path.{ap}
 use mathlib.Core.List.{[], _∷_}
 use borrow.Author.Needs.{needs}
 use Rattle.cells.specs.Outcomes.{Encoded}
-use Rattle.params.specs.Given.{codingIn}
+use Rattle.codes.specs.Given.{codingIn}
 use Rattle.placements.specs.Bridge.{heldAs}
 use Rattle.jobs.specs.Slots.{entries}
 use Rattle.jobcodec.specs.JobWrite.{jobWriteUnder}
