@@ -1,5 +1,5 @@
 -- What every layout has, whichever code laid it out. Assumes nothing.
-use mathlib.Core.Path.{_≡_, refl, sym, ap, ap₂, _∙_}
+use mathlib.Core.Path.{_≡_, refl, sym, ap, ap₂, subst, _∙_}
 use mathlib.Core.Bool.{Bool, true}
 use mathlib.Core.List.{List}
 use Prim.Native.Nat.{ℕ, _≤_}
@@ -161,3 +161,31 @@ of-sub-blocks l g =
         len-is = is .len-is;
       };
     }
+
+-- ---- Its figures
+
+blocks-figures : Spells → Layout → Figures
+blocks-figures Rank l = Ranked (record { n = l .n; q = l .q; m = l .m; b = l .b })
+blocks-figures EndOffset l = Long (record { n = l .n; q = l .q; b = l .b })
+
+figures-by : Laid → Figures
+figures-by (Blocks l) = blocks-figures (l .spells) l
+figures-by (SubBlocks l) = Larsson (record { n = l .n; q = l .q; m = l .m; b = l .b })
+
+blocks-same : (s : Spells) (l : Layout) → codingOf (blocks-figures s l) ≡ codingWith s (figuresOf l)
+unfolding blocks-figures
+blocks-same Rank l = refl
+blocks-same EndOffset l = refl
+
+same-by : (x : Laid) → codingOf (figures-by x) ≡ codingBy x
+unfolding figures-by
+same-by (Blocks l) = blocks-same (l .spells) l
+same-by (SubBlocks l) = refl
+
+-- what holds under figures that fit holds under a layout that serves
+pub under-layout : (P : Coding → Type 0) → ((f : Figures) → codingOf f .inRange ≡ true → codingOf f .fits ≡ true → P (codingOf f)) → (l : WordLayout) → Serves l
+    → P (codingIn l)
+under-layout P holds l g =
+    let e = same-by (l .laid) in
+    let order = order-by (l .laid) (g .fitting) in
+    subst P e (holds (figures-by (l .laid)) (ap (λ (d : Coding). d .inRange) e ∙ order .0) (ap (λ (d : Coding). d .fits) e ∙ order .1))

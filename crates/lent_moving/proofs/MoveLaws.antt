@@ -10,20 +10,21 @@ use lib.ListN.{length}
 use Rattle.refusals.specs.Refusals.{must, served, invalid, unfit, wrongLength, badPayload}
 use Rattle.combinatorics.proofs.Cases.{by-bool, by-eq, eqb-same, eqb-other}
 use Rattle.cells.specs.Codec.{Codec}
-use Rattle.cells.specs.Outcomes.{Encoded, unwritten}
+use Rattle.cells.specs.Outcomes.{Coding, Encoded, unwritten}
 use Rattle.cells.specs.Figures.{Params, inRange}
 use Rattle.construction_a.specs.Figures.{fits as fitsA, messageLen as messageLenA}
 use Rattle.larsson.specs.Figures.{fits as fitsLarsson, messageLen as messageLenLarsson}
-use Rattle.params.specs.declared.Layout.{Layout}
-use Rattle.larsson_params.specs.declared.LarssonLayout.{LarssonLayout}
-use Rattle.larsson_params.specs.Given.{larssonFiguresOf}
+use Rattle.construction_a.specs.Outcomes.{coding as codingA}
+use Rattle.larsson.specs.Outcomes.{coding as codingLarsson}
+use Rattle.codes.specs.declared.WordLayout.{WordLayout}
+use Rattle.codes.specs.Given.{codingIn}
+use Rattle.codes.proofs.Layouts.{in-order}
 use Rattle.jobs.specs.Table.{twice}
 use Rattle.payloads.specs.Payload.{carriesJob}
 use Rattle.jobcodec.proofs.Outcomes.{both-true, both-false}
 use Rattle.moving.specs.Move.{move, moveOut}
 use Rattle.moving.specs.Given.{BothReady}
 use Rattle.moving.specs.Both.{fromFigures}
-use Rattle.moving.proofs.FitBoth.{fits-newer}
 use Rattle.lent.specs.Table.{tableLen, statesKnown, tableIn}
 use Rattle.lent_moving.specs.Moves.{moveBytesOut}
 use Rattle.lent_moving.specs.Given.{moveWithoutTable, tableNumber}
@@ -31,7 +32,7 @@ use Rattle.lent_moving.specs.Given.{moveWithoutTable, tableNumber}
 -- ---- A table of another length
 
 -- the figures of both codes refuse, for whatever lengths of the strips; 3 comes in any case
-pub without-refused : (f : Params) (strip moved a : ℕ) → ((refuse : ℕ → Encoded) (rest : Encoded) → fromFigures f strip moved refuse rest ≡ refuse a)
+pub without-refused : (f : Params) (strip moved a : ℕ) → ((refuse : ℕ → Encoded) (rest : Encoded) → fromFigures (codingA f) (codingLarsson f) strip moved refuse rest ≡ refuse a)
     → a ≡ moveWithoutTable f
 unfolding moveWithoutTable
 without-refused f strip moved a h =
@@ -50,11 +51,19 @@ without-refused f strip moved a h =
     go true true true false = refl
     go true true true true = refl
 
-pub without-fit : (f : Params) (newer : Layout) (older : LarssonLayout) (strip moved : ℕ) → larssonFiguresOf older ≡ f → BothReady newer older strip moved
-    → wrongLength ≡ moveWithoutTable f
+pub without-fit : (f : Params) (newer older : WordLayout) (strip moved : ℕ) → codingIn newer ≡ codingA f → codingIn older ≡ codingLarsson f
+    → BothReady newer older strip moved → wrongLength ≡ moveWithoutTable f
 unfolding moveWithoutTable
-without-fit f newer older strip moved same r =
-    rw (← same, r .fitting .range, fits-newer newer older (r .serves) (r .fitting) (r .alike), r .fitting .fit, r .carries-a, r .carries-larsson)
+without-fit f newer older strip moved e₁ e₂ r =
+    let a = in-order newer (r .serves-from) in
+    let l = in-order older (r .serves-to) in
+    let carries : Coding → Bool = λ d. carriesJob (d .codec .alphabet) (d .codec .messageLen) in
+    let range : inRange f ≡ true = sym (ap (λ (d : Coding). d .inRange) e₁) ∙ a .0 in
+    let fit-a : fitsA f ≡ true = sym (ap (λ (d : Coding). d .fits) e₁) ∙ a .1 in
+    let fit-larsson : fitsLarsson f ≡ true = sym (ap (λ (d : Coding). d .fits) e₂) ∙ l .1 in
+    let carries-a : carriesJob (f .q) (messageLenA f) ≡ true = sym (ap carries e₁) ∙ r .carries-from in
+    let carries-larsson : carriesJob (f .q) (messageLenLarsson f) ≡ true = sym (ap carries e₂) ∙ r .carries-to in
+    rw (range, fit-a, fit-larsson, carries-a, carries-larsson)
 
 -- it is refused in any case
 without-refuses : (f : Params) → moveWithoutTable f ≢ served

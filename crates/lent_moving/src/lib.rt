@@ -5,6 +5,7 @@ ghost use Rattle.cells.specs.Outcomes.{unwritten};
 ghost use Rattle.params.specs.Bridge.{given};
 ghost use Rattle.lent_moving.specs.Moves.{toConstructionABytes, toLarssonBytes};
 ghost use Rattle.lent_moving.specs.Given.{moveWithoutTable, tableNumber};
+use codes::Figures;
 use lent::table;
 use moving::both::BothAnswer;
 use moving::both::both_fit;
@@ -52,7 +53,8 @@ fn table_refusal(figures: Params, table: &[u8], strip: usize, moved: usize) -> u
 fn without_table(figures: Params, strip: usize, moved: usize) -> u8
     ensures { λ r. ⌜ r ≡ moveWithoutTable (given figures) ⌝ }
 {
-    let answer = both_fit(figures, strip, moved);
+    let newer = Figures::Ranked(figures);
+    let answer = both_fit(newer, Figures::Larsson(figures), strip, moved);
     match answer {
         BothAnswer::Refused(number) => number,
         BothAnswer::Fit(_, _) => Refusal::LENGTH,

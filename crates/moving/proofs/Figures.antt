@@ -26,9 +26,15 @@ use Rattle.larsson.specs.Figures.{fits as fitsLarsson}
 use Rattle.larsson.specs.Codec.{larsson}
 use Rattle.larsson.specs.Outcomes.{coding as codingLarsson}
 use Rattle.larsson.proofs.Exact.{larsson-exact}
+use Rattle.codes.specs.declared.Figures.{Figures}
+use Rattle.codes.specs.Bridge.{codingOf}
+use Rattle.codes.proofs.Layouts.{small}
+use Rattle.codes.proofs.Exact.{reads-exactly, more-found}
 use Rattle.jobs.specs.declared.Entry.{Entry}
 use Rattle.jobs.specs.Table.{twice}
 use Rattle.jobcodec.specs.JobWrite.{jobWriteUnder}
+use Rattle.jobcodec.proofs.Pairs.{not-served}
+use Rattle.jobcodec.proofs.DemandThree.{reads-in}
 use Rattle.moving.specs.Move.{jobWord, move, moveOut}
 use Rattle.moving.specs.ThereAndBack.{Returned, ThereAndBack, SameJob, MovesJob}
 use Rattle.moving.proofs.Moving.{Movable, WritesJobs, passed, accepted-move, returned, same-job}
@@ -66,6 +72,19 @@ movable-larsson f i h =
       two = ranged f i .q-least;
       finds = found-least (f .q);
       numbered = λ w a e. larsson-number f w a (d .listed w a .0 e);
+    }
+
+-- ---- Under any code's figures
+
+pub movable-of : (f : Figures) → codingOf f .inRange ≡ true → codingOf f .fits ≡ true → Movable (codingOf f .codec)
+movable-of f i h =
+    let d = reads-exactly f i h in
+    record {
+      exact = d .exactly;
+      writes = d .written;
+      two = small f i .alphabet-least;
+      finds = more-found f;
+      numbered = λ w a e z. not-served a (reads-in f i h .listed w a e .0) z;
     }
 
 -- ---- Job writing

@@ -14,7 +14,7 @@ use Rattle.combinatorics.specs.Bursts.{apart}
 use Rattle.combinatorics.proofs.Cases.{eqb-same, eqb-other}
 use Rattle.cells.specs.Bytes.{byteWidth, payloadLen}
 use Rattle.cells.specs.Codec.{Codec, Reading, accepted, refused, LeadsTo}
-use Rattle.cells.specs.Figures.{maxBursts, Params, maxWord, isPlacement}
+use Rattle.cells.specs.Figures.{maxBursts, maxWord}
 use Rattle.cells.specs.Outcomes.{Coding, Held, inUse, held, unwritten, WordAnswer, rankIs, refusal, answerNumber}
 use Rattle.cells.specs.Outcomes.{Decoded, unread, decodedFrom, encodeUnder, decodeUnder}
 use Rattle.placements.specs.declared.Placement.{Placement}
@@ -26,10 +26,9 @@ use Rattle.payloads.proofs.Payload.{length-message, message-symbols, payload-is
 use Rattle.jobcodec.specs.JobWrite.{jobStatus, whereOpen, unless}
 use Rattle.moving.specs.Resize.{resized, hasRoom}
 use Rattle.moving.specs.Move.{payloadBytes, servedWord, jobWord, moveJob, moveMessage, moveRead, move}
-use Rattle.moving.specs.Given.{movingNumber, messageNumber, messageMoved, wordMoved, OtherMessage, MovedWritable}
+use Rattle.moving.specs.Given.{Alike, movingNumber, messageNumber, messageMoved, wordMoved, OtherMessage, MovedWritable}
 use Rattle.moving.proofs.Resize.{length-resized, resized-bytes, resized-prefix}
 use Rattle.moving.proofs.Moving.{Movable}
-use Rattle.moving.proofs.Figures.{placed-apart}
 
 -- a payload has no more bytes than its message has symbols
 pub payload-within : (q k : ℕ) → payloadLen q k ≤ k
@@ -226,31 +225,31 @@ module _ (d : Coding) (to : Codec) (es : List Entry) (w out ms : List ℕ) (g : 
 
 -- ---- The placement
 
+-- which starts a code takes for a placement
+abbrev pub PlacedIn : Coding → Type 0
+PlacedIn d = (ss : List ℕ) → d .codec .placed ss ≡ true → (length ss ≡ d .bursts) × (apart (d .burstLen) (d .codec .wordLen) 0 ss ≡ true)
+
 -- a placement that was answered is the one that was read
-pub placed-at : (f : Params) (at : Placement) (ss : List ℕ) → heldAs at ≡ held ss → isPlacement f ss ≡ true
-    → (startsIn at ≡ ss) × (at .count ≡ f .m) × (apart (f .b) (f .n) 0 (startsIn at) ≡ true)
-placed-at f at ss e p =
+placed-at : (d : Coding) → PlacedIn d → (at : Placement) (ss : List ℕ) → heldAs at ≡ held ss → d .codec .placed ss ≡ true
+    → (startsIn at ≡ ss) × (at .count ≡ d .bursts) × (apart (d .burstLen) (d .codec .wordLen) 0 (startsIn at) ≡ true)
+placed-at d are at ss e p =
     let starts : startsIn at ≡ ss = ap (λ (h : Held). inUse h) e ∙ take-append-seam ss (replicate (maxBursts - length ss) 0) in
-    let v = placed-apart f ss p in
-    (starts, ap (λ (h : Held). h .count) e ∙ v .0, ap (λ (xs : List ℕ). apart (f .b) (f .n) 0 xs) starts ∙ v .1)
+    let v = are ss p in
+    (starts, ap (λ (h : Held). h .count) e ∙ v .0, ap (λ (xs : List ℕ). apart (d .burstLen) (d .codec .wordLen) 0 xs) starts ∙ v .1)
 
 -- ---- From one code to the other, both of the same figures
 
 -- what figures that fit give, for a code that carries a job
-pub record Of (f : Params) (d : Coding) : Type 0 where
+pub record Of (d : Coding) : Type 0 where
   pub range : d .inRange ≡ true
   pub fit : d .fits ≡ true
   pub movable : Movable (d .codec)
-  pub placed : (ss : List ℕ) → d .codec .placed ss ≡ isPlacement f ss
-  pub bursts : d .bursts ≡ f .m
-  pub burst : d .burstLen ≡ f .b
-  pub len : d .codec .wordLen ≡ f .n
-  pub alphabet : d .codec .alphabet ≡ f .q
+  pub placed : PlacedIn d
   pub short : d .codec .messageLen ≤ maxWord
   pub carries : carriesJob (d .codec .alphabet) (d .codec .messageLen) ≡ true
 
-module _ (f : Params) (d e : Coding) (from : Of f d) (to : Of f e) (es : List Entry) (w out ms : List ℕ) (complete : length w ≡ f .n)
-    (lent : length out ≡ f .n) (room : length ms ≡ d .codec .messageLen) where
+module _ (d e : Coding) (from : Of d) (to : Of e) (same : Alike d e) (es : List Entry) (w out ms : List ℕ) (complete : length w ≡ d .codec .wordLen)
+    (lent : length out ≡ e .codec .wordLen) (room : length ms ≡ d .codec .messageLen) where
   started : Begun d (e .codec) w out ms
   started =
       record {
@@ -258,8 +257,8 @@ module _ (f : Params) (d e : Coding) (from : Of f d) (to : Of f e) (es : List En
         fit = from .fit;
         carries-from = from .carries;
         carries-to = to .carries;
-        complete = complete ∙ sym (from .len);
-        lent = lent ∙ sym (to .len);
+        complete = complete;
+        lent = lent;
         room = room;
       }
 
@@ -274,10 +273,10 @@ module _ (f : Params) (d e : Coding) (from : Of f d) (to : Of f e) (es : List En
     message-read = sym (ap (λ (o : Decoded). o .message) is) ∙ r .message-is
 
     leads : LeadsTo (d .codec) w (r .starts) (r .message)
-    leads = from .movable .exact w (r .starts) (r .message) (record { complete = complete ∙ sym (from .len); symbols = r .symbols }) .0 (r .read)
+    leads = from .movable .exact w (r .starts) (r .message) (record { complete = complete; symbols = r .symbols }) .0 (r .read)
 
-    placed : (startsIn at ≡ r .starts) × (at .count ≡ f .m) × (apart (f .b) (f .n) 0 (startsIn at) ≡ true)
-    placed = placed-at f at (r .starts) (sym (ap (λ (o : Decoded). o .placement) is) ∙ r .placement) (sym (from .placed (r .starts)) ∙ leads .placement)
+    placed : (startsIn at ≡ r .starts) × (at .count ≡ d .bursts) × (apart (d .burstLen) (d .codec .wordLen) 0 (startsIn at) ≡ true)
+    placed = placed-at d (from .placed) at (r .starts) (sym (ap (λ (o : Decoded). o .placement) is) ∙ r .placement) (leads .placement)
 
     count : length front ≡ d .codec .messageLen
     count = ap length message-read ∙ leads .count
@@ -285,16 +284,16 @@ module _ (f : Params) (d e : Coding) (from : Of f d) (to : Of f e) (es : List En
     pub write-ready : MovedWritable e at front out
     write-ready =
         record {
-          count = placed .1 ∙ sym (to .bursts);
-          placed = ap₂ (λ (b n : ℕ). apart b n 0 (startsIn at)) (to .burst) (to .len) ∙ placed .2;
+          count = placed .1 ∙ same .bursts;
+          placed = sym (ap₂ (λ (b n : ℕ). apart b n 0 (startsIn at)) (same .burst) (same .word)) ∙ placed .2;
           carries =
-              let long = ap₂ payloadLen (to .alphabet ∙ sym (from .alphabet)) count in
+              let long = ap₂ payloadLen (sym (same .alphabet)) count in
               omega (arith, long, carries-five (d .codec .alphabet) (d .codec .messageLen) (from .carries));
           short = omega (arith, count, from .short);
-          lent = lent ∙ sym (to .len);
+          lent = lent;
         }
 
     pub goes-on : wordMoved (e .codec) es out (startsIn at) front ≡ move (d .codec) (e .codec) es w out
     goes-on =
-        sym (r .moves ∙ message-moves (d .codec) (e .codec) es out (r .starts) (r .message) (from .alphabet ∙ sym (to .alphabet)) (leads .count)
+        sym (r .moves ∙ message-moves (d .codec) (e .codec) es out (r .starts) (r .message) (same .alphabet) (leads .count)
         ∙ ap₂ (λ (ss ds : List ℕ). wordMoved (e .codec) es out ss ds) (sym (placed .0)) (sym message-read))

@@ -10,13 +10,8 @@ use Rattle.cells.specs.Bytes.{payloadLen}
 use Rattle.cells.specs.Codec.{Codec}
 use Rattle.cells.specs.Outcomes.{Coding, Encoded, unwritten}
 use Rattle.cells.specs.Figures.{maxWord, maxAlphabet}
-use Rattle.construction_a.specs.Figures.{messageLen as messageLenA}
-use Rattle.construction_a.specs.Outcomes.{coding}
-use Rattle.params.specs.declared.Layout.{Layout}
-use Rattle.params.specs.Given.{codingIn, Serves}
-use Rattle.larsson.specs.Figures.{messageLen as messageLenLarsson}
-use Rattle.larsson_params.specs.declared.LarssonLayout.{LarssonLayout}
-use Rattle.larsson_params.specs.Given.{larssonFiguresOf, LarssonLayoutFits}
+use Rattle.codes.specs.declared.WordLayout.{WordLayout}
+use Rattle.codes.specs.Given.{codingIn, Serves}
 use Rattle.placements.specs.declared.Placement.{Placement}
 use Rattle.placements.specs.Bridge.{startsIn}
 use Rattle.jobs.specs.declared.Entry.{Entry}
@@ -68,19 +63,23 @@ pub record JobMessage (q : ℕ) (message other : List ℕ) : Type 0 where
 
 -- ---- Figures that fit both codes
 
--- the layouts are of the same figures, both payloads have five bytes or more, and both strips the length
-pub record BothReady (newer : Layout) (older : LarssonLayout) (strip moved : ℕ) : Type 0 where
-  pub serves : Serves newer
-  pub fitting : LarssonLayoutFits older
-  pub alike : codingIn newer ≡ coding (larssonFiguresOf older)
-  pub carries-a : carriesJob (older .q) (messageLenA (larssonFiguresOf older)) ≡ true
-  pub carries-larsson : carriesJob (older .q) (messageLenLarsson (larssonFiguresOf older)) ≡ true
-  pub complete : strip ≡ older .n
-  pub lent : moved ≡ older .n
+-- two codes of the same figures: words, alphabets and bursts are the same
+pub record Alike (d e : Coding) : Type 0 where
+  pub range : d .inRange ≡ e .inRange
+  pub word : d .codec .wordLen ≡ e .codec .wordLen
+  pub alphabet : d .codec .alphabet ≡ e .codec .alphabet
+  pub bursts : d .bursts ≡ e .bursts
+  pub burst : d .burstLen ≡ e .burstLen
 
--- of the layouts alone
-abbrev pub LaidBoth : Layout → LarssonLayout → Type 0
-LaidBoth newer older = BothReady newer older (older .n) (older .n)
+-- the layouts of two such codes; both payloads have five bytes or more, and both strips the length
+pub record BothReady (from to : WordLayout) (strip moved : ℕ) : Type 0 where
+  pub serves-from : Serves from
+  pub serves-to : Serves to
+  pub alike : Alike (codingIn from) (codingIn to)
+  pub carries-from : carriesJob (codingIn from .codec .alphabet) (codingIn from .codec .messageLen) ≡ true
+  pub carries-to : carriesJob (codingIn to .codec .alphabet) (codingIn to .codec .messageLen) ≡ true
+  pub complete : strip ≡ codingIn from .codec .wordLen
+  pub lent : moved ≡ codingIn to .codec .wordLen
 
 -- a placement and a message that were read, and the lent word
 pub record MovedWritable (d : Coding) (at : Placement) (message out : List ℕ) : Type 0 where

@@ -11,7 +11,7 @@ use Rattle.cells.specs.Bytes.{payloadLen}
 use Rattle.cells.specs.Codec.{Codec, Reading, accepted, refused}
 use Rattle.cells.specs.Figures.{Params, inRange}
 use Rattle.construction_a.specs.Figures.{fits as fitsA}
-use Rattle.cells.specs.Outcomes.{Encoded, unwritten}
+use Rattle.cells.specs.Outcomes.{Coding, Encoded, unwritten}
 use Rattle.construction_a.specs.DemandTwo.{constructionA}
 use Rattle.larsson.specs.Figures.{fits as fitsLarsson}
 use Rattle.larsson.specs.Codec.{larsson}
@@ -61,6 +61,14 @@ move from to es w out =
     (must (eqb (length w) (from .wordLen) && eqb (length out) (to .wordLen)) (unwritten out wrongLength)
     (must (allBelow (from .foundBound) w) (unwritten out badSymbol)
     (moveRead from to es out (from .decode w))))
+
+-- ---- From figures to others, "with the same figures and placement": "Both layouts must fit, else 2"
+
+unfoldable pub moveUnder : Coding → Coding → List Entry → List ℕ → List ℕ → Encoded
+moveUnder d e es w out =
+    must (d .inRange && not (twice es)) (unwritten out invalid)
+    (must (d .fits && e .fits) (unwritten out unfit)
+    (move (d .codec) (e .codec) es w out))
 
 -- ---- Between the Larsson code and Construction A
 

@@ -1,30 +1,31 @@
 -- `move_strip` meets its contract. Assumes nothing.
-use mathlib.Core.Path.{_≡_, sym, ap, subst, _∙_}
-use mathlib.Core.Bool.{false}
+use mathlib.Core.Path.{_≡_, sym, ap₂, subst, _∙_}
+use mathlib.Core.Bool.{true, false}
+use mathlib.Core.List.{List}
+use Prim.Native.Nat.{ℕ}
 use borrow.Author.Needs.{needs}
 use lib.ListN.{length}
-use Rattle.cells.specs.Figures.{Params}
-use Rattle.params.specs.Bridge.{given}
-use Rattle.larsson_params.specs.Given.{larssonFiguresOf}
+use Rattle.cells.specs.Outcomes.{Coding, Encoded}
+use Rattle.codes.specs.Bridge.{codingOf}
+use Rattle.codes.specs.Given.{codingIn}
+use Rattle.codes.proofs.Layouts.{in-order}
 use Rattle.jobs.specs.Slots.{entries}
 use Rattle.jobs.specs.Table.{twice}
-use Rattle.moving.specs.Move.{move}
-use Rattle.moving.specs.Way.{codecFrom, codecTo}
+use Rattle.moving.specs.Move.{moveUnder}
 use Rattle.moving.specs.Given.{BothReady}
 use Rattle.moving.specs.Both.{BothIn}
-use Rattle.moving.proofs.Figures.{past-figures}
-use Rattle.moving.proofs.FitBoth.{out-twice, way-refused, past-both}
+use Rattle.moving.proofs.FitBoth.{out-twice, out-refused, past-figures}
 use Rattle.moving.proofs.move_strip.Statement.{statement}
 use Rattle.moving.proofs.move_strip.Tie as tie
 
 -- the layouts that were answered
 learnt : (c : tie.After-answer2)
-    → (let s = c .before .before .before .before .before .before .before in let older = c .answer2 .given .0 .1 .0 in
-    (larssonFiguresOf older ≡ given (s .args .figures)) × BothReady (c .answer2 .given .0 .0) older (length (s .args .strip .now))
-    (length (s .args .moved .now)))
+    → (let a = c .before .before .before .before .before .before .before .args in let source = c .answer2 .given .0 .0 in let target =
+    c .answer2 .given .0 .1 .0 in
+    (codingIn source ≡ codingOf (a .from)) × (codingIn target ≡ codingOf (a .to)) × BothReady source target (length (a .strip .now)) (length (a .moved .now)))
 learnt c =
-    let s = c .before .before .before .before .before .before .before in
-    subst (BothIn (given (s .args .figures)) (length (s .args .strip .now)) (length (s .args .moved .now))) (c .answer2 .given .1)
+    let a = c .before .before .before .before .before .before .before .args in
+    subst (BothIn (codingOf (a .from)) (codingOf (a .to)) (length (a .strip .now)) (length (a .moved .now))) (c .answer2 .given .1)
     (c .before .before .both-fit .ensures)
 
 once : (c : tie.Else1) → twice (entries (c .before .before .before .before .args .table)) ≡ false
@@ -36,8 +37,7 @@ twice-requires c κs = search needs
 returns : tie.Need-returns
 returns c =
     let a = c .before .before .before .before .args in
-    let f = given (a .figures) in
-    sym (out-twice f (codecFrom (a .way) f) (codecTo (a .way) f) (entries (a .table)) (a .strip .now) (a .moved .now)
+    sym (out-twice (codingOf (a .from)) (codingOf (a .to)) (entries (a .table)) (a .strip .now) (a .moved .now)
     (sym (c .before .twice .ensures) ∙ c .if1 .taken))
 
 both-fit-requires : tie.Need-both-fit-requires
@@ -50,15 +50,16 @@ enum-known-answer-2 : tie.Need-enum-known-answer-2
 enum-known-answer-2 c = search needs
 
 move-fitting-requires : tie.Need-move-fitting-requires
-move-fitting-requires c κs = learnt (c .before .before) .1
+move-fitting-requires c κs = learnt (c .before .before) .2
 
 returns-2 : tie.Need-returns-2
 returns-2 c =
     let a = c .before .before .before .before .before .before .before .before .args in
-    let f = given (a .figures) in
     let told = c .before .answer .given in
-    sym (way-refused f (entries (a .table)) (a .strip .now) (a .moved .now) (told .0 .0) (once (c .before .before .before .before))
-    (subst (BothIn f (length (a .strip .now)) (length (a .moved .now))) (told .1) (c .before .before .before .both-fit .ensures)) (a .way))
+    sym (out-refused (codingOf (a .from)) (codingOf (a .to)) (entries (a .table)) (a .strip .now) (a .moved .now) (told .0 .0)
+    (once (c .before .before .before .before))
+    (subst (BothIn (codingOf (a .from)) (codingOf (a .to)) (length (a .strip .now)) (length (a .moved .now))) (told .1)
+    (c .before .before .before .both-fit .ensures)))
 
 same-length : tie.Need-same-length
 same-length c = search needs
@@ -67,15 +68,16 @@ returns-3 : tie.Need-returns-3
 returns-3 c =
     let t = c .before .before .before .before .before in
     let a = t .before .before .before .before .before .before .before .args in
-    let f = given (a .figures) in
     let es = entries (a .table) in
     let w = a .strip .now in
     let out = a .moved .now in
     let own = learnt t in
+    let from = in-order (t .answer2 .given .0 .0) (own .2 .serves-from) in
+    let to = in-order (t .answer2 .given .0 .1 .0) (own .2 .serves-to) in
     c .before .before .move-fitting .ensures
-    ∙ ap (λ (p : Params). move (codecFrom (a .way) p) (codecTo (a .way) p) es w out) (own .0)
-    ∙ sym (past-figures f es (codecFrom (a .way) f) (codecTo (a .way) f)
-    (past-both f es (t .answer2 .given .0 .0) (t .answer2 .given .0 .1 .0) (length w) (length out) (own .0) (own .1) (once (t .before .before .before))) w out)
+    ∙ sym (past-figures (codingIn (t .answer2 .given .0 .0)) (codingIn (t .answer2 .given .0 .1 .0)) es w out (once (t .before .before .before)) (from .0)
+    (from .1) (to .1))
+    ∙ ap₂ {C = Encoded} (λ (d e : Coding). moveUnder d e es w out) (own .0) (own .1)
 
 pub move-strip-spec : {M : Type 1} → statement M
 move-strip-spec =

@@ -1,24 +1,25 @@
 -- `both_carry` meets its contract, refusal by refusal. Assumes nothing.
 use mathlib.Core.Path.{refl}
 use native.Mathlib.Omega.{arith}
-use Rattle.moving.proofs.FitBoth.{newer-few, older-few, newer-carries-not, older-carries-not, strip-other, moved-other, both-ready}
+use Rattle.codes.proofs.Layouts.{bound}
+use Rattle.moving.proofs.FitBoth.{from-carries-not, to-carries-not, strip-other, moved-other, both-ready}
 use Rattle.moving.proofs.both.both_carry.Statement.{statement}
 use Rattle.moving.proofs.both.both_carry.Tie as tie
 
 payload-len-requires : tie.Need-payload-len-requires
-payload-len-requires c κs = newer-few (c .args .newer) (c .args .older) (c .pre .0) (c .pre .1) (c .pre .2)
+payload-len-requires c κs = bound (c .args .source) (c .pre .0) .q-most
 
 returns : tie.Need-returns
 returns c =
     let s = c .before .before in
     let a = s .args in
     let len = c .before .payload-len in
-    newer-carries-not (a .newer) (a .older) (s .pre .0) (s .pre .1) (s .pre .2) (a .strip) (a .moved) (len .result) (len .ensures) (c .if1 .taken)
+    from-carries-not (a .source) (a .target) (s .pre .0) (s .pre .1) (s .pre .2) (a .strip) (a .moved) (len .result) (len .ensures) (c .if1 .taken)
 
 payload-len-requires-2 : tie.Need-payload-len-requires-2
 payload-len-requires-2 c κs =
     let s = c .before .before in
-    older-few (s .args .newer) (s .args .older) (s .pre .0) (s .pre .1) (s .pre .2)
+    bound (s .args .target) (s .pre .1) .q-most
 
 returns-2 : tie.Need-returns-2
 returns-2 c =
@@ -26,7 +27,7 @@ returns-2 c =
     let a = s .args in
     let x = c .before .before .before .payload-len in
     let y = c .before .payload-len2 in
-    older-carries-not (a .newer) (a .older) (s .pre .0) (s .pre .1) (s .pre .2) (a .strip) (a .moved) (x .result) (x .ensures)
+    to-carries-not (a .source) (a .target) (s .pre .0) (s .pre .1) (s .pre .2) (a .strip) (a .moved) (x .result) (x .ensures)
     (omega (arith, c .before .before .if1 .left)) (y .result) (y .ensures) (c .if2 .taken)
 
 returns-3 : tie.Need-returns-3
@@ -35,7 +36,7 @@ returns-3 c =
     let a = s .args in
     let x = c .before .before .before .before .before .payload-len in
     let y = c .before .before .before .payload-len2 in
-    strip-other (a .newer) (a .older) (s .pre .0) (s .pre .1) (s .pre .2) (a .strip) (a .moved) (x .result) (x .ensures)
+    strip-other (a .source) (a .target) (s .pre .0) (s .pre .1) (s .pre .2) (a .strip) (a .moved) (x .result) (x .ensures)
     (omega (arith, c .before .before .before .before .if1 .left))
     (y .result) (y .ensures) (omega (arith, c .before .before .if2 .left)) (c .if3 .taken)
 
@@ -45,7 +46,7 @@ returns-4 c =
     let a = s .args in
     let x = c .before .before .before .before .before .before .before .payload-len in
     let y = c .before .before .before .before .before .payload-len2 in
-    moved-other (a .newer) (a .older) (s .pre .0) (s .pre .1) (s .pre .2) (a .strip) (a .moved) (x .result) (x .ensures)
+    moved-other (a .source) (a .target) (s .pre .0) (s .pre .1) (s .pre .2) (a .strip) (a .moved) (x .result) (x .ensures)
     (omega (arith, c .before .before .before .before .before .before .if1 .left))
     (y .result) (y .ensures) (omega (arith, c .before .before .before .before .if2 .left)) (c .before .before .if3 .left) (c .if4 .taken)
 
@@ -56,7 +57,8 @@ returns-5 c =
     let x = c .before .before .before .before .before .before .before .payload-len in
     let y = c .before .before .before .before .before .payload-len2 in (
       refl,
-      both-ready (a .newer) (a .older) (s .pre .0) (s .pre .1) (s .pre .2) (a .strip) (a .moved) (x .result) (x .ensures)
+      refl,
+      both-ready (a .source) (a .target) (s .pre .0) (s .pre .1) (s .pre .2) (a .strip) (a .moved) (x .result) (x .ensures)
           (omega (arith, c .before .before .before .before .before .before .if1 .left))
           (y .result) (y .ensures) (omega (arith, c .before .before .before .before .if2 .left)) (c .before .before .if3 .left) (c .if4 .left),
     )
