@@ -2,26 +2,20 @@
 use mathlib.Core.Path.{_≡_, sym, _∙_}
 use mathlib.Core.List.{List}
 use Prim.Native.Nat.{ℕ}
-use Rattle.cells.specs.Outcomes.{rankIs, decodeUnder}
-use Rattle.cells.proofs.Figures.{placed-starts}
-use Rattle.larsson.specs.Codec.{Listed}
-use Rattle.larsson.specs.Outcomes.{coding}
-use Rattle.larsson.proofs.Exact.{larsson-exact}
-use Rattle.params.proofs.Either.{numbers-in as blocks-numbers}
-use Rattle.larsson_params.specs.Given.{larssonFiguresOf}
-use Rattle.decoder.proofs.Calls.{counts-under, accepted-count as blocks-count}
-use Rattle.codes.specs.declared.Laid.{Laid}
-use Rattle.codes.specs.declared.Laid.the-variants.{Blocks, SubBlocks}
+use Rattle.cells.specs.Outcomes.{Coding, rankIs, decodeUnder}
+use Rattle.decoder.proofs.Calls.{counts-under}
 use Rattle.codes.specs.declared.WordLayout.{WordLayout}
-use Rattle.codes.specs.Given.{codingBy, codingIn, FitsBy, Serves}
+use Rattle.codes.specs.Bridge.{codingOf}
+use Rattle.codes.specs.DemandTwo.{ListedIn}
+use Rattle.codes.specs.Given.{codingIn, Serves}
+use Rattle.codes.proofs.Exact.{reads-exactly, placed-is}
+use Rattle.codes.proofs.Layouts.{under-layout}
 
-count-by : (x : Laid) → FitsBy x → (w out : List ℕ) (v : ℕ) → decodeUnder (codingBy x) w out .answer ≡ rankIs v
-    → decodeUnder (codingBy x) w out .placement .count ≡ codingBy x .bursts
-count-by (Blocks l) g w out v r = blocks-count l g w out v r ∙ blocks-numbers l g .bursts-is
-count-by (SubBlocks l) g w out v r =
-    let f = larssonFiguresOf l in
-    counts-under (coding f) (Listed f) (larsson-exact f (g .range) (g .fit)) (λ ss e. placed-starts f ss e .1) (g .range) (g .fit) w out v r
+abbrev Counts : Coding → Type 0
+Counts d = (w out : List ℕ) (v : ℕ) → decodeUnder d w out .answer ≡ rankIs v → decodeUnder d w out .placement .count ≡ d .bursts
 
 pub accepted-count : (l : WordLayout) → Serves l → (w out : List ℕ) (v : ℕ) → decodeUnder (codingIn l) w out .answer ≡ rankIs v
     → decodeUnder (codingIn l) w out .placement .count ≡ l .m
-accepted-count l g w out v r = count-by (l .laid) (g .fitting) w out v r ∙ sym (g .numbers .bursts-is)
+accepted-count l g w out v r =
+    under-layout Counts (λ f i h. counts-under (codingOf f) (ListedIn f) (reads-exactly f i h) (λ ss e. placed-is f ss e .0) i h) l g w out v r
+    ∙ sym (g .numbers .bursts-is)

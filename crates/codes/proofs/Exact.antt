@@ -9,6 +9,7 @@ use Rattle.combinatorics.specs.Bursts.{apart, inBurst}
 use Rattle.combinatorics.proofs.Cases.{eqb-same, eqb-true}
 use Rattle.combinatorics.proofs.Lists.{both}
 use Rattle.cells.specs.Codec.{ReadsExactly}
+use Rattle.cells.specs.Erasures.{foundBound}
 use Rattle.cells.proofs.Erasures.{found-least}
 use Rattle.cells.specs.Figures.{isPlacement}
 use Rattle.cells.specs.Outcomes.{answerNumber, decodeUnder}
@@ -63,6 +64,12 @@ pub more-found : (f : Figures) → codingOf f .codec .alphabet ≤ codingOf f .c
 more-found (Ranked p) = found-least (p .q)
 more-found (Long p) = found-least (p .q)
 more-found (Larsson p) = found-least (p .q)
+
+-- the bound of what can be found goes by the alphabet
+pub found-is : (f : Figures) → codingOf f .codec .foundBound ≡ foundBound (codingOf f .codec .alphabet)
+found-is (Ranked p) = refl
+found-is (Long p) = refl
+found-is (Larsson p) = refl
 
 -- what is spoilt is what the bursts have
 pub spoilt-is : (f : Figures) (ss : List ℕ) (x : ℕ) → codingOf f .codec .spoilt ss x ≡ inBurst (codingOf f .burstLen) ss x

@@ -30,6 +30,7 @@ use Rattle.codes.specs.declared.Laid.{Laid}
 use Rattle.codes.specs.declared.Laid.the-variants.{Blocks, SubBlocks}
 use Rattle.codes.specs.declared.WordLayout.{WordLayout}
 use Rattle.codes.specs.Bridge.{codingOf}
+use Rattle.codes.proofs.Exact.{found-is, spoilt-is}
 use Rattle.codes.specs.Given.{codingBy, codingIn, FitsBy, HasNumbers, Serves, ofBlocks, ofSubBlocks}
 
 -- ---- The limits
@@ -48,14 +49,6 @@ small (Larsson p) e =
 
 -- ---- Code by code
 
-blocks-small : (l : Layout) (s : Spells) → LayoutFitsWith s l → Small (codingWith s (figuresOf l))
-blocks-small l Rank g = small (Ranked (record { n = l .n; q = l .q; m = l .m; b = l .b })) (g .range)
-blocks-small l EndOffset g = small (Long (record { n = l .n; q = l .q; b = l .b })) (g .range)
-
-small-by : (x : Laid) → FitsBy x → Small (codingBy x)
-small-by (Blocks l) g = blocks-small l (l .spells) g
-small-by (SubBlocks l) g = small (Larsson (record { n = l .n; q = l .q; m = l .m; b = l .b })) (g .range)
-
 order-by : (x : Laid) → FitsBy x → (codingBy x .inRange ≡ true) × (codingBy x .fits ≡ true)
 order-by (Blocks l) g = blocks-in-order l g
 order-by (SubBlocks l) g = (g .range, g .fit)
@@ -65,24 +58,33 @@ long-by : (x : Laid) → FitsBy x → codingBy x .burstLen ≤ codingBy x .codec
 long-by (Blocks l) g = let is = blocks-numbers l g in omega (arith, blocks-long l (in-shape l g), is .word-is, is .burst-is)
 long-by (SubBlocks l) g = sub-blocks-long l g
 
--- the bound of what can be found goes by the alphabet
-blocks-found : (l : Layout) (s : Spells) → codingWith s (figuresOf l) .codec .foundBound ≡ foundBound (codingWith s (figuresOf l) .codec .alphabet)
-blocks-found l Rank = refl
-blocks-found l EndOffset = refl
+-- ---- The figures of a layout
 
-found-by : (x : Laid) → codingBy x .codec .foundBound ≡ foundBound (codingBy x .codec .alphabet)
-found-by (Blocks l) = blocks-found l (l .spells)
-found-by (SubBlocks l) = refl
+blocks-figures : Spells → Layout → Figures
+blocks-figures Rank l = Ranked (record { n = l .n; q = l .q; m = l .m; b = l .b })
+blocks-figures EndOffset l = Long (record { n = l .n; q = l .q; b = l .b })
 
--- what is spoilt is what the bursts have
-blocks-spoilt : (l : Layout) (s : Spells) (ss : List ℕ) (x : ℕ)
-    → codingWith s (figuresOf l) .codec .spoilt ss x ≡ inBurst (codingWith s (figuresOf l) .burstLen) ss x
-blocks-spoilt l Rank ss x = refl
-blocks-spoilt l EndOffset ss x = refl
+figures-by : Laid → Figures
+figures-by (Blocks l) = blocks-figures (l .spells) l
+figures-by (SubBlocks l) = Larsson (record { n = l .n; q = l .q; m = l .m; b = l .b })
 
-spoilt-by : (y : Laid) (ss : List ℕ) (x : ℕ) → codingBy y .codec .spoilt ss x ≡ inBurst (codingBy y .burstLen) ss x
-spoilt-by (Blocks l) ss x = blocks-spoilt l (l .spells) ss x
-spoilt-by (SubBlocks l) ss x = refl
+blocks-same : (s : Spells) (l : Layout) → codingOf (blocks-figures s l) ≡ codingWith s (figuresOf l)
+unfolding blocks-figures
+blocks-same Rank l = refl
+blocks-same EndOffset l = refl
+
+same-by : (x : Laid) → codingOf (figures-by x) ≡ codingBy x
+unfolding figures-by
+same-by (Blocks l) = blocks-same (l .spells) l
+same-by (SubBlocks l) = refl
+
+-- what holds under figures that fit holds under a layout that serves
+pub under-layout : (P : Coding → Type 0) → ((f : Figures) → codingOf f .inRange ≡ true → codingOf f .fits ≡ true → P (codingOf f)) → (l : WordLayout) → Serves l
+    → P (codingIn l)
+under-layout P holds l g =
+    let e = same-by (l .laid) in
+    let order = order-by (l .laid) (g .fitting) in
+    subst P e (holds (figures-by (l .laid)) (ap (λ (d : Coding). d .inRange) e ∙ order .0) (ap (λ (d : Coding). d .fits) e ∙ order .1))
 
 -- ---- The layout alone
 
@@ -103,7 +105,7 @@ module _ (l : WordLayout) (g : Serves l) where
   numbers-in = g .numbers
 
   pub small-in : Small (codingIn l)
-  small-in = small-by (l .laid) (g .fitting)
+  small-in = under-layout Small (λ f i _. small f i) l g
 
   pub bound : Bounded l
   bound =
@@ -123,10 +125,14 @@ module _ (l : WordLayout) (g : Serves l) where
   apart-in ss = let is = g .numbers in sym (ap₂ (λ (b n : ℕ). apart b n 0 ss) (is .burst-is) (is .word-is))
 
   pub found-in : codingIn l .codec .foundBound ≡ foundBound (l .q)
-  found-in = found-by (l .laid) ∙ ap foundBound (sym (g .numbers .alphabet-is))
+  found-in =
+      under-layout (λ (d : Coding). d .codec .foundBound ≡ foundBound (d .codec .alphabet)) (λ f _ _. found-is f) l g
+      ∙ ap foundBound (sym (g .numbers .alphabet-is))
 
   pub spoilt-in : (ss : List ℕ) (x : ℕ) → codingIn l .codec .spoilt ss x ≡ inBurst (l .b) ss x
-  spoilt-in ss x = spoilt-by (l .laid) ss x ∙ ap (λ (b : ℕ). inBurst b ss x) (sym (g .numbers .burst-is))
+  spoilt-in ss x =
+      under-layout (λ (d : Coding). d .codec .spoilt ss x ≡ inBurst (d .burstLen) ss x) (λ f _ _. spoilt-is f ss x) l g
+      ∙ ap (λ (b : ℕ). inBurst b ss x) (sym (g .numbers .burst-is))
 
 -- ---- From a code's own layout
 
@@ -161,31 +167,3 @@ of-sub-blocks l g =
         len-is = is .len-is;
       };
     }
-
--- ---- Its figures
-
-blocks-figures : Spells → Layout → Figures
-blocks-figures Rank l = Ranked (record { n = l .n; q = l .q; m = l .m; b = l .b })
-blocks-figures EndOffset l = Long (record { n = l .n; q = l .q; b = l .b })
-
-figures-by : Laid → Figures
-figures-by (Blocks l) = blocks-figures (l .spells) l
-figures-by (SubBlocks l) = Larsson (record { n = l .n; q = l .q; m = l .m; b = l .b })
-
-blocks-same : (s : Spells) (l : Layout) → codingOf (blocks-figures s l) ≡ codingWith s (figuresOf l)
-unfolding blocks-figures
-blocks-same Rank l = refl
-blocks-same EndOffset l = refl
-
-same-by : (x : Laid) → codingOf (figures-by x) ≡ codingBy x
-unfolding figures-by
-same-by (Blocks l) = blocks-same (l .spells) l
-same-by (SubBlocks l) = refl
-
--- what holds under figures that fit holds under a layout that serves
-pub under-layout : (P : Coding → Type 0) → ((f : Figures) → codingOf f .inRange ≡ true → codingOf f .fits ≡ true → P (codingOf f)) → (l : WordLayout) → Serves l
-    → P (codingIn l)
-under-layout P holds l g =
-    let e = same-by (l .laid) in
-    let order = order-by (l .laid) (g .fitting) in
-    subst P e (holds (figures-by (l .laid)) (ap (λ (d : Coding). d .inRange) e ∙ order .0) (ap (λ (d : Coding). d .fits) e ∙ order .1))

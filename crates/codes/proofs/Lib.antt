@@ -1,5 +1,5 @@
+pub mod Exact
 pub mod Layouts
 pub mod Answered
-pub mod Exact
 pub mod Covering
 pub mod Counting

@@ -17,17 +17,12 @@ use Rattle.cells.specs.Erasures.{foundBound, hasErasure}
 use Rattle.cells.specs.Outcomes.{Coding, Held, held, unserved, figuresUnder, rankIs, refusal, Decoded, unread, decodedFrom, decodeUnder}
 use Rattle.cells.proofs.Outcomes.{refused-alike}
 use Rattle.construction_a.specs.DemandTwo.{IndexRead}
-use Rattle.construction_a.specs.DemandTwo as A
 use Rattle.cells.specs.Figures.{Params, inRange, isPlacement, placementCount, placementOf}
 use Rattle.construction_a.specs.Figures.{fits, messageLen}
 use Rattle.construction_a.specs.Outcomes.{coding}
 use Rattle.construction_a.specs.Reading.{written, agrees, readRank, read}
-use Rattle.construction_a.proofs.DemandTwo.{demand-two}
 use Rattle.cells.proofs.Figures.{placed-starts}
 use Rattle.construction_a.proofs.Ranking.{rank-bijection}
-use Rattle.construction_b.specs.DemandTwo as B
-use Rattle.construction_b.proofs.DemandTwo as B′
-use Rattle.construction_b.proofs.Figures.{placed-start}
 use Rattle.params.specs.declared.Layout.{Layout}
 use Rattle.params.specs.declared.Spells.{Spells}
 use Rattle.params.specs.declared.Spells.the-variants.{Rank, EndOffset}
@@ -152,18 +147,3 @@ module _ (d : Coding) (Listed : List ℕ → ℕ → Type 0) (reads : ReadsExact
               let l = reads .exactly w ss ms (record { complete = whole; symbols = low }) .0 g in
               ap (λ (o : Decoded). o .placement .count) (e ∙ ap (decodedFrom (d .burstLen) out) g) ∙ counts ss (l .placement)
           go (refused a) g = refused-not out o a v (e ∙ ap (decodedFrom (d .burstLen) out) g) r
-
-pub accepted-count : (l : Layout) → Serves l → (w out : List ℕ) (v : ℕ) → decodeUnder (codingIn l) w out .answer ≡ rankIs v
-    → decodeUnder (codingIn l) w out .placement .count ≡ l .m
-accepted-count l g w out v = go (l .spells) g
-  where
-    go : (s : Spells) → LayoutFitsWith s l → decodeUnder (codingWith s (figuresOf l)) w out .answer ≡ rankIs v
-        → decodeUnder (codingWith s (figuresOf l)) w out .placement .count ≡ l .m
-    go Rank h r =
-        let f = figuresOf l in
-        counts-under (coding f) (A.Listed f) (demand-two f (h .range) (h .fit)) (λ ss e. placed-starts f ss e .1) (h .range) (h .fit) w out v r
-    go EndOffset h r =
-        let f = longOf (figuresOf l) in
-        counts-under (codingWith EndOffset (figuresOf l)) (B.Listed f) (B′.demand-two f (h .range) (h .fit)) (λ ss e. ap length (placed-start f ss e .0))
-        (h .range) (h .fit) w out v r
-        ∙ sym (h .laid .m-is)

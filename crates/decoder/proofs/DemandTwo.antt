@@ -11,16 +11,11 @@ use Rattle.combinatorics.proofs.Cases.{eqb-same}
 use Rattle.cells.specs.Codec.{Reading, accepted, refused, ReadsExactly}
 use Rattle.cells.specs.Figures.{maxBursts}
 use Rattle.cells.specs.Outcomes.{Coding, inUse, held, rankIs, refusal, answerNumber, Decoded, unread, decodedFrom, decodeUnder}
-use Rattle.construction_a.proofs.DemandTwo as A
-use Rattle.construction_b.proofs.DemandTwo as B
-use Rattle.params.specs.Bridge.{given, givenLong, codingOf}
-use Rattle.params.specs.declared.Figures.{Figures}
-use Rattle.params.specs.declared.Figures.the-variants.{Ranked, Long}
 use Rattle.decoder.specs.declared.WordAnswer.{WordAnswer}
 use Rattle.decoder.specs.declared.WordAnswer.the-variants.{Accepted, Refused}
 use Rattle.decoder.specs.declared.Decoded.{Decoded as Answered}
 use Rattle.decoder.specs.Answer.{answerAs, wordNumber, decodedAs}
-use Rattle.decoder.specs.DemandTwo.{DecodesExactlyUnder, ListedIn, DecodesExactly}
+use Rattle.decoder.specs.DemandTwo.{DecodesExactlyUnder}
 
 held-starts : (ss : List ℕ) → inUse (held ss) ≡ ss
 held-starts ss = take-append-seam ss (replicate (maxBursts - length ss) 0)
@@ -62,10 +57,6 @@ decodes-exactly-under d Listed reads w out g =
       );
     }
 
-decodes-exactly : (f : Figures) (w out : List ℕ) → DecodesExactly f w out (decodeUnder (codingOf f) w out)
-decodes-exactly (Ranked p) = decodes-exactly-under (codingOf (Ranked p)) (ListedIn (Ranked p)) (A.demand-two (given p))
-decodes-exactly (Long p) = decodes-exactly-under (codingOf (Long p)) (ListedIn (Long p)) (B.demand-two (givenLong p))
-
 -- an answer's number is that of what it says
 number-is : (r : WordAnswer) → wordNumber r ≡ answerNumber (answerAs r)
 number-is (Accepted v) = refl
@@ -78,8 +69,3 @@ pub by-outcome-under : (d : Coding) (Listed : List ℕ → ℕ → Type 0) (w ou
     × (DecodesExactlyUnder d Listed w out (decodedAs r left) × (wordNumber (r .answer) ≡ answerNumber (decodeUnder d w out .answer)))
 by-outcome-under d Listed w out exact r left e =
     (e, (subst (DecodesExactlyUnder d Listed w out) (sym e) exact, number-is (r .answer) ∙ ap (λ (d : Decoded). answerNumber (d .answer)) e))
-
-pub by-outcome : (f : Figures) (w out : List ℕ) (r : Answered) (left : List ℕ) → decodedAs r left ≡ decodeUnder (codingOf f) w out
-    → (decodedAs r left ≡ decodeUnder (codingOf f) w out)
-    × (DecodesExactly f w out (decodedAs r left) × (wordNumber (r .answer) ≡ answerNumber (decodeUnder (codingOf f) w out .answer)))
-by-outcome f w out = by-outcome-under (codingOf f) (ListedIn f) w out (decodes-exactly f w out)

@@ -1,5 +1,4 @@
--- Demand 2 of what a word reader answers, under any figures and whatever the code: for either construction here, and in larsson_decoder for the Larsson code.
--- Assumes nothing.
+-- Demand 2 of what a word reader answers, under any figures and whatever the code: for each code in `codes`. Assumes nothing.
 use mathlib.Core.Path.{_≡_}
 use mathlib.Core.Logic.{_↔_}
 use mathlib.Core.Bool.{true}
@@ -8,11 +7,6 @@ use Prim.Native.Nat.{ℕ}
 use lib.ListN.{length}
 use Rattle.cells.specs.Codec.{accepted, Word, LeadsTo}
 use Rattle.cells.specs.Outcomes.{Coding, Decoded, unread, decodedFrom}
-use Rattle.construction_a.specs.DemandTwo as A
-use Rattle.construction_b.specs.DemandTwo as B
-use Rattle.params.specs.Bridge.{given, givenLong, codingOf}
-use Rattle.params.specs.declared.Figures.{Figures}
-use Rattle.params.specs.declared.Figures.the-variants.{Ranked, Long}
 
 -- figures that fit, a word that can be found, and a buffer for its message
 pub record ReadableWord (d : Coding) (w out : List ℕ) : Type 0 where
@@ -34,11 +28,3 @@ pub record ReadsAsWritten (d : Coding) (Listed : List ℕ → ℕ → Type 0) (w
 
 abbrev pub DecodesExactlyUnder : Coding → (List ℕ → ℕ → Type 0) → List ℕ → List ℕ → Decoded → Type 0
 DecodesExactlyUnder d Listed w out r = ReadableWord d w out → ReadsAsWritten d Listed w out r
-
--- the listed conditions of either construction
-abbrev pub ListedIn : Figures → List ℕ → ℕ → Type 0
-ListedIn (Ranked p) = A.Listed (given p)
-ListedIn (Long p) = B.Listed (givenLong p)
-
-abbrev pub DecodesExactly : Figures → List ℕ → List ℕ → Decoded → Type 0
-DecodesExactly f = DecodesExactlyUnder (codingOf f) (ListedIn f)

@@ -1,20 +1,16 @@
-// The word reader: from a found word to its rank, its placement and its message, or the refusal. Assumes nothing.
+// The word reader of both constructions: from a found word to its rank, its placement and its message, or the refusal. Assumes nothing.
 ghost use mathlib.Core.Path.{_≡_};
 ghost use mathlib.Core.List.{List};
 ghost use Prim.Native.Nat.{ℕ};
 ghost use lib.ListN.{take};
-ghost use Rattle.cells.specs.Outcomes.{unread as unreadAs, answerNumber, decodedFrom, decodeUnder};
+ghost use Rattle.cells.specs.Outcomes.{unread as unreadAs, decodedFrom, decodeUnder};
 ghost use Rattle.construction_a.specs.Reading.{written, readRank};
-ghost use Rattle.params.specs.Bridge.{codingOf};
 ghost use Rattle.params.specs.Given.{figuresOf, codingIn, Serves, HeadsOf};
 ghost use Rattle.placements.specs.Bridge.{startsIn};
 ghost use Rattle.stretches.specs.ByBlock.{Tables};
-ghost use Rattle.decoder.specs.Answer.{wordNumber, decodedAs};
-ghost use Rattle.decoder.specs.DemandTwo.{DecodesExactly};
+ghost use Rattle.decoder.specs.Answer.{decodedAs};
 ghost use Rattle.decoder.specs.Reader.{readMessage, WordLent, RankRead, Located};
-use params::Figures;
 use params::Layout;
-use params::LayoutAnswer;
 use params::Spells;
 use params::heads::put_heads;
 use placements::Placement;
@@ -39,21 +35,8 @@ pub struct Decoded {
     pub placement: Placement,
 }
 
-// The rank and the placement of a found word of n symbols, and its message in a buffer of k, which keeps its contents where the word is
-// refused. Refusals: 1 2 3 4 7 19 8 9 19.
-pub fn decode(figures: Figures, word: &[u8], message: &mut [u8]) -> Decoded
-    ensures outcome { λ r. ⌜ decodedAs r (now (message .exit)) ≡ decodeUnder (codingOf figures) (now (word .entry)) (now (message .entry)) ⌝ }
-    ensures exactly { λ r. ⌜ DecodesExactly figures (now (word .entry)) (now (message .entry)) (decodedAs r (now (message .exit))) ⌝ }
-    ensures number { λ r. ⌜ wordNumber (r .answer) ≡ answerNumber (decodeUnder (codingOf figures) (now (word .entry)) (now (message .entry)) .answer) ⌝ }
-{
-    let answer = figures.layout();
-    match answer {
-        LayoutAnswer::Refused(number) => unread(number),
-        LayoutAnswer::Fit(layout) => decode_fitting(layout, word, message),
-    }
-}
-
-// The same for figures that fit. Refusals: 3 4 7 19 8 9 19.
+// Word read for figures that fit: the rank and the placement of a found word of n symbols, and its message in a buffer of k, which keeps its contents where
+// the word is refused. Refusals: 3 4 7 19 8 9 19.
 pub fn decode_fitting(layout: Layout, word: &[u8], message: &mut [u8]) -> Decoded
     requires { ⌜ Serves layout ⌝ }
     ensures { λ r. ⌜ decodedAs r (now (message .exit)) ≡ decodeUnder (codingIn layout) (now (word .entry)) (now (message .entry)) ⌝ }

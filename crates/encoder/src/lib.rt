@@ -1,13 +1,10 @@
-// The word writer: the entry point `encode`, the rank's digits, and the walk that fills the word. Assumes nothing.
+// The word writer of both constructions: the rank's digits, and the walk that fills the word. Assumes nothing.
 ghost use mathlib.Core.Path.{_≡_};
 ghost use Rattle.cells.specs.Outcomes.{encodeUnder};
-ghost use Rattle.params.specs.Bridge.{codingOf};
 ghost use Rattle.params.specs.Given.{codingIn, Serves};
 ghost use Rattle.placements.specs.Bridge.{heldAs};
 use crate::may_write::may_write;
-use params::Figures;
 use params::Layout;
-use params::LayoutAnswer;
 use placements::Placement;
 use refusals::Refusal;
 
@@ -16,19 +13,7 @@ mod fill;
 pub mod may_write;
 mod value;
 
-// Word write: the word of a placement and of a message of k symbols, into the lent word of n. Refusals: 1 2 3 5 4.
-pub fn encode(figures: Figures, at: Placement, message: &[u8], word: &mut [u8]) -> u8
-    ensures answer { λ r. ⌜ r ≡ encodeUnder (codingOf figures) (heldAs at) (now (message .entry)) (now (word .entry)) .answer ⌝ }
-    ensures word { λ _. ⌜ now (word .exit) ≡ encodeUnder (codingOf figures) (heldAs at) (now (message .entry)) (now (word .entry)) .word ⌝ }
-{
-    let answer = figures.layout();
-    match answer {
-        LayoutAnswer::Refused(number) => number,
-        LayoutAnswer::Fit(layout) => encode_fitting(layout, at, message, word),
-    }
-}
-
-// The same for figures that fit. Refusals: 3 5 4.
+// Word write for figures that fit: the word of a placement and of a message of k symbols, into the lent word of n. Refusals: 3 5 4.
 pub fn encode_fitting(layout: Layout, at: Placement, message: &[u8], word: &mut [u8]) -> u8
     requires { ⌜ Serves layout ⌝ }
     ensures answer { λ r. ⌜ r ≡ encodeUnder (codingIn layout) (heldAs at) (now (message .entry)) (now (word .entry)) .answer ⌝ }

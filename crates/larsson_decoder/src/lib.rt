@@ -3,47 +3,28 @@ ghost use mathlib.Core.Path.{_≡_};
 ghost use mathlib.Core.List.{List, []};
 ghost use Prim.Native.Nat.{ℕ};
 ghost use Rattle.cells.specs.Codec.{accepted};
-ghost use Rattle.cells.specs.Outcomes.{answerNumber, decodedFrom, decodeUnder};
+ghost use Rattle.cells.specs.Outcomes.{decodedFrom, decodeUnder};
 ghost use Rattle.cells.specs.Figures.{placementOf};
-ghost use Rattle.larsson.specs.Codec.{Listed};
 ghost use Rattle.larsson.specs.Outcomes.{coding};
 ghost use Rattle.larsson.specs.Reading.{read};
-ghost use Rattle.params.specs.Bridge.{given};
-ghost use Rattle.decoder.specs.Answer.{wordNumber, decodedAs};
-ghost use Rattle.decoder.specs.DemandTwo.{DecodesExactlyUnder};
+ghost use Rattle.decoder.specs.Answer.{decodedAs};
 ghost use Rattle.larsson_params.specs.Given.{larssonFiguresOf, LarssonLayoutFits, SubStartsOf};
 ghost use Rattle.larsson_decoder.specs.Located.{LarssonWordLent, LocatedAt};
 use crate::locate::locate;
 use decoder::Decoded;
 use decoder::WordAnswer;
 use decoder::unread;
-use larsson_params::LarssonAnswer;
 use larsson_params::LarssonLayout;
 use larsson_params::starts::starts_of;
 use params::Layout;
-use params::Params;
 use placements::Placement;
 use placements::bursts::cover_erasures;
 use refusals::Refusal;
 
 pub mod locate;
 
-// The rank and the placement of a found word of n symbols, and its message in a buffer of k, which keeps its contents where the word is
-// refused. Refusals: 1 2 3 4 21 8 9 19.
-pub fn decode(figures: Params, word: &[u8], message: &mut [u8]) -> Decoded
-    ensures outcome { λ r. ⌜ decodedAs r (now (message .exit)) ≡ decodeUnder (coding (given figures)) (now (word .entry)) (now (message .entry)) ⌝ }
-    ensures exactly { λ r. ⌜ DecodesExactlyUnder (coding (given figures)) (Listed (given figures)) (now (word .entry)) (now (message .entry))
-        (decodedAs r (now (message .exit))) ⌝ }
-    ensures number { λ r. ⌜ wordNumber (r .answer) ≡ answerNumber (decodeUnder (coding (given figures)) (now (word .entry)) (now (message .entry)) .answer) ⌝ }
-{
-    let answer = larsson_params::figures(figures.n, figures.q, figures.m, figures.b);
-    match answer {
-        LarssonAnswer::Refused(number) => unread(number),
-        LarssonAnswer::Fit(layout) => decode_fitting(layout, word, message),
-    }
-}
-
-// The same for figures that fit. Refusals: 3 4 21 8 9 19.
+// Word read for figures that fit: the rank and the placement of a found word of n symbols, and its message in a buffer of k, which keeps its contents where
+// the word is refused. Refusals: 3 4 21 8 9 19.
 pub fn decode_fitting(layout: LarssonLayout, word: &[u8], message: &mut [u8]) -> Decoded
     requires { ⌜ LarssonLayoutFits layout ⌝ }
     ensures { λ r. ⌜ decodedAs r (now (message .exit)) ≡ decodeUnder (coding (larssonFiguresOf layout)) (now (word .entry)) (now (message .entry)) ⌝ }

@@ -1,4 +1,4 @@
--- What a caller learns of figures of either construction from their layout. Assumes nothing.
+-- What a caller learns of the figures of a construction from their layout. Assumes nothing.
 use mathlib.Core.Path.{_≡_, refl, sym, ap, ap₂, subst, _∙_}
 use mathlib.Core.Bool.{true}
 use mathlib.Core.List.{List}
@@ -8,22 +8,16 @@ use Rattle.combinatorics.specs.Bursts.{apart}
 use Rattle.cells.specs.Outcomes.{Coding, unserved, figuresUnder}
 use Rattle.cells.proofs.Outcomes.{figured-fits}
 use Rattle.cells.specs.Figures.{Params}
-use Rattle.construction_a.specs.Figures.{messageLen}
 use Rattle.construction_a.specs.Outcomes.{coding as codingA}
-use Rattle.cells.proofs.Figures.{ranged}
 use Rattle.construction_b.specs.Figures.{LongParams, longParams}
 use Rattle.construction_b.specs.Figures as B
 use Rattle.construction_b.specs.Outcomes.{coding as codingB}
-use Rattle.construction_b.proofs.Figures as BFigures
-use Rattle.params.specs.declared.Figures.{Figures}
-use Rattle.params.specs.declared.Figures.the-variants.{Ranked, Long}
 use Rattle.params.specs.declared.Layout.{Layout}
 use Rattle.params.specs.declared.LayoutAnswer.{LayoutAnswer}
 use Rattle.params.specs.declared.LayoutAnswer.the-variants.{Fit}
 use Rattle.params.specs.declared.Spells.{Spells}
 use Rattle.params.specs.declared.Spells.the-variants.{Rank, EndOffset}
-use Rattle.params.specs.Answer.{figuredAs, LaidOut, LaidIn, LongLaidOut, LongLaidIn, LaidAs, HasNumbers, Small}
-use Rattle.params.specs.Bridge.{given, givenLong, codingOf}
+use Rattle.params.specs.Answer.{figuredAs, LaidOut, LaidIn, LongLaidOut, LongLaidIn, HasNumbers}
 use Rattle.params.specs.Given.{figuresOf, longOf, LongLayoutFits, codingWith, codingIn, LayoutFitsWith, Serves, Shaped}
 use Rattle.params.proofs.Fitting.{laid-fits, shaped}
 use Rattle.params.proofs.LongFitting.{long-shaped}
@@ -40,26 +34,6 @@ ranked-numbers f l h = numbered (h .n-is) (h .q-is) (h .m-is) (h .b-is) (h .coun
 
 long-numbers : (f : LongParams) (l : Layout) → LongLaidOut f l → HasNumbers (codingB f) l
 long-numbers f l h = numbered (h .n-is) (h .q-is) (h .m-is) (h .b-is) (h .count-is) (h .tail-is) (h .len-is)
-
-pub has-numbers : (f : Figures) (l : Layout) → LaidAs f (Fit l) → HasNumbers (codingOf f) l
-has-numbers (Ranked p) l h = ranked-numbers (given p) l h
-has-numbers (Long p) l h = long-numbers (givenLong p) l h
-
-pub small : (f : Figures) → codingOf f .inRange ≡ true → Small (codingOf f)
-unfolding messageLen B.messageLen
-small (Ranked p) e =
-    let r = ranged (given p) e in
-    record { word-most = r .n-most; message-most = omega arith; alphabet-least = r .q-least; alphabet-most = r .q-most; bursts-most = r .m-most }
-small (Long p) e =
-    let r = BFigures.ranged (givenLong p) e in
-    record { word-most = r .n-most; message-most = omega arith; alphabet-least = r .q-least; alphabet-most = r .q-most; bursts-most = omega arith }
-
--- of an answer that was taken apart: the figures are in range and fit, and the layout has their numbers
-pub laid-learnt : (f : Figures) (r : LayoutAnswer) (l : Layout) → r ≡ Fit l → figuredAs r ≡ figuresUnder (codingOf f) → LaidAs f r
-    → (codingOf f .inRange ≡ true) × (codingOf f .fits ≡ true) × HasNumbers (codingOf f) l × Small (codingOf f)
-laid-learnt f r l e answer laid =
-    let fit = figured-fits (codingOf f) (l .«placement_count») (l .«index_tail») (l .«message_len») (sym answer ∙ ap figuredAs e) in
-    (fit .0, fit .1, has-numbers f l (subst (LaidAs f) e laid), small f (fit .0))
 
 -- ---- The layout alone, by what its index blocks spell
 
@@ -89,24 +63,31 @@ module _ (l : Layout) where
   pub apart-in : Serves l → (ss : List ℕ) → apart (codingIn l .burstLen) (codingIn l .codec .wordLen) 0 ss ≡ apart (l .b) (l .n) 0 ss
   apart-in g ss = let is = numbers-in g in sym (ap₂ (λ (b n : ℕ). apart b n 0 ss) (is .burst-is) (is .word-is))
 
+-- figures that a layout is answered to are in range and fit
+fitting : (d : Coding) (r : LayoutAnswer) (l : Layout) → r ≡ Fit l → figuredAs r ≡ figuresUnder d → (d .inRange ≡ true) × (d .fits ≡ true)
+fitting d r l e answer = figured-fits d (l .«placement_count») (l .«index_tail») (l .«message_len») (sym answer ∙ ap figuredAs e)
+
 long-same : {f : LongParams} {n q b : ℕ} → n ≡ f .n → q ≡ f .q → b ≡ f .b → longParams n q b ≡ f
 long-same e₁ e₂ e₃ = rw (e₁, e₂, e₃)
 
 -- what the layout gives is what the caller's figures give, and they fit
-abbrev pub ServesAs : Figures → Layout → Type 0
-ServesAs f l = (codingIn l ≡ codingOf f) × Serves l
+abbrev pub ServesAs : Coding → Layout → Type 0
+ServesAs d l = (codingIn l ≡ d) × Serves l
 
 -- of an answer that was taken apart
-pub serves : (f : Figures) (r : LayoutAnswer) (l : Layout) → r ≡ Fit l → figuredAs r ≡ figuresUnder (codingOf f) → LaidAs f r → ServesAs f l
-serves (Ranked p) r l e answer laid =
-    let fit = laid-learnt (Ranked p) r l e answer laid in
-    let is : LaidOut (given p) l = subst (LaidIn (given p)) e laid in
-    let own = laid-fits (given p) l (fit .0) (fit .1) is in
+pub ranked-serves : (f : Params) (r : LayoutAnswer) (l : Layout) → r ≡ Fit l → figuredAs r ≡ figuresUnder (codingA f) → LaidIn f r → ServesAs (codingA f) l
+ranked-serves f r l e answer laid =
+    let fit = fitting (codingA f) r l e answer in
+    let is : LaidOut f l = subst (LaidIn f) e laid in
+    let own = laid-fits f l (fit .0) (fit .1) is in
     (ap₂ codingWith (is .spells-is) (own .0), subst (λ (s : Spells). LayoutFitsWith s l) (sym (is .spells-is)) (own .1))
-serves (Long p) r l e answer laid =
-    let fit = laid-learnt (Long p) r l e answer laid in
-    let is : LongLaidOut (givenLong p) l = subst (LongLaidIn (givenLong p)) e laid in
-    let same : longOf (figuresOf l) ≡ givenLong p = long-same (is .n-is) (is .q-is) (is .b-is) in
+
+pub long-serves : (f : LongParams) (r : LayoutAnswer) (l : Layout) → r ≡ Fit l → figuredAs r ≡ figuresUnder (codingB f) → LongLaidIn f r
+    → ServesAs (codingB f) l
+long-serves f r l e answer laid =
+    let fit = fitting (codingB f) r l e answer in
+    let is : LongLaidOut f l = subst (LongLaidIn f) e laid in
+    let same : longOf (figuresOf l) ≡ f = long-same (is .n-is) (is .q-is) (is .b-is) in
     let own : LongLayoutFits l =
     record {
       range = ap B.inRange same ∙ fit .0;

@@ -8,13 +8,10 @@ use Rattle.construction_a.specs.Figures.{parts, blockMin, indexTail, messageLen
 use Rattle.construction_a.specs.Outcomes.{FiguresOut, figured, unserved}
 use Rattle.construction_b.specs.Figures.{LongParams}
 use Rattle.construction_b.specs.Figures as B
-use Rattle.params.specs.declared.Figures.{Figures}
-use Rattle.params.specs.declared.Figures.the-variants.{Ranked, Long}
 use Rattle.params.specs.declared.Layout.{Layout}
 use Rattle.params.specs.declared.LayoutAnswer.{LayoutAnswer}
 use Rattle.params.specs.declared.LayoutAnswer.the-variants.{Fit, Refused}
 use Rattle.params.specs.declared.Spells.the-variants.{Rank, EndOffset}
-use Rattle.params.specs.Bridge.{given, givenLong}
 
 -- T, r and k of figures that fit, or the refusal's number
 abbrev pub figuredAs : LayoutAnswer → FiguresOut
@@ -65,10 +62,6 @@ LongLaidIn f (Fit l) = LongLaidOut f l
 LongLaidIn f (Refused a) = Unit {0}
 
 -- ---- Either
-
-abbrev pub LaidAs : Figures → LayoutAnswer → Type 0
-LaidAs (Ranked p) r = LaidIn (given p) r
-LaidAs (Long p) r = LongLaidIn (givenLong p) r
 
 -- what every layout has of its figures' code, whatever the construction
 pub record HasNumbers (d : Coding) (l : Layout) : Type 0 where

@@ -7,11 +7,9 @@ ghost use Rattle.construction_a.specs.Figures.{parts as partsOf};
 ghost use Rattle.construction_a.specs.Outcomes.{figuresNumber, figuresOut};
 ghost use Rattle.cells.specs.Cut.{blockHead, blockWith};
 ghost use Rattle.cells.specs.Erasures.{foundBound};
-ghost use Rattle.cells.specs.Outcomes.{figuresUnder};
-ghost use Rattle.params.specs.Bridge.{given, codingOf};
-ghost use Rattle.params.specs.Answer.{figuredAs, layoutNumber, LaidIn, LaidAs};
+ghost use Rattle.params.specs.Bridge.{given};
+ghost use Rattle.params.specs.Answer.{figuredAs, layoutNumber, LaidIn};
 ghost use Rattle.params.specs.Given.{figuresOf, Shaped, HeadsOf};
-use crate::long::LongParams;
 use binomials::CountAnswer;
 use refusals::Refusal;
 use symbols::numbers::BYTE_VALUES;
@@ -28,12 +26,6 @@ pub struct Params {
     pub q: u32,
     pub m: u32,
     pub b: u32,
-}
-
-// The figures of either construction.
-pub enum Figures {
-    Ranked(Params),
-    Long(LongParams),
 }
 
 // What the index blocks spell: the rank of the placement (Construction A), or how far into its part the one burst ends (Construction B).
@@ -183,19 +175,6 @@ impl Params {
             return Params::MIN_PARTS as usize;
         }
         self.m as usize
-    }
-}
-
-impl Figures {
-    // The layout that the figures give, whatever numbers come. Refusals in order: 1 2.
-    pub fn layout(self) -> LayoutAnswer
-        ensures answer { λ r. ⌜ figuredAs r ≡ figuresUnder (codingOf self) ⌝ }
-        ensures layout { λ r. ⌜ LaidAs self r ⌝ }
-    {
-        match self {
-            Figures::Ranked(p) => Params::figures(p.n, p.q, p.m, p.b),
-            Figures::Long(p) => LongParams::figures(p.n, p.q, p.b),
-        }
     }
 }
 

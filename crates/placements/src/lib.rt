@@ -9,14 +9,9 @@ ghost use Rattle.combinatorics.specs.Choose.{choose};
 ghost use Rattle.combinatorics.specs.Rank.{waysFrom};
 ghost use Rattle.combinatorics.specs.Stretch.{top, lastEnd};
 ghost use Rattle.binomials.specs.Limits.{maxThings, maxChosen};
-ghost use Rattle.cells.specs.Outcomes.{held, defectAt, unplaced as unplacedAs, coverUnder};
+ghost use Rattle.cells.specs.Outcomes.{held, defectAt, unplaced as unplacedAs};
 ghost use Rattle.cells.specs.Figures.{maxWord, maxBursts, maxCount};
-ghost use Rattle.params.specs.Bridge.{codingOf};
-ghost use Rattle.params.specs.Given.{codingIn, Serves};
 ghost use Rattle.placements.specs.Bridge.{heldAs, coveredAs, startsIn, coverable, leastCover, coverWithin, Rankable, Room};
-use params::Figures;
-use params::Layout;
-use params::LayoutAnswer;
 use params::Params;
 use refusals::Refusal;
 
@@ -156,27 +151,8 @@ pub struct CoverAnswer {
     pub placement: Placement,
 }
 
-// The placement of least rank whose bursts cover every defect of a map of n bytes, 1 where a position is defective and 0 elsewhere.
-// Refusals: 1 2 3 4 6.
-pub fn cover(figures: Figures, map: &[u8]) -> CoverAnswer
-    ensures { λ r. ⌜ coveredAs r ≡ coverUnder (codingOf figures) (now (map .entry)) ⌝ }
-{
-    let answer = figures.layout();
-    match answer {
-        LayoutAnswer::Refused(number) => unplaced(number),
-        LayoutAnswer::Fit(layout) => cover_fitting(layout, map),
-    }
-}
-
-// The same for figures that fit. Refusals: 3 4 6.
-pub fn cover_fitting(layout: Layout, map: &[u8]) -> CoverAnswer
-    requires { ⌜ Serves layout ⌝ }
-    ensures { λ r. ⌜ coveredAs r ≡ coverUnder (codingIn layout) (now (map .entry)) ⌝ }
-{
-    cover_within(layout.n, layout.m, layout.b, map)
-}
-
-// Covering by m bursts of b among n positions, whatever lays the strip out. Refusals: 3 4 6.
+// The placement of least rank whose bursts cover every defect of a map of n bytes, 1 where a position is defective and 0 elsewhere: covering by m bursts of b
+// among n positions, whatever lays the strip out. Refusals: 3 4 6.
 pub fn cover_within(n: usize, m: usize, b: usize, map: &[u8]) -> CoverAnswer
     requires { ⌜ Room n m b ⌝ }
     ensures { λ r. ⌜ coveredAs r ≡ coverWithin n m b (now (map .entry)) ⌝ }

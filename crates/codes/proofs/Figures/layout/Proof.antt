@@ -2,12 +2,11 @@
 use mathlib.Core.Path.{_≡_, sym, ap, subst, _∙_}
 use borrow.Author.Needs.{needs}
 use Rattle.construction_a.specs.Outcomes.{figuresOut}
-use Rattle.params.specs.Bridge.{given}
-use Rattle.params.specs.declared.Figures.the-variants.{Ranked as BlocksRanked, Long as BlocksLong}
+use Rattle.params.specs.Bridge.{given, givenLong}
 use Rattle.codes.specs.declared.Figures.{Figures}
 use Rattle.codes.specs.declared.FiguresAnswer.{FiguresAnswer}
 use Rattle.codes.specs.Bridge.{codingOf}
-use Rattle.codes.proofs.Answered.{Answers, by-blocks, by-sub-blocks}
+use Rattle.codes.proofs.Answered.{Answers, by-ranked, by-long, by-sub-blocks}
 use Rattle.codes.proofs.Figures.layout.Statement.{statement}
 use Rattle.codes.proofs.Figures.layout.Tie as tie
 
@@ -47,13 +46,13 @@ unfolding figuresOut
 returns c =
     let f = c .before .before .before .self .given in
     let r = c .before .figures in
-    told _ _ _ _ (f .1) (c .by-blocks .ensures) (by-blocks (BlocksRanked (f .0 .0)) (r .result) (r .ensures .0) (r .ensures .1 .0))
+    told _ _ _ _ (f .1) (c .by-blocks .ensures) (by-ranked (given (f .0 .0)) (r .result) (r .ensures .0) (r .ensures .1 .0))
 
 returns-2 : tie.Need-returns-2
 returns-2 c =
     let f = c .before .before .before .self2 .given in
     let r = c .before .figures2 in
-    told _ _ _ _ (f .1) (c .by-blocks2 .ensures) (by-blocks (BlocksLong (f .0 .0)) (r .result) (r .ensures .0) (r .ensures .1))
+    told _ _ _ _ (f .1) (c .by-blocks2 .ensures) (by-long (givenLong (f .0 .0)) (r .result) (r .ensures .0) (r .ensures .1))
 
 returns-3 : tie.Need-returns-3
 returns-3 c =
