@@ -2,20 +2,20 @@
  * A console for one strip: reads a found word given as hex and prints its placement and message, or the refusal by name; then the positions of its
  * silent cells, which the heads report as q, where it has any.
  *
- *     console N Q M B WORD         e.g. console 15 256 1 2 000000000741FFFF42430744454647
+ *     console N Q M B WORD                e.g. console 15 256 1 2 000000000741FFFF42430744454647
  *
  * With a job number behind the word it prints the prescription that the strip carries for this job, as a job table hands it out that has this job open and
  * no other. A strip of another job is refused.
  *
- *     console N Q M B WORD JOB     e.g. console 25 256 1 2 0000000702FF000007F600045A000000000000007F00000000 7
+ *     console N Q M B WORD JOB            e.g. console 25 256 1 2 0000000702FF000007F600045A000000000000007F00000000 7
  *
  * An L in the place of M is for strips with one long burst.
  *
- *     console N Q L B WORD [JOB]   e.g. console 15 256 L 5 010000000700FFFFFFFFFF41424344
+ *     console N Q L B WORD [JOB]          e.g. console 15 256 L 5 010000000700FFFFFFFFFF41424344
  *
- * The word larsson before the figures is for strips of the older trays. Their prescriptions are not read here.
+ * The word larsson before the figures is for strips of the older trays.
  *
- *     console larsson N Q M B WORD e.g. console larsson 15 256 1 2 060000000741FFFF42434445464706
+ *     console larsson N Q M B WORD [JOB]  e.g. console larsson 25 256 1 2 060000000702FFFFFFF60004065A0000000000007F00000000 7
  *
  * The words move-to-a and move-to-larsson before the figures print the strip that a job is moved to: from an older tray's strip to one of Construction A, or
  * back. The job table is as for a prescription.
@@ -60,7 +60,7 @@ static const char *refusal_text(unsigned answer)
 static int usage(const char *what)
 {
     fprintf(stderr, "console: %s\nusage: console N Q M B WORD [JOB], where WORD has two hex digits for each symbol, and M is L for one long burst\n"
-                    "       console larsson N Q M B WORD, for the older trays\n"
+                    "       console larsson N Q M B WORD [JOB], for the older trays\n"
                     "       console move-to-a|move-to-larsson N Q M B WORD JOB, between these and Construction A\n", what);
     return 2;
 }
@@ -170,23 +170,7 @@ struct figures {
     enum code code;
 };
 
-static unsigned read_prescription(struct figures f, const uint8_t *word, size_t word_len, uint32_t job)
-{
-    uint8_t table[BURGZEMI_TABLE_LEN], marks[BURGZEMI_MARKS_LEN];
-    double powers[BURGZEMI_POWERS_LEN];
-
-    open_alone(table, job);
-    unsigned answer = f.code == CONSTRUCTION_B
-        ? burgzemi_long_prescription_read(f.n, f.q, f.b, table, sizeof table, word, word_len, marks, BURGZEMI_MARKS_LEN, powers, BURGZEMI_POWERS_LEN)
-        : burgzemi_prescription_read(f.n, f.q, f.m, f.b, table, sizeof table, word, word_len, marks, BURGZEMI_MARKS_LEN, powers, BURGZEMI_POWERS_LEN);
-    if (answer != BURGZEMI_SERVED)
-        return answer;
-    printf("job %" PRIu32 "\n", (uint32_t)marks[0] << 24 | (uint32_t)marks[1] << 16 | (uint32_t)marks[2] << 8 | marks[3]);
-    print_eye('R', marks[4], marks[5], powers);
-    print_eye('L', marks[6], marks[7], powers + 2);
-    printf("PD %.1f\n", powers[4]);
-    return answer;
-}
+/* The library's calls under figures of any code: only these three know which function that is. */
 
 static uint32_t message_length(struct figures f)
 {
@@ -204,6 +188,33 @@ static unsigned decode(struct figures f, const uint8_t *word, size_t word_len, u
     case LARSSON: return burgzemi_larsson_decode(f.n, f.q, f.m, f.b, word, word_len, message, message_len, starts, starts_len);
     default: return burgzemi_decode(f.n, f.q, f.m, f.b, word, word_len, message, message_len, starts, starts_len);
     }
+}
+
+/* `marks` has BURGZEMI_MARKS_LEN bytes, `powers` BURGZEMI_POWERS_LEN doubles. */
+static unsigned prescription(struct figures f, const uint8_t *table, const uint8_t *word, size_t word_len, uint8_t *marks, double *powers)
+{
+    const size_t table_len = BURGZEMI_TABLE_LEN, marks_len = BURGZEMI_MARKS_LEN, powers_len = BURGZEMI_POWERS_LEN;
+    switch (f.code) {
+    case CONSTRUCTION_B: return burgzemi_long_prescription_read(f.n, f.q, f.b, table, table_len, word, word_len, marks, marks_len, powers, powers_len);
+    case LARSSON: return burgzemi_larsson_prescription_read(f.n, f.q, f.m, f.b, table, table_len, word, word_len, marks, marks_len, powers, powers_len);
+    default: return burgzemi_prescription_read(f.n, f.q, f.m, f.b, table, table_len, word, word_len, marks, marks_len, powers, powers_len);
+    }
+}
+
+static unsigned read_prescription(struct figures f, const uint8_t *word, size_t word_len, uint32_t job)
+{
+    uint8_t table[BURGZEMI_TABLE_LEN], marks[BURGZEMI_MARKS_LEN];
+    double powers[BURGZEMI_POWERS_LEN];
+
+    open_alone(table, job);
+    unsigned answer = prescription(f, table, word, word_len, marks, powers);
+    if (answer != BURGZEMI_SERVED)
+        return answer;
+    printf("job %" PRIu32 "\n", (uint32_t)marks[0] << 24 | (uint32_t)marks[1] << 16 | (uint32_t)marks[2] << 8 | marks[3]);
+    print_eye('R', marks[4], marks[5], powers);
+    print_eye('L', marks[6], marks[7], powers + 2);
+    printf("PD %.1f\n", powers[4]);
+    return answer;
 }
 
 static unsigned read_word(struct figures f, const uint8_t *word, size_t word_len)
@@ -246,24 +257,32 @@ static unsigned move_strip(move_function *move, struct figures f, const uint8_t 
     return answer;
 }
 
+/* The figures in four texts; 0 where one of them is none. Where it may be a long burst, an L in the place of M says so. */
+static int strip_figures(char **texts, int may_be_long, struct figures *f)
+{
+    if (may_be_long && strcmp(texts[2], "L") == 0)
+        f->code = CONSTRUCTION_B;
+    return figure(texts[0], &f->n) && figure(texts[1], &f->q) && (f->code == CONSTRUCTION_B || figure(texts[2], &f->m)) && figure(texts[3], &f->b);
+}
+
 int main(int argc, char **argv)
 {
     static uint8_t word[MAX_SYMBOLS];
-    struct figures f = {.m = 1};
+    struct figures f = {.m = 1, .code = CONSTRUCTION_A};
     uint32_t job = 0;
     move_function *move = argc > 1 ? moving(argv[1]) : NULL;
 
     if (argc > 1 && strcmp(argv[1], "larsson") == 0)
         f.code = LARSSON;
-    if (f.code == LARSSON || move != NULL) {
+    /* Whether the figures come first. */
+    int plain = f.code != LARSSON && move == NULL;
+    if (!plain) {
         argc--;
         argv++;
     }
-    if (move != NULL ? argc != 7 : argc != 6 && (argc != 7 || f.code == LARSSON))
-        return usage("four figures and a word are wanted; a job number follows to move it, and may follow but for the older trays");
-    if (f.code != LARSSON && move == NULL && strcmp(argv[3], "L") == 0)
-        f.code = CONSTRUCTION_B;
-    if (!figure(argv[1], &f.n) || !figure(argv[2], &f.q) || !(f.code == CONSTRUCTION_B || figure(argv[3], &f.m)) || !figure(argv[4], &f.b))
+    if (argc != 7 && (argc != 6 || move != NULL))
+        return usage("four figures and a word are wanted; a job number may follow, and must where a job is moved");
+    if (!strip_figures(argv + 1, plain, &f))
         return usage("a figure is no number of 32 bits");
     int len = symbols(argv[5], word);
     if (len < 0)

@@ -1,6 +1,6 @@
-/* Calls the functions of libexports.a on document 01's bench strips, its transfer example, on prescriptions, on strips with one long burst, on those of the
- * older trays and on moves between these and Construction A, and sees that each refusal comes in its place and leaves every buffer as it was. Ends with 0
- * where all is right. */
+/* Calls the functions of libexports.a on document 01's bench strips, its transfer example, on prescriptions and on words side by side, under each code, and on
+ * moves between the older trays and Construction A, and sees that each refusal comes in its place and leaves every buffer as it was. Ends with 0 where all is
+ * right. */
 #include "burgzemi.h"
 
 #include <stdio.h>
@@ -33,6 +33,16 @@ static const uint8_t untouched[64] = {
     0xA5, 0x5A, 0xA5, 0x5A, 0xA5, 0x5A, 0xA5, 0x5A, 0xA5, 0x5A, 0xA5, 0x5A, 0xA5, 0x5A, 0xA5, 0x5A,
 };
 
+/* What a strip is written in: Construction A, Construction B for one long burst, or the Larsson code of the older trays. */
+enum code { CONSTRUCTION_A, CONSTRUCTION_B, LARSSON };
+
+/* A call under `code` and the figures n, q, m and b of where it stands; one long burst has m 1. A length is asked for by LENGTH. */
+#define ANY(call, ...) \
+    (code == CONSTRUCTION_B ? burgzemi_long_##call(n, q, b, __VA_ARGS__) \
+                            : (code == LARSSON ? burgzemi_larsson_##call : burgzemi_##call)(n, q, m, b, __VA_ARGS__))
+#define LENGTH(call) \
+    (code == CONSTRUCTION_B ? burgzemi_long_##call(n, q, b) : (code == LARSSON ? burgzemi_larsson_##call : burgzemi_##call)(n, q, m, b))
+
 /* ---- Word write: n 30, q 2, m 1, b 3; start 12, message all 1 */
 
 static const uint8_t first_word[30] = {0, 1, 1, 1, 1, 1, 1, 1, 1, 1, 1, 1, 0, 0, 0, 1, 1, 1, 1, 1, 1, 0, 1, 1, 0, 0, 1, 1, 1, 1};
@@ -47,42 +57,6 @@ static void first_strip(const char *what, unsigned wanted, uint32_t q, uint32_t 
     unsigned answer = burgzemi_encode(30, q, 1, b, starts, starts_len, message, message_len, word, word_len);
     see(what, answer, wanted, word, wanted == BURGZEMI_SERVED ? first_word : untouched, 30);
     see(what, answer, wanted, word + 30, untouched + 30, sizeof word - 30);
-}
-
-/* The check of that word against its placement and message, with one of its symbols altered. */
-static void check(const char *what, unsigned wanted, uint32_t q, uint32_t b, uint16_t start, size_t starts_len, uint8_t last, size_t message_len,
-                  size_t at, uint8_t value, size_t word_len)
-{
-    uint8_t starts[4] = {(uint8_t)(start >> 8), (uint8_t)start, 0, 0}, message[24], word[32];
-    memset(message, 1, sizeof message);
-    message[19] = last;
-    memset(word, 0, sizeof word);
-    memcpy(word, first_word, 30);
-    word[at] = value;
-    unsigned answer = burgzemi_verify(30, q, 1, b, starts, starts_len, message, message_len, word, word_len);
-    see(what, answer, wanted, untouched, untouched, 1);
-}
-
-static void checks(void)
-{
-    check("as it is written", BURGZEMI_SERVED, 2, 3, 12, 2, 1, 20, 0, 0, 30);
-    check("damage in the burst", BURGZEMI_SERVED, 2, 3, 12, 2, 1, 20, 14, 1, 30);
-    check("a silent cell in the burst", BURGZEMI_SERVED, 2, 3, 12, 2, 1, 20, 12, 2, 30);
-    check("another symbol in the message", BURGZEMI_DIFFERS, 2, 3, 12, 2, 1, 20, 29, 0, 30);
-    check("another fixed symbol", BURGZEMI_DIFFERS, 2, 3, 12, 2, 1, 20, 0, 1, 30);
-    check("another digit", BURGZEMI_DIFFERS, 2, 3, 12, 2, 1, 20, 25, 1, 30);
-    check("a silent cell before the burst", BURGZEMI_DIFFERS, 2, 3, 12, 2, 1, 20, 11, 2, 30);
-    check("another message", BURGZEMI_DIFFERS, 2, 3, 12, 2, 0, 20, 0, 0, 30);
-    check("another start", BURGZEMI_DIFFERS, 2, 3, 11, 2, 1, 20, 0, 0, 30);
-    check("q of 1", BURGZEMI_INVALID, 1, 6, 12, 1, 2, 21, 13, 3, 29);
-    check("b of 6", BURGZEMI_UNFIT, 2, 6, 12, 1, 2, 21, 13, 3, 29);
-    check("starts short", BURGZEMI_LENGTH, 2, 3, 28, 1, 2, 20, 13, 3, 30);
-    check("message long", BURGZEMI_LENGTH, 2, 3, 28, 2, 2, 21, 13, 3, 30);
-    check("word short", BURGZEMI_LENGTH, 2, 3, 28, 2, 2, 20, 13, 3, 29);
-    check("word long", BURGZEMI_LENGTH, 2, 3, 28, 2, 2, 20, 13, 3, 31);
-    check("start past the end", BURGZEMI_STARTS, 2, 3, 28, 2, 2, 20, 13, 3, 30);
-    check("a message symbol of 2", BURGZEMI_SYMBOL, 2, 3, 12, 2, 2, 20, 0, 1, 30);
-    check("a value of 3 in the burst", BURGZEMI_SYMBOL, 2, 3, 12, 2, 1, 20, 13, 3, 30);
 }
 
 static void words(void)
@@ -124,27 +98,9 @@ static void words(void)
 
 /* ---- The longest word and the most bursts: written, covered, damaged and read, all with q 256, where a byte takes one symbol */
 
-/* A call under the figures n, q 256, m and b, or, where one_long is 1, of one long burst. */
-#define EITHER(call, ...) (one_long ? burgzemi_long_##call(n, 256, b, __VA_ARGS__) : burgzemi_##call(n, 256, m, b, __VA_ARGS__))
-
-/* What a strip is written in, and a call of one of these. */
-enum code { CONSTRUCTION_A, CONSTRUCTION_B, LARSSON };
-#define ANY(call, ...) (code == LARSSON ? burgzemi_larsson_##call(n, 256, m, b, __VA_ARGS__) : EITHER(call, __VA_ARGS__))
-
-static void large_strip(const char *what, enum code code, uint32_t n, uint32_t m, uint32_t b, uint32_t k)
+/* Each burst one position from the next, the last one from the end, and a map that only they cover. */
+static void last_bursts(uint32_t n, uint32_t m, uint32_t b, uint8_t *starts, uint8_t *map)
 {
-    static uint8_t word[BURGZEMI_MAX_WORD], damaged[BURGZEMI_MAX_WORD], message[BURGZEMI_MAX_WORD], map[BURGZEMI_MAX_WORD], got[BURGZEMI_MAX_WORD];
-    uint8_t table[BURGZEMI_TABLE_LEN] = {0}, starts[2 * BURGZEMI_MAX_BURSTS + 2] = {0}, other[2 * BURGZEMI_MAX_BURSTS + 2] = {0};
-    const int one_long = code == CONSTRUCTION_B;
-    if (code == LARSSON) {
-        length(what, burgzemi_larsson_message_len(n, 256, m, b), k);
-        length(what, burgzemi_larsson_payload_len(n, 256, m, b), k);
-    } else {
-        length(what, one_long ? burgzemi_long_message_len(n, 256, b) : burgzemi_message_len(n, 256, m, b), k);
-        length(what, one_long ? burgzemi_long_payload_len(n, 256, b) : burgzemi_payload_len(n, 256, m, b), k);
-    }
-    for (uint32_t i = 0; i < k; i++)
-        message[i] = (uint8_t)(i * 7 + 1);
     memset(map, 0, n);
     for (uint32_t i = 0; i < m; i++) {
         uint32_t start = n - (m - i) * (b + 1);
@@ -152,6 +108,18 @@ static void large_strip(const char *what, enum code code, uint32_t n, uint32_t m
         starts[2 * i + 1] = (uint8_t)start;
         map[start] = map[start + b - 1] = 1;
     }
+}
+
+static void large_strip(const char *what, enum code code, uint32_t n, uint32_t m, uint32_t b, uint32_t k)
+{
+    static uint8_t word[BURGZEMI_MAX_WORD], damaged[BURGZEMI_MAX_WORD], message[BURGZEMI_MAX_WORD], map[BURGZEMI_MAX_WORD], got[BURGZEMI_MAX_WORD];
+    uint8_t table[BURGZEMI_TABLE_LEN] = {0}, starts[2 * BURGZEMI_MAX_BURSTS + 2] = {0}, other[2 * BURGZEMI_MAX_BURSTS + 2] = {0};
+    const uint32_t q = 256;
+    length(what, LENGTH(message_len), k);
+    length(what, LENGTH(payload_len), k);
+    for (uint32_t i = 0; i < k; i++)
+        message[i] = (uint8_t)(i * 7 + 1);
+    last_bursts(n, m, b, starts, map);
     see(what, ANY(cover, map, n, other, 2 * m), BURGZEMI_SERVED, other, starts, sizeof starts);
 
     memset(word, 0xA5, n);
@@ -164,13 +132,12 @@ static void large_strip(const char *what, enum code code, uint32_t n, uint32_t m
     memset(other, 0, sizeof other);
     see(what, ANY(decode, damaged, n, got, k, other, 2 * m), answer, got, message, k);
     see(what, answer, BURGZEMI_SERVED, other, starts, sizeof starts);
-    if (code == LARSSON)
-        return;
+    see(what, ANY(verify, starts, 2 * m, message, k, damaged, n), BURGZEMI_SERVED, got, message, k);
 
     /* The job whose number the message begins with. */
     see(what, burgzemi_call(table, sizeof table, 'O', 0x01080F16), BURGZEMI_SERVED, got, message, k);
-    see(what, EITHER(job_write, table, sizeof table, starts, 2 * m, message, k, got, n), BURGZEMI_SERVED, got, word, n);
-    see(what, EITHER(job_read, table, sizeof table, damaged, n, got, k), BURGZEMI_SERVED, got, message, k);
+    see(what, ANY(job_write, table, sizeof table, starts, 2 * m, message, k, got, n), BURGZEMI_SERVED, got, word, n);
+    see(what, ANY(job_read, table, sizeof table, damaged, n, got, k), BURGZEMI_SERVED, got, message, k);
 }
 
 /* ---- Covering: n 30, q 2, m 1, b 3 */
@@ -206,86 +173,107 @@ static void maps(void)
     covering("b of 0", BURGZEMI_INVALID, 0, 26, 29, 2, 31, 3, 0);
 }
 
-/* ---- Words side by side: n 3, q 4, m 1, b 1, and the same figures with one long burst */
+/* ---- Words side by side: n 3, q 4, m 1, b 1, under each code */
 
 static const uint8_t two_words[8] = {0, 1, 2, 3, 2, 1, 4, 4}, two_laid[6] = {0, 3, 1, 2, 2, 1};
 
 /* Both ways: laid where `into` is 1, taken apart where it is 0. The fifth symbol is `fifth`. */
-static void lanes(const char *what, unsigned wanted, int one_long, int into, uint32_t q, uint32_t b, uint32_t depth, uint8_t fifth, size_t from_len,
+static void lanes(const char *what, unsigned wanted, enum code code, int into, uint32_t q, uint32_t b, uint32_t depth, uint8_t fifth, size_t from_len,
                   size_t to_len)
 {
+    const uint32_t n = 3, m = 1;
     uint8_t from[8], to[8];
     memcpy(from, into ? two_words : two_laid, 6);
     memset(from + 6, 4, 2);
     from[4] = fifth;
     memcpy(to, untouched, sizeof to);
-    unsigned answer = one_long ? (into ? burgzemi_long_interleave : burgzemi_long_deinterleave)(3, q, b, depth, from, from_len, to, to_len)
-                               : (into ? burgzemi_interleave : burgzemi_deinterleave)(3, q, 1, b, depth, from, from_len, to, to_len);
+    unsigned answer = into ? ANY(interleave, depth, from, from_len, to, to_len) : ANY(deinterleave, depth, from, from_len, to, to_len);
     see(what, answer, wanted, to, wanted == BURGZEMI_SERVED ? (into ? two_laid : two_words) : untouched, 6);
     see(what, answer, wanted, to + 6, untouched + 6, 2);
 }
 
-static void side_by_side(int one_long)
+static void side_by_side(enum code code)
 {
     for (int into = 0; into <= 1; into++) {
-        lanes("two words", BURGZEMI_SERVED, one_long, into, 4, 1, 2, 2, 6, 6);
+        lanes("two words", BURGZEMI_SERVED, code, into, 4, 1, 2, 2, 6, 6);
         /* 1 2 18 3 4, each beside what would be refused later */
-        lanes("q of 257", BURGZEMI_INVALID, one_long, into, 257, 2, 0, 4, 5, 6);
-        lanes("b of 2", BURGZEMI_UNFIT, one_long, into, 4, 2, 0, 4, 5, 6);
-        lanes("depth 0", BURGZEMI_DEPTH, one_long, into, 4, 1, 0, 4, 5, 6);
-        lanes("depth 0, no symbols", BURGZEMI_DEPTH, one_long, into, 4, 1, 0, 2, 0, 0);
-        lanes("depth 17", BURGZEMI_DEPTH, one_long, into, 4, 1, 17, 4, 6, 6);
-        lanes("depth of 32 bits", BURGZEMI_DEPTH, one_long, into, 4, 1, UINT32_MAX, 2, 6, 6);
-        lanes("a symbol short", BURGZEMI_LENGTH, one_long, into, 4, 1, 2, 4, 5, 6);
-        lanes("a symbol more", BURGZEMI_LENGTH, one_long, into, 4, 1, 2, 4, 7, 6);
-        lanes("no room for a symbol", BURGZEMI_LENGTH, one_long, into, 4, 1, 2, 4, 6, 5);
-        lanes("room for a symbol more", BURGZEMI_LENGTH, one_long, into, 4, 1, 2, 4, 6, 7);
-        lanes(into ? "a symbol of q laid" : "a value above q taken apart", BURGZEMI_SYMBOL, one_long, into, 4, 1, 2, into ? 4 : 5, 6, 6);
+        lanes("q of 257", BURGZEMI_INVALID, code, into, 257, 2, 0, 4, 5, 6);
+        lanes("b of 2", BURGZEMI_UNFIT, code, into, 4, 2, 0, 4, 5, 6);
+        lanes("depth 0", BURGZEMI_DEPTH, code, into, 4, 1, 0, 4, 5, 6);
+        lanes("depth 0, no symbols", BURGZEMI_DEPTH, code, into, 4, 1, 0, 2, 0, 0);
+        lanes("depth 17", BURGZEMI_DEPTH, code, into, 4, 1, 17, 4, 6, 6);
+        lanes("depth of 32 bits", BURGZEMI_DEPTH, code, into, 4, 1, UINT32_MAX, 2, 6, 6);
+        lanes("a symbol short", BURGZEMI_LENGTH, code, into, 4, 1, 2, 4, 5, 6);
+        lanes("a symbol more", BURGZEMI_LENGTH, code, into, 4, 1, 2, 4, 7, 6);
+        lanes("no room for a symbol", BURGZEMI_LENGTH, code, into, 4, 1, 2, 4, 6, 5);
+        lanes("room for a symbol more", BURGZEMI_LENGTH, code, into, 4, 1, 2, 4, 6, 7);
+        lanes(into ? "a symbol of q laid" : "a value above q taken apart", BURGZEMI_SYMBOL, code, into, 4, 1, 2, into ? 4 : 5, 6, 6);
     }
 
     /* Silent cells are taken apart as any other. */
+    const uint32_t n = 3, q = 4, m = 1, b = 1;
     uint8_t silent[6], taken[6];
     memset(silent, 4, sizeof silent);
-    unsigned answer = one_long ? burgzemi_long_deinterleave(3, 4, 1, 2, silent, 6, taken, 6) : burgzemi_deinterleave(3, 4, 1, 1, 2, silent, 6, taken, 6);
-    see("silent cells taken apart", answer, BURGZEMI_SERVED, taken, silent, 6);
+    see("silent cells taken apart", ANY(deinterleave, 2, silent, 6, taken, 6), BURGZEMI_SERVED, taken, silent, 6);
+}
+
+/* Figures that fit some codes and not others: a word all 1 beside one all 0. */
+static void figures_of_some(enum code code)
+{
+    static const struct { uint32_t n, q, m, b; uint8_t answers[3]; } rows[] = {
+        {6, 5, 2, 1, {BURGZEMI_SERVED, BURGZEMI_SERVED, BURGZEMI_UNFIT}}, {3, 2, 3, 1, {BURGZEMI_UNFIT, BURGZEMI_SERVED, BURGZEMI_SERVED}},
+        {6, 2, 1, 2, {BURGZEMI_UNFIT, BURGZEMI_SERVED, BURGZEMI_UNFIT}}, {15, 256, 1, 7, {BURGZEMI_UNFIT, BURGZEMI_UNFIT, BURGZEMI_SERVED}},
+    };
+    for (size_t i = 0; i < sizeof rows / sizeof *rows; i++) {
+        const uint32_t n = rows[i].n, q = rows[i].q, m = rows[i].m, b = rows[i].b;
+        const unsigned wanted = rows[i].answers[code];
+        uint8_t words[30] = {0}, laid[30], strip[30], apart[30];
+        memset(words, 1, n);
+        for (size_t t = 0; t < sizeof laid; t++)
+            laid[t] = t % 2 == 0;
+        memcpy(strip, untouched, sizeof strip);
+        memcpy(apart, untouched, sizeof apart);
+        see("figures of some codes, laid", ANY(interleave, 2, words, 2 * n, strip, 2 * n), wanted, strip, wanted ? untouched : laid, 2 * n);
+        see("figures of some codes, apart", ANY(deinterleave, 2, laid, 2 * n, apart, 2 * n), wanted, apart, wanted ? untouched : words, 2 * n);
+    }
 }
 
 /* Words of n symbols, all q 256, m 1 and b 1: each cell of the strip is where it belongs, and the words come back. */
-static void strip_of(int one_long, uint32_t n, uint32_t depth)
+static void strip_of(enum code code, uint32_t n, uint32_t depth)
 {
-    const uint32_t m = 1, b = 1;
+    const uint32_t q = 256, m = 1, b = 1;
     static uint8_t words[BURGZEMI_MAX_DEPTH * BURGZEMI_MAX_WORD], strip[sizeof words], back[sizeof words];
     size_t len = (size_t)n * depth;
     uint32_t state = n + depth;
     for (size_t i = 0; i < len; i++)
         words[i] = (uint8_t)((state = state * 1664525 + 1013904223) >> 24);
-    unsigned answer = EITHER(interleave, depth, words, len, strip, len);
+    unsigned answer = ANY(interleave, depth, words, len, strip, len);
     for (size_t t = 0; t < len && answer == BURGZEMI_SERVED; t++)
         if (strip[t] != words[t % depth * n + t / depth])
             answer = 255;
     see("a strip", answer, BURGZEMI_SERVED, words, words, len);
-    see("a strip taken apart", EITHER(deinterleave, depth, strip, len, back, len), BURGZEMI_SERVED, back, words, len);
+    see("a strip taken apart", ANY(deinterleave, depth, strip, len, back, len), BURGZEMI_SERVED, back, words, len);
 }
 
 /* README's picture: four words of n 15, q 256, m 1, b 2 under one scratch of 8 cells, from cell 26 on; and one of 20 cells with one long burst, b 5. */
-static void scratch(int one_long, uint32_t b, uint32_t k)
+static void scratch(enum code code, uint32_t b, uint32_t k)
 {
-    const uint32_t n = 15, m = 1;
+    const uint32_t n = 15, q = 256, m = 1;
     uint8_t map[60] = {0}, maps_apart[60], words[60], strip[60], found[60], message[11], got[11], starts[2], covers[8];
     static const uint8_t planned[8] = {0, 7, 0, 7, 0, 6, 0, 6};
     memset(map + 26, 1, 4 * b);
-    see("a scratch taken apart", EITHER(deinterleave, 4, map, 60, maps_apart, 60), BURGZEMI_SERVED, map, map, 60);
+    see("a scratch taken apart", ANY(deinterleave, 4, map, 60, maps_apart, 60), BURGZEMI_SERVED, map, map, 60);
     for (int j = 0; j < 4; j++) {
         memset(message, 'A' + j, sizeof message);
-        see("a lane covered", EITHER(cover, maps_apart + 15 * j, 15, covers + 2 * j, 2), BURGZEMI_SERVED, covers, planned, 2 * (size_t)j + 2);
-        see("a lane written", EITHER(encode, covers + 2 * j, 2, message, k, words + 15 * j, 15), BURGZEMI_SERVED, covers, planned, 2);
+        see("a lane covered", ANY(cover, maps_apart + 15 * j, 15, covers + 2 * j, 2), BURGZEMI_SERVED, covers, planned, 2 * (size_t)j + 2);
+        see("a lane written", ANY(encode, covers + 2 * j, 2, message, k, words + 15 * j, 15), BURGZEMI_SERVED, covers, planned, 2);
     }
-    see("four lanes laid", EITHER(interleave, 4, words, 60, strip, 60), BURGZEMI_SERVED, map, map, 60);
+    see("four lanes laid", ANY(interleave, 4, words, 60, strip, 60), BURGZEMI_SERVED, map, map, 60);
     memset(strip + 26, 0xFF, 4 * b);
-    see("four lanes taken apart", EITHER(deinterleave, 4, strip, 60, found, 60), BURGZEMI_SERVED, map, map, 60);
+    see("four lanes taken apart", ANY(deinterleave, 4, strip, 60, found, 60), BURGZEMI_SERVED, map, map, 60);
     for (int j = 0; j < 4; j++) {
         memset(message, 'A' + j, sizeof message);
-        unsigned answer = EITHER(decode, found + 15 * j, 15, got, k, starts, 2);
+        unsigned answer = ANY(decode, found + 15 * j, 15, got, k, starts, 2);
         see("a lane read", answer, BURGZEMI_SERVED, got, message, k);
         see("a lane's starts", answer, BURGZEMI_SERVED, starts, planned + 2 * j, 2);
     }
@@ -377,22 +365,12 @@ static void calls(void)
     see("no table", burgzemi_call(table, 0, 'O', 10), BURGZEMI_LENGTH, table, expected, sizeof table);
 }
 
-/* Number 0 alone, in the first slot, two between and the last: open, cancelled, finished, reinstated, held; and what is read and written of it. */
+/* Number 0 alone, in the first slot, two between and the last: open, cancelled, finished, reinstated, held. */
 static void number_zero(void)
 {
-    static const uint8_t payload0[11] = {0, 0, 0, 0, 0x41}, starts[2] = {0, 6};
-    uint8_t word[15], none[BURGZEMI_TABLE_LEN] = {0};
-    if (burgzemi_encode(15, 256, 1, 2, starts, 2, payload0, 11, word, 15) != BURGZEMI_SERVED)
-        wrong = 1;
     for (int at = 0; at <= 63; at += 21) {
-        uint8_t table[BURGZEMI_TABLE_LEN] = {0}, expected[BURGZEMI_TABLE_LEN] = {0}, got[15], payload[11];
+        uint8_t table[BURGZEMI_TABLE_LEN] = {0}, expected[BURGZEMI_TABLE_LEN] = {0};
 #define CALL(what, letter, wanted) see(what, burgzemi_call(table, sizeof table, letter, 0), wanted, table, expected, sizeof table)
-#define WRITE(what, wanted) see(what, burgzemi_job_write(15, 256, 1, 2, table, sizeof table, starts, 2, payload0, 11, got, 15), wanted, got, untouched, 15)
-#define READ(what, wanted, held) see(what, burgzemi_job_read(15, 256, 1, 2, table, sizeof table, word, 15, payload, 11), wanted, payload, held, 11)
-        memcpy(got, untouched, sizeof got);
-        memcpy(payload, untouched, sizeof payload);
-        WRITE("an unknown 0 written", BURGZEMI_NUMBER_ZERO);
-        READ("an unknown 0 read", BURGZEMI_NOT_OPEN, untouched);
         CALL("an unknown 0 opened", 'O', BURGZEMI_NUMBER_ZERO);
         CALL("an unknown 0 cancelled", 'C', BURGZEMI_NUMBER_ZERO);
         CALL("an unknown 0 finished", 'F', BURGZEMI_NOT_OPEN);
@@ -401,8 +379,6 @@ static void number_zero(void)
         CALL("an unknown 0 released", 'U', BURGZEMI_NOT_HELD);
         set_slot(table, at, 2, 0);
         set_slot(expected, at, 2, 0);
-        WRITE("a cancelled 0 written", BURGZEMI_NUMBER_ZERO);
-        READ("a cancelled 0 read", BURGZEMI_CANCELLED, untouched);
         CALL("a cancelled 0 opened", 'O', BURGZEMI_NUMBER_ZERO);
         CALL("a cancelled 0 cancelled", 'C', BURGZEMI_CANCELLED);
         CALL("a cancelled 0 finished", 'F', BURGZEMI_CANCELLED);
@@ -411,14 +387,9 @@ static void number_zero(void)
         set_slot(expected, at, 1, 0);
         CALL("a 0 reinstated that was open", 'I', BURGZEMI_SERVED);
         CALL("an open 0 reinstated", 'I', BURGZEMI_NOT_CANCELLED);
-        WRITE("an open 0 written", BURGZEMI_NUMBER_ZERO);
-        READ("an open 0 read", BURGZEMI_SERVED, payload0);
         CALL("an open 0 opened", 'O', BURGZEMI_NUMBER_ZERO);
-        memcpy(payload, untouched, sizeof payload);
         set_slot(expected, at, 4, 0);
         CALL("an open 0 held", 'H', BURGZEMI_SERVED);
-        WRITE("a 0 on hold written", BURGZEMI_NUMBER_ZERO);
-        READ("a 0 on hold read", BURGZEMI_HELD, untouched);
         CALL("a 0 on hold opened", 'O', BURGZEMI_NUMBER_ZERO);
         CALL("a 0 on hold finished", 'F', BURGZEMI_HELD);
         set_slot(expected, at, 5, 0);
@@ -427,104 +398,136 @@ static void number_zero(void)
         CALL("a 0 reinstated that was on hold", 'I', BURGZEMI_SERVED);
         set_slot(expected, at, 1, 0);
         CALL("a 0 released", 'U', BURGZEMI_SERVED);
-        memcpy(expected, none, sizeof none);
+        memset(expected, 0, sizeof expected);
         CALL("an open 0 finished", 'F', BURGZEMI_SERVED);
         set_slot(table, at, 3, 0);
         CALL("a 0 reinstated that was absent", 'I', BURGZEMI_SERVED);
 #undef CALL
-#undef WRITE
-#undef READ
     }
 }
 
-/* The transfer example: n 15, q 256, m 1, b 2; start 6, job 7. */
-static const uint8_t payload7[11] = {0, 0, 0, 7, 0x41, 0x42, 0x43, 0x44, 0x45, 0x46, 0x47};
-static const uint8_t written7[15] = {0, 0, 0, 0, 7, 0x41, 0, 0, 0x42, 0x43, 7, 0x44, 0x45, 0x46, 0x47};
-static const uint8_t found7[15] = {0, 0, 0, 0, 7, 0x41, 0xFF, 0xFF, 0x42, 0x43, 7, 0x44, 0x45, 0x46, 0x47};
+/* What a job in each of the six states is answered. */
+static const uint8_t by_state[6] = {BURGZEMI_NOT_OPEN, BURGZEMI_SERVED, BURGZEMI_CANCELLED, BURGZEMI_CANCELLED, BURGZEMI_HELD, BURGZEMI_CANCELLED};
 
-static void write7(const char *what, unsigned wanted, uint32_t q, uint32_t b, const uint8_t *table, size_t table_len, uint8_t start,
+/* A strip of number 0 in each state, in the same slots: it is read as any other job, and never written. */
+static void zero_on_strips(enum code code)
+{
+    static const uint8_t payload0[11] = {0, 0, 0, 0, 0x41}, starts[2] = {0, 6};
+    const uint32_t n = 15, q = 256, m = 1, b = 2;
+    uint8_t word[15];
+    see("number 0 as a word", ANY(encode, starts, 2, payload0, 11, word, 15), BURGZEMI_SERVED, starts, starts, 2);
+    for (int i = 0; i < 24; i++) {
+        uint8_t table[BURGZEMI_TABLE_LEN] = {0}, got[15], payload[11], state = (uint8_t)(i / 4);
+        set_slot(table, i % 4 * 21, state, 0);
+        memcpy(got, untouched, sizeof got);
+        memcpy(payload, untouched, sizeof payload);
+        see("number 0 written", ANY(job_write, table, sizeof table, starts, 2, payload0, 11, got, 15), BURGZEMI_NUMBER_ZERO, got, untouched, 15);
+        const uint8_t *held = by_state[state] == BURGZEMI_SERVED ? payload0 : untouched;
+        see("number 0 read", ANY(job_read, table, sizeof table, word, 15, payload, 11), by_state[state], payload, held, 11);
+    }
+}
+
+/* The transfer example under each code: n 15, q 256, m 1, b 2; start 6, job 7. The burst ends in the second part, at its third position: the third part spells
+ * rank 6 or place 2, plus 1. Sub-blocks are at 0, 7 and 14: the burst touches the second, and the others spell 6. */
+static const uint8_t payload7[11] = {0, 0, 0, 7, 0x41, 0x42, 0x43, 0x44, 0x45, 0x46, 0x47};
+static const uint8_t written7[3][15] = {
+    {0, 0, 0, 0, 7, 0x41, 0, 0, 0x42, 0x43, 7, 0x44, 0x45, 0x46, 0x47},
+    {0, 0, 0, 0, 7, 0x41, 0, 0, 0x42, 0x43, 3, 0x44, 0x45, 0x46, 0x47},
+    {6, 0, 0, 0, 7, 0x41, 0, 0, 0x42, 0x43, 0x44, 0x45, 0x46, 0x47, 6},
+};
+
+static void write7(const char *what, unsigned wanted, enum code code, uint32_t q, uint32_t b, const uint8_t *table, size_t table_len, uint8_t start,
                    size_t starts_len, size_t payload_len, size_t word_len)
 {
+    const uint32_t n = 15, m = 1;
     uint8_t starts[4] = {0, start, 0, 0}, word[16];
     memcpy(word, untouched, sizeof word);
-    unsigned answer = burgzemi_job_write(15, q, 1, b, table, table_len, starts, starts_len, payload7, payload_len, word, word_len);
-    see(what, answer, wanted, word, wanted == BURGZEMI_SERVED ? written7 : untouched, 15);
+    unsigned answer = ANY(job_write, table, table_len, starts, starts_len, payload7, payload_len, word, word_len);
+    see(what, answer, wanted, word, wanted == BURGZEMI_SERVED ? written7[code] : untouched, 15);
+    see(what, answer, wanted, word + 15, untouched + 15, 1);
 }
 
-static void read7(const char *what, unsigned wanted, uint32_t q, uint32_t b, const uint8_t *table, size_t table_len, const uint8_t *word,
+/* The word as it is found, with damage in its burst; or a word that is given. */
+static void read7(const char *what, unsigned wanted, enum code code, uint32_t q, uint32_t b, const uint8_t *table, size_t table_len, const uint8_t *word,
                   size_t word_len, size_t payload_len)
 {
-    uint8_t payload[16];
+    const uint32_t n = 15, m = 1;
+    uint8_t payload[16], found[15];
     memcpy(payload, untouched, sizeof payload);
-    unsigned answer = burgzemi_job_read(15, q, 1, b, table, table_len, word, word_len, payload, payload_len);
+    memcpy(found, word ? word : written7[code], sizeof found);
+    if (!word)
+        memset(found + 6, 0xFF, 2);
+    unsigned answer = ANY(job_read, table, table_len, found, word_len, payload, payload_len);
     see(what, answer, wanted, payload, wanted == BURGZEMI_SERVED ? payload7 : untouched, 11);
+    see(what, answer, wanted, payload + 11, untouched + 11, sizeof payload - 11);
 }
 
-static void transfer_example(void)
+/* 1 2 10 3 5, or 1 2 10 3 and 7 or 21, each beside what would be refused later */
+static void refused_jobs(enum code code)
 {
-    uint8_t table[BURGZEMI_TABLE_LEN] = {0}, empty[BURGZEMI_TABLE_LEN] = {0}, word[16];
-    size_t len = sizeof table;
-    if (burgzemi_call(table, len, 'O', 7) != BURGZEMI_SERVED)
-        wrong = 1;
-    write7("job 7 written", BURGZEMI_SERVED, 256, 2, table, len, 6, 2, 11, 15);
-    read7("job 7 read", BURGZEMI_SERVED, 256, 2, table, len, found7, 15, 11);
-    write7("job 7 not open, written", BURGZEMI_NOT_OPEN, 256, 2, empty, len, 6, 2, 11, 15);
-    read7("job 7 not open, read", BURGZEMI_NOT_OPEN, 256, 2, empty, len, found7, 15, 11);
+    uint8_t empty[BURGZEMI_TABLE_LEN] = {0}, word[15];
+    const size_t len = sizeof empty;
+    write7("q of 257, written", BURGZEMI_INVALID, code, 257, 9, empty, len, 14, 1, 4, 14);
+    write7("b of 9, written", BURGZEMI_UNFIT, code, 256, 9, empty, len - 1, 14, 1, 4, 14);
+    write7("three symbols for a byte, written", BURGZEMI_PAYLOAD, code, 15, 2, empty, 0, 14, 1, 4, 14);
+    write7("table short, written", BURGZEMI_LENGTH, code, 256, 2, empty, len - 1, 14, 2, 11, 15);
+    write7("starts odd, written", BURGZEMI_LENGTH, code, 256, 2, empty, len, 14, 3, 11, 15);
+    write7("payload short, written", BURGZEMI_LENGTH, code, 256, 2, empty, len, 14, 2, 10, 15);
+    write7("word short, written", BURGZEMI_LENGTH, code, 256, 2, empty, len, 14, 2, 11, 14);
+    write7("word long, written", BURGZEMI_LENGTH, code, 256, 2, empty, len, 14, 2, 11, 16);
+    write7("past the end, written", BURGZEMI_STARTS, code, 256, 2, empty, len, 14, 2, 11, 15);
 
-    /* 1 2 10 3 5, each beside what would be refused later */
-    write7("q of 257, written", BURGZEMI_INVALID, 257, 9, empty, len, 14, 1, 4, 14);
-    write7("b of 9, written", BURGZEMI_UNFIT, 256, 9, empty, len - 1, 14, 1, 4, 14);
-    write7("three symbols for a byte, written", BURGZEMI_PAYLOAD, 15, 2, empty, 0, 14, 1, 4, 14);
-    write7("table short, written", BURGZEMI_LENGTH, 256, 2, table, len - 1, 14, 2, 11, 15);
-    write7("starts odd, written", BURGZEMI_LENGTH, 256, 2, empty, len, 14, 3, 11, 15);
-    write7("payload short, written", BURGZEMI_LENGTH, 256, 2, empty, len, 14, 2, 10, 15);
-    write7("word short, written", BURGZEMI_LENGTH, 256, 2, empty, len, 14, 2, 11, 14);
-    write7("past the end, written", BURGZEMI_STARTS, 256, 2, empty, len, 14, 2, 11, 15);
-
-    /* 1 2 10 3 4 7 and 10 */
-    read7("q of 257, read", BURGZEMI_INVALID, 257, 9, empty, len, found7, 14, 10);
-    read7("b of 9, read", BURGZEMI_UNFIT, 256, 9, empty, len, found7, 14, 10);
-    read7("three symbols for a byte, read", BURGZEMI_PAYLOAD, 15, 2, empty, 1, found7, 14, 10);
-    read7("table short, read", BURGZEMI_LENGTH, 256, 2, table, len - 1, found7, 15, 11);
-    read7("word short, read", BURGZEMI_LENGTH, 256, 2, table, len, found7, 14, 11);
-    read7("payload short, read", BURGZEMI_LENGTH, 256, 2, table, len, found7, 15, 10);
+    /* No first symbol is 0, and no two sub-blocks have one value. */
     memset(word, 1, sizeof word);
-    read7("no pattern", BURGZEMI_PATTERN, 256, 2, empty, len, word, 15, 11);
+    word[7] = 2;
+    word[14] = 3;
+    read7("q of 257, read", BURGZEMI_INVALID, code, 257, 9, empty, len, word, 14, 10);
+    read7("b of 9, read", BURGZEMI_UNFIT, code, 256, 9, empty, len, word, 14, 10);
+    read7("three symbols for a byte, read", BURGZEMI_PAYLOAD, code, 15, 2, empty, 1, word, 14, 10);
+    read7("table short, read", BURGZEMI_LENGTH, code, 256, 2, empty, len - 1, word, 15, 11);
+    read7("word short, read", BURGZEMI_LENGTH, code, 256, 2, empty, len, word, 14, 11);
+    read7("payload short, read", BURGZEMI_LENGTH, code, 256, 2, empty, len, word, 15, 10);
+    read7("payload long, read", BURGZEMI_LENGTH, code, 256, 2, empty, len, word, 15, 12);
+    read7("no pattern, or no majority", code == LARSSON ? BURGZEMI_MAJORITY : BURGZEMI_PATTERN, code, 256, 2, empty, len, word, 15, 11);
+}
 
-    /* A state of 6 is 1, but not in a table of another length. */
-    uint8_t unknown[BURGZEMI_TABLE_LEN];
-    memcpy(unknown, table, len);
-    unknown[315] = 6;
-    write7("a state of 6, written", BURGZEMI_INVALID, 256, 9, unknown, len, 14, 1, 4, 14);
-    read7("a state of 6, read", BURGZEMI_INVALID, 256, 9, unknown, len, word, 14, 10);
-    memcpy(unknown, table, len);
-    set_slot(unknown, 40, 2, 7);
-    write7("7 in two slots, written", BURGZEMI_INVALID, 256, 9, unknown, len, 14, 1, 4, 14);
-    read7("7 in two slots, read", BURGZEMI_INVALID, 256, 9, unknown, len, word, 14, 10);
-    write7("7 in two slots of a short table", BURGZEMI_LENGTH, 256, 2, unknown, len - 1, 6, 2, 11, 15);
-    read7("7 in two slots of a short table", BURGZEMI_LENGTH, 256, 2, unknown, len - 1, found7, 15, 11);
+/* A state of 6, or a number in two slots, is 1, but not in a table of another length. */
+static void refused_tables(enum code code)
+{
+    uint8_t table[BURGZEMI_TABLE_LEN] = {0};
+    const size_t len = sizeof table;
+    set_slot(table, 0, 1, 7);
+    table[315] = 6;
+    write7("a state of 6, written", BURGZEMI_INVALID, code, 256, 9, table, len, 14, 1, 4, 14);
+    read7("a state of 6, read", BURGZEMI_INVALID, code, 256, 9, table, len, NULL, 14, 10);
+    table[315] = 0;
+    set_slot(table, 40, 2, 7);
+    write7("7 in two slots, written", BURGZEMI_INVALID, code, 256, 9, table, len, 14, 1, 4, 14);
+    read7("7 in two slots, read", BURGZEMI_INVALID, code, 256, 9, table, len, NULL, 14, 10);
+    write7("7 in two slots of a short table", BURGZEMI_LENGTH, code, 256, 2, table, len - 1, 6, 2, 11, 15);
+    read7("7 in two slots of a short table", BURGZEMI_LENGTH, code, 256, 2, table, len - 1, NULL, 15, 11);
+}
 
-    if (burgzemi_call(table, len, 'C', 7) != BURGZEMI_SERVED)
-        wrong = 1;
-    write7("job 7 cancelled, written", BURGZEMI_CANCELLED, 256, 2, table, len, 6, 2, 11, 15);
-    read7("job 7 cancelled, read", BURGZEMI_CANCELLED, 256, 2, table, len, found7, 15, 11);
-    if (burgzemi_call(table, len, 'O', 7) != BURGZEMI_CANCELLED)
-        wrong = 1;
-    if (burgzemi_call(table, len, 'I', 7) != BURGZEMI_SERVED)
-        wrong = 1;
-    write7("job 7 reinstated, written", BURGZEMI_SERVED, 256, 2, table, len, 6, 2, 11, 15);
-    read7("job 7 reinstated, read", BURGZEMI_SERVED, 256, 2, table, len, found7, 15, 11);
-    if (burgzemi_call(table, len, 'H', 7) != BURGZEMI_SERVED)
-        wrong = 1;
-    write7("job 7 on hold, written", BURGZEMI_HELD, 256, 2, table, len, 6, 2, 11, 15);
-    read7("job 7 on hold, read", BURGZEMI_HELD, 256, 2, table, len, found7, 15, 11);
-    if (burgzemi_call(table, len, 'U', 7) != BURGZEMI_SERVED)
-        wrong = 1;
-    write7("job 7 released, written", BURGZEMI_SERVED, 256, 2, table, len, 6, 2, 11, 15);
-    read7("job 7 released, read", BURGZEMI_SERVED, 256, 2, table, len, found7, 15, 11);
-    set_slot(table, 0, 3, 7);
-    write7("job 7 cancelled and never open, written", BURGZEMI_CANCELLED, 256, 2, table, len, 6, 2, 11, 15);
-    read7("job 7 cancelled and never open, read", BURGZEMI_CANCELLED, 256, 2, table, len, found7, 15, 11);
+/* Job 7 written and read after each call of a list, and then in each state. */
+static void transfer_example(enum code code)
+{
+    static const struct { char letter; uint8_t called, used; } list[] = {
+        {'F', BURGZEMI_NOT_OPEN, BURGZEMI_NOT_OPEN}, {'O', BURGZEMI_SERVED, BURGZEMI_SERVED}, {'C', BURGZEMI_SERVED, BURGZEMI_CANCELLED},
+        {'O', BURGZEMI_CANCELLED, BURGZEMI_CANCELLED}, {'I', BURGZEMI_SERVED, BURGZEMI_SERVED}, {'H', BURGZEMI_SERVED, BURGZEMI_HELD},
+        {'U', BURGZEMI_SERVED, BURGZEMI_SERVED}, {'F', BURGZEMI_SERVED, BURGZEMI_NOT_OPEN},
+    };
+    uint8_t table[BURGZEMI_TABLE_LEN] = {0};
+    const size_t len = sizeof table;
+    for (size_t i = 0; i < sizeof list / sizeof *list; i++) {
+        see("a call on job 7", burgzemi_call(table, len, (uint8_t)list[i].letter, 7), list[i].called, payload7, payload7, 1);
+        write7("job 7 after a call, written", list[i].used, code, 256, 2, table, len, 6, 2, 11, 15);
+        read7("job 7 after a call, read", list[i].used, code, 256, 2, table, len, NULL, 15, 11);
+    }
+    for (uint8_t state = 0; state < 6; state++) {
+        set_slot(table, 63, state, 7);
+        write7("job 7 by its state, written", by_state[state], code, 256, 2, table, len, 6, 2, 11, 15);
+        read7("job 7 by its state, read", by_state[state], code, 256, 2, table, len, NULL, 15, 11);
+    }
 }
 
 /* ---- Prescriptions */
@@ -577,16 +580,19 @@ static void equivalent(const char *what, unsigned wanted, struct eye given, doub
 /* An eye outside the rules is 16 for each call that it is given to. */
 static void outside(const char *what, struct eye given)
 {
+    const uint32_t n = 25, q = 256, m = 1, b = 2;
     uint8_t table[BURGZEMI_TABLE_LEN] = {1, 0, 0, 0, 7}, starts[2] = {0, 6}, word[25];
     turn(what, BURGZEMI_PRESCRIPTION, given, given, 2, 2);
     equivalent(what, BURGZEMI_PRESCRIPTION, given, 0, 1);
     memcpy(word, untouched, sizeof word);
-    unsigned answer = burgzemi_prescription_write(25, 256, 1, 2, table, sizeof table, starts, 2, 7, given.kind, given.sphere, given.cylinder, given.axis,
-                                                  BURGZEMI_PLANO, 0, 0, 0, 63.5, word, sizeof word);
-    see(what, answer, BURGZEMI_PRESCRIPTION, word, untouched, sizeof word);
-    answer = burgzemi_prescription_write(25, 256, 1, 2, table, sizeof table, starts, 2, 7, BURGZEMI_PLANO, 0, 0, 0,
-                                         given.kind, given.sphere, given.cylinder, given.axis, 63.5, word, sizeof word);
-    see(what, answer, BURGZEMI_PRESCRIPTION, word, untouched, sizeof word);
+    for (enum code code = CONSTRUCTION_A; code <= LARSSON; code++) {
+        unsigned answer = ANY(prescription_write, table, sizeof table, starts, 2, 7, given.kind, given.sphere, given.cylinder, given.axis,
+                              BURGZEMI_PLANO, 0, 0, 0, 63.5, word, sizeof word);
+        see(what, answer, BURGZEMI_PRESCRIPTION, word, untouched, sizeof word);
+        answer = ANY(prescription_write, table, sizeof table, starts, 2, 7, BURGZEMI_PLANO, 0, 0, 0,
+                     given.kind, given.sphere, given.cylinder, given.axis, 63.5, word, sizeof word);
+        see(what, answer, BURGZEMI_PRESCRIPTION, word, untouched, sizeof word);
+    }
 }
 
 static void eyes(void)
@@ -641,9 +647,14 @@ static void eyes(void)
     outside("an axis of 181", (struct eye){BURGZEMI_TORIC, 1, 1, 181});
 }
 
-/* ---- Prescriptions on a strip: n 25, q 256, m 1, b 2; start 6, job 7 */
+/* ---- Prescriptions on a strip under each code: n 25, q 256, m 1, b 2; start 6, job 7. The burst ends in the first part, at its last position, 7: the second
+ * part spells rank 6 or place 7, plus 1. Sub-blocks are at 0, 12 and 24: the burst touches none, and the first two spell 6. */
 
-static const uint8_t prescribed[25] = {0, 0, 0, 7, 2, 255, 0, 0, 7, 246, 0, 4, 90, 0, 0, 0, 0, 0, 0, 0, 127, 0, 0, 0, 0};
+static const uint8_t prescribed[3][25] = {
+    {0, 0, 0, 7, 2, 255, 0, 0, 7, 246, 0, 4, 90, 0, 0, 0, 0, 0, 0, 0, 127, 0, 0, 0, 0},
+    {0, 0, 0, 7, 2, 255, 0, 0, 8, 246, 0, 4, 90, 0, 0, 0, 0, 0, 0, 0, 127, 0, 0, 0, 0},
+    {6, 0, 0, 0, 7, 2, 0, 0, 255, 246, 0, 4, 6, 90, 0, 0, 0, 0, 0, 0, 127, 0, 0, 0, 0},
+};
 
 struct lengths {
     size_t table, starts, word, marks, powers;
@@ -651,33 +662,35 @@ struct lengths {
 
 static const struct lengths right_lengths = {BURGZEMI_TABLE_LEN, 2, 25, BURGZEMI_MARKS_LEN, BURGZEMI_POWERS_LEN};
 
-static void write_prescription(const char *what, unsigned wanted, uint32_t n, uint8_t state, uint32_t number, uint8_t start, double distance,
+static void write_prescription(const char *what, unsigned wanted, enum code code, uint32_t n, uint8_t state, uint32_t number, uint8_t start, double distance,
                                struct lengths lens)
 {
+    const uint32_t q = 256, m = 1, b = 2;
     uint8_t table[BURGZEMI_TABLE_LEN + 5], starts[4] = {0, start, 0, 0}, word[64];
     memset(table, 0, sizeof table);
     table[0] = state;
     table[4] = 7;
     memcpy(word, untouched, sizeof word);
-    unsigned answer = burgzemi_prescription_write(n, 256, 1, 2, table, lens.table, starts, lens.starts, number, toric.kind, toric.sphere, toric.cylinder,
-                                                  toric.axis, plano.kind, plano.sphere, plano.cylinder, plano.axis, distance, word, lens.word);
-    see(what, answer, wanted, word, wanted == BURGZEMI_SERVED ? prescribed : untouched, 25);
+    unsigned answer = ANY(prescription_write, table, lens.table, starts, lens.starts, number, toric.kind, toric.sphere, toric.cylinder, toric.axis,
+                          plano.kind, plano.sphere, plano.cylinder, plano.axis, distance, word, lens.word);
+    see(what, answer, wanted, word, wanted == BURGZEMI_SERVED ? prescribed[code] : untouched, 25);
     see(what, answer, wanted, word + 25, untouched + 25, sizeof word - 25);
 }
 
-static void read_prescription(const char *what, unsigned wanted, uint32_t b, uint8_t state, uint8_t number, uint8_t kind, struct lengths lens)
+static void read_prescription(const char *what, unsigned wanted, enum code code, uint32_t b, uint8_t state, uint8_t number, uint8_t kind, struct lengths lens)
 {
+    const uint32_t n = 25, q = 256, m = 1;
     uint8_t table[BURGZEMI_TABLE_LEN + 5], word[32], marks[12], handed[12] = {0, 0, 0, 7, 2, 90, 0, 0, 0xA5, 0xA5, 0xA5, 0xA5};
     double powers[7] = {7, 7, 7, 7, 7, 7, 7}, handed_powers[7] = {-1.25, 0.5, 0, 0, 63.5, 7, 7}, kept[7] = {7, 7, 7, 7, 7, 7, 7};
     memset(table, 0, sizeof table);
     table[0] = state;
     table[4] = number;
     memset(word, 0, sizeof word);
-    memcpy(word, prescribed, sizeof prescribed);
-    word[4] = kind;
+    memcpy(word, prescribed[code], 25);
+    word[code == LARSSON ? 5 : 4] = kind;
     word[6] = 0xFF; /* damage inside the burst */
     memset(marks, 0xA5, sizeof marks);
-    unsigned answer = burgzemi_prescription_read(25, 256, 1, b, table, lens.table, word, lens.word, marks, lens.marks, powers, lens.powers);
+    unsigned answer = ANY(prescription_read, table, lens.table, word, lens.word, marks, lens.marks, powers, lens.powers);
     if (wanted != BURGZEMI_SERVED)
         memset(handed, 0xA5, sizeof handed);
     see(what, answer, wanted, marks, handed, sizeof handed);
@@ -689,47 +702,64 @@ static struct lengths with(size_t table, size_t starts, size_t word, size_t mark
     return (struct lengths){table, starts, word, marks, powers};
 }
 
-static void prescriptions(void)
+/* 1 2 10 3 5 16 17 12 23 14, each beside what would be refused later */
+static void prescriptions_written(enum code code)
 {
-    write_prescription("prescription write", BURGZEMI_SERVED, 25, 1, 7, 6, 63.5, right_lengths);
-    write_prescription("table short, and an unknown state", BURGZEMI_LENGTH, 25, 6, 7, 24, 0, with(319, 2, 25, 0, 0));
-    write_prescription("table long", BURGZEMI_LENGTH, 25, 1, 7, 24, 0, with(325, 2, 25, 0, 0));
-    write_prescription("starts short", BURGZEMI_LENGTH, 25, 1, 7, 24, 0, with(BURGZEMI_TABLE_LEN, 1, 25, 0, 0));
-    write_prescription("starts long", BURGZEMI_LENGTH, 25, 1, 7, 24, 0, with(BURGZEMI_TABLE_LEN, 4, 25, 0, 0));
-    write_prescription("word short", BURGZEMI_LENGTH, 25, 1, 7, 24, 0, with(BURGZEMI_TABLE_LEN, 2, 24, 0, 0));
-    write_prescription("word long", BURGZEMI_LENGTH, 25, 1, 7, 24, 0, with(BURGZEMI_TABLE_LEN, 2, 26, 0, 0));
-    write_prescription("an unknown state", BURGZEMI_INVALID, 25, 6, 7, 24, 0, with(BURGZEMI_TABLE_LEN, 1, 24, 0, 0));
-    write_prescription("n of 2", BURGZEMI_INVALID, 2, 1, 7, 24, 0, with(319, 1, 24, 0, 0));
-    write_prescription("unfit", BURGZEMI_UNFIT, 5, 1, 7, 24, 0, with(319, 1, 24, 0, 0));
-    write_prescription("no room for a job", BURGZEMI_PAYLOAD, 8, 1, 7, 24, 0, with(319, 1, 24, 0, 0));
-    write_prescription("a start past the end", BURGZEMI_STARTS, 25, 1, 7, 24, 0, right_lengths);
-    write_prescription("16 bytes, and a start past the end", BURGZEMI_STARTS, 20, 1, 7, 19, 63.5, with(BURGZEMI_TABLE_LEN, 2, 20, 0, 0));
-    write_prescription("16 bytes", BURGZEMI_PRESCRIPTION, 20, 1, 0, 6, 63.5, with(BURGZEMI_TABLE_LEN, 2, 20, 0, 0));
-    write_prescription("a distance of 39.5", BURGZEMI_PRESCRIPTION, 25, 1, 0, 6, 39.5, right_lengths);
-    write_prescription("a distance of 80.5", BURGZEMI_PRESCRIPTION, 25, 1, 0, 6, 80.5, right_lengths);
-    write_prescription("a quarter of a millimetre", BURGZEMI_PRESCRIPTION, 25, 1, 0, 6, 63.25, right_lengths);
-    write_prescription("a distance of minus 63.5", BURGZEMI_PRESCRIPTION, 25, 1, 0, 6, -63.5, right_lengths);
-    write_prescription("number 0", BURGZEMI_NUMBER_ZERO, 25, 1, 0, 6, 63.5, right_lengths);
-    write_prescription("a cancelled job", BURGZEMI_CANCELLED, 25, 2, 7, 6, 63.5, right_lengths);
-    write_prescription("a job on hold", BURGZEMI_HELD, 25, 4, 7, 6, 63.5, right_lengths);
-    write_prescription("an unknown job", BURGZEMI_NOT_OPEN, 25, 0, 7, 6, 63.5, right_lengths);
+    const size_t len = BURGZEMI_TABLE_LEN;
+    write_prescription("prescription write", BURGZEMI_SERVED, code, 25, 1, 7, 6, 63.5, right_lengths);
+    write_prescription("an unknown state", BURGZEMI_INVALID, code, 25, 6, 7, 24, 0, with(len, 1, 24, 0, 0));
+    write_prescription("n of 2", BURGZEMI_INVALID, code, 2, 1, 7, 24, 0, with(319, 1, 24, 0, 0));
+    write_prescription("unfit", BURGZEMI_UNFIT, code, 4, 1, 7, 24, 0, with(319, 1, 24, 0, 0));
+    write_prescription("no room for a job", BURGZEMI_PAYLOAD, code, 8, 1, 7, 24, 0, with(319, 1, 24, 0, 0));
+    write_prescription("table short, and an unknown state", BURGZEMI_LENGTH, code, 25, 6, 7, 24, 0, with(319, 2, 25, 0, 0));
+    write_prescription("table long", BURGZEMI_LENGTH, code, 25, 1, 7, 24, 0, with(325, 2, 25, 0, 0));
+    write_prescription("starts short", BURGZEMI_LENGTH, code, 25, 1, 7, 24, 0, with(len, 1, 25, 0, 0));
+    write_prescription("starts long", BURGZEMI_LENGTH, code, 25, 1, 7, 24, 0, with(len, 4, 25, 0, 0));
+    write_prescription("word short", BURGZEMI_LENGTH, code, 25, 1, 7, 24, 0, with(len, 2, 24, 0, 0));
+    write_prescription("word long", BURGZEMI_LENGTH, code, 25, 1, 7, 24, 0, with(len, 2, 26, 0, 0));
+    write_prescription("a start past the end", BURGZEMI_STARTS, code, 25, 1, 7, 24, 0, right_lengths);
+    write_prescription("16 bytes, and a start past the end", BURGZEMI_STARTS, code, 20, 1, 7, 19, 63.5, with(len, 2, 20, 0, 0));
+    write_prescription("16 bytes", BURGZEMI_PRESCRIPTION, code, 20, 1, 0, 6, 63.5, with(len, 2, 20, 0, 0));
+    write_prescription("a distance of 39.5", BURGZEMI_PRESCRIPTION, code, 25, 1, 0, 6, 39.5, right_lengths);
+    write_prescription("a distance of 80.5", BURGZEMI_PRESCRIPTION, code, 25, 1, 0, 6, 80.5, right_lengths);
+    write_prescription("a quarter of a millimetre", BURGZEMI_PRESCRIPTION, code, 25, 1, 0, 6, 63.25, right_lengths);
+    write_prescription("a distance of minus 63.5", BURGZEMI_PRESCRIPTION, code, 25, 1, 0, 6, -63.5, right_lengths);
+    write_prescription("number 0", BURGZEMI_NUMBER_ZERO, code, 25, 1, 0, 6, 63.5, right_lengths);
+    for (uint8_t state = 0; state < 6; state++)
+        write_prescription("a job by its state", by_state[state], code, 25, state, 7, 6, 63.5, right_lengths);
+}
 
-    read_prescription("prescription read", BURGZEMI_SERVED, 2, 1, 7, 2, right_lengths);
-    read_prescription("table short", BURGZEMI_LENGTH, 2, 1, 7, 3, with(319, 0, 25, 8, 5));
-    for (size_t len = 0; len <= 10; len++) {
-        if (len != BURGZEMI_MARKS_LEN)
-            read_prescription("marks of another length", BURGZEMI_LENGTH, 2, 0, 7, 3, with(BURGZEMI_TABLE_LEN, 0, 25, len, 5));
-        if (len != BURGZEMI_POWERS_LEN && len <= 6)
-            read_prescription("powers of another length", BURGZEMI_LENGTH, 2, 0, 7, 3, with(BURGZEMI_TABLE_LEN, 0, 25, 8, len));
+/* A payload of 4 bytes is 10, whatever the lengths. */
+static void no_room_to_read(enum code code)
+{
+    const uint32_t n = 8, q = 256, m = 1, b = 2;
+    uint8_t table[1] = {0}, word[1] = {0}, marks[1] = {0xA5};
+    double powers[1] = {7}, kept[1] = {7};
+    see("no room for a job, read", ANY(prescription_read, table, 0, word, 0, marks, 0, powers, 0), BURGZEMI_PAYLOAD, marks, untouched, 1);
+    see_powers("no room for a job, read", powers, kept, 1);
+}
+
+/* 1 2 10 3 16 12 23 14, likewise; what a found word is refused with stands with the moves */
+static void prescriptions_read(enum code code)
+{
+    const size_t len = BURGZEMI_TABLE_LEN;
+    no_room_to_read(code);
+    read_prescription("prescription read", BURGZEMI_SERVED, code, 2, 1, 7, 2, right_lengths);
+    read_prescription("an unknown state before marks and powers", BURGZEMI_INVALID, code, 2, 6, 7, 3, with(len, 0, 24, 7, 4));
+    read_prescription("unfit before marks and powers", BURGZEMI_UNFIT, code, 13, 1, 7, 3, with(len, 0, 24, 7, 4));
+    read_prescription("table short", BURGZEMI_LENGTH, code, 2, 1, 7, 3, with(319, 0, 25, 8, 5));
+    for (size_t other = 0; other <= 10; other++) {
+        if (other != BURGZEMI_MARKS_LEN)
+            read_prescription("marks of another length", BURGZEMI_LENGTH, code, 2, 0, 7, 3, with(len, 0, 25, other, 5));
+        if (other != BURGZEMI_POWERS_LEN && other <= 6)
+            read_prescription("powers of another length", BURGZEMI_LENGTH, code, 2, 0, 7, 3, with(len, 0, 25, 8, other));
     }
-    read_prescription("word short", BURGZEMI_LENGTH, 2, 0, 7, 3, with(BURGZEMI_TABLE_LEN, 0, 24, 8, 5));
-    read_prescription("word long", BURGZEMI_LENGTH, 2, 0, 7, 3, with(BURGZEMI_TABLE_LEN, 0, 26, 8, 5));
-    read_prescription("an unknown state before marks and powers", BURGZEMI_INVALID, 2, 6, 7, 3, with(BURGZEMI_TABLE_LEN, 0, 24, 7, 4));
-    read_prescription("unfit before marks and powers", BURGZEMI_UNFIT, 9, 1, 7, 3, with(BURGZEMI_TABLE_LEN, 0, 24, 7, 4));
-    read_prescription("a kind of 3, and an unknown job", BURGZEMI_PRESCRIPTION, 2, 0, 7, 3, right_lengths);
-    read_prescription("a cancelled job", BURGZEMI_CANCELLED, 2, 3, 7, 2, right_lengths);
-    read_prescription("a job on hold", BURGZEMI_HELD, 2, 4, 7, 2, right_lengths);
-    read_prescription("another job", BURGZEMI_NOT_OPEN, 2, 1, 8, 2, right_lengths);
+    read_prescription("word short", BURGZEMI_LENGTH, code, 2, 0, 7, 3, with(len, 0, 24, 8, 5));
+    read_prescription("word long", BURGZEMI_LENGTH, code, 2, 0, 7, 3, with(len, 0, 26, 8, 5));
+    read_prescription("a kind of 3, and an unknown job", BURGZEMI_PRESCRIPTION, code, 2, 0, 7, 3, right_lengths);
+    read_prescription("another job", BURGZEMI_NOT_OPEN, code, 2, 1, 8, 2, right_lengths);
+    for (uint8_t state = 0; state < 6; state++)
+        read_prescription("a job by its state", by_state[state], code, 2, state, 7, 2, right_lengths);
 }
 
 /* ---- One long burst: n 20, q 2, b 5; start 9, message all 1. The parts begin at 0, 6 and 13: the burst ends at the begin of the third, so the first
@@ -1101,6 +1131,88 @@ static void larsson_maps(void)
 #undef COVER
 }
 
+/* ---- The check of a word under each code: the three strips above with a message all 1 */
+
+struct strip {
+    enum code code;
+    uint32_t n, q, b;
+    uint8_t start;
+    size_t k;
+    const uint8_t *word;
+};
+
+/* The check with a last message symbol and a value in one cell as they are given. Nothing that is lent changes. */
+static void check(const char *what, unsigned wanted, struct strip s, uint8_t last, size_t at, uint8_t value, size_t starts_len, size_t message_len,
+                  size_t word_len)
+{
+    const enum code code = s.code;
+    const uint32_t n = s.n, q = s.q, m = 1, b = s.b;
+    uint8_t starts[4] = {0, s.start, 0, 0}, message[24], word[32] = {0}, starts_before[4], message_before[24], word_before[32];
+    memset(message, 1, sizeof message);
+    message[s.k - 1] = last;
+    memcpy(word, s.word, n);
+    word[at] = value;
+    memcpy(starts_before, starts, sizeof starts);
+    memcpy(message_before, message, sizeof message);
+    memcpy(word_before, word, sizeof word);
+    unsigned answer = ANY(verify, starts, starts_len, message, message_len, word, word_len);
+    see(what, answer, wanted, starts, starts_before, sizeof starts);
+    see(what, answer, wanted, message, message_before, sizeof message);
+    see(what, answer, wanted, word, word_before, sizeof word);
+}
+
+/* Each value in each cell, another message, and each other start. */
+static void checked_cells(struct strip s)
+{
+    for (uint32_t at = 0; at < s.n; at++) {
+        int inside = at >= s.start && at < s.start + s.b;
+        for (uint8_t value = 0; value <= 3; value++) {
+            unsigned wanted = value > s.q ? BURGZEMI_SYMBOL : inside || value == s.word[at] ? BURGZEMI_SERVED : BURGZEMI_DIFFERS;
+            check("a value in a cell", wanted, s, 1, at, value, 2, s.k, s.n);
+        }
+    }
+    check("another message", BURGZEMI_DIFFERS, s, 0, 0, s.word[0], 2, s.k, s.n);
+    struct strip other = s;
+    for (other.start = 0; other.start + s.b <= s.n; other.start++)
+        check("a start", other.start == s.start ? BURGZEMI_SERVED : BURGZEMI_DIFFERS, other, 1, 0, s.word[0], 2, s.k, s.n);
+}
+
+/* 1 2 3 5 4, each beside what would be refused later */
+static void refused_checks(struct strip s, uint32_t unfit_b)
+{
+    struct strip past = s, unfit = s, invalid = s;
+    past.start = (uint8_t)(s.n - s.b + 1);
+    unfit.b = invalid.b = unfit_b;
+    invalid.q = 1;
+    check("q of 1", BURGZEMI_INVALID, invalid, 2, 10, 3, 1, s.k + 1, s.n - 1);
+    invalid.q = 257;
+    check("q of 257", BURGZEMI_INVALID, invalid, 2, 10, 3, 1, s.k + 1, s.n - 1);
+    check("b too large", BURGZEMI_UNFIT, unfit, 2, 10, 3, 1, s.k + 1, s.n - 1);
+    check("starts short", BURGZEMI_LENGTH, past, 2, 10, 3, 1, s.k, s.n);
+    check("starts long", BURGZEMI_LENGTH, past, 2, 10, 3, 4, s.k, s.n);
+    check("message short", BURGZEMI_LENGTH, past, 2, 10, 3, 2, s.k - 1, s.n);
+    check("message long", BURGZEMI_LENGTH, past, 2, 10, 3, 2, s.k + 1, s.n);
+    check("word short", BURGZEMI_LENGTH, past, 2, 10, 3, 2, s.k, s.n - 1);
+    check("word long", BURGZEMI_LENGTH, past, 2, 10, 3, 2, s.k, s.n + 1);
+    check("start past the end", BURGZEMI_STARTS, past, 2, 10, 3, 2, s.k, s.n);
+    check("a message symbol of 2", BURGZEMI_SYMBOL, s, 2, 0, s.word[0] ^ 1, 2, s.k, s.n);
+}
+
+static void checks(void)
+{
+    uint8_t long_symbols[20], larsson_symbols[20];
+    symbols_of(long_word, long_symbols);
+    symbols_of(larsson_word, larsson_symbols);
+    const struct strip strips[3] = {
+        {CONSTRUCTION_A, 30, 2, 3, 12, 20, first_word}, {CONSTRUCTION_B, 20, 2, 5, 9, 10, long_symbols}, {LARSSON, 20, 2, 3, 9, 7, larsson_symbols},
+    };
+    static const uint32_t unfit[3] = {6, 7, 4};
+    for (int i = 0; i < 3; i++) {
+        checked_cells(strips[i]);
+        refused_checks(strips[i], unfit[i]);
+    }
+}
+
 /* ---- Moves between the older trays and Construction A */
 
 /* A move of a strip of at most 24 cells: the moved strip, or the refusal with its buffer as it was. The strip and the table stay as they were. */
@@ -1138,8 +1250,7 @@ static void moved_strip(const char *what, uint32_t n, uint32_t m, uint32_t b, co
 static void moved_strips(void)
 {
     static const uint8_t six[1] = {6}, two_and_five[2] = {2, 5}, three[3] = {2, 6, 9};
-    static const uint8_t older7[15] = {6, 0, 0, 0, 7, 0x41, 0, 0, 0x42, 0x43, 0x44, 0x45, 0x46, 0x47, 6};
-    moved_strip("payloads as long", 15, 1, 2, six, older7, written7);
+    moved_strip("payloads as long", 15, 1, 2, six, written7[LARSSON], written7[CONSTRUCTION_A]);
 
     /* Rank 12. The older tray has 6 bytes, of which the last has no room and is 0. Sub-blocks begin at 0, 2, 4, 7 and 10, blocks at 0, 1, 3, 5, 7 and 9. */
     static const uint8_t older_six[11] = {12, 0, 0, 0, 12, 0, 0, 12, 7, 0x41, 0}, newer_five[11] = {0, 0, 0, 0, 0, 0, 0, 1, 7, 13, 0x41};
@@ -1152,59 +1263,81 @@ static void moved_strips(void)
     moved_strip("a payload of 5 bytes and one of 7", 16, 3, 1, three, older_five, newer_seven);
 }
 
-/* n 21, q 17, m 1, b 2, start 12: sub-blocks begin at 0, 9 and 19, of which the first two bear the rank; parts begin at 0, 7 and 14, of which the last spells
- * it. The message begins with a symbol that no byte does. */
-static void refused_strips(void)
+/* A found strip of n 21, q 17, m 1, b 2 is refused by each call that reads it: as it is moved, as a job and as a prescription. Its payload is too short for a
+ * prescription, so that this reading never asks for the job. */
+static void refused(const char *what, unsigned wanted, enum code code, const uint8_t *strip)
 {
-    uint8_t table[BURGZEMI_TABLE_LEN] = {0}, start[2] = {0, 12}, message[16], strip[21];
+    const uint32_t n = 21, q = 17, m = 1, b = 2;
+    uint8_t table[BURGZEMI_TABLE_LEN] = {0}, payload[8], marks[BURGZEMI_MARKS_LEN];
+    double powers[BURGZEMI_POWERS_LEN] = {7, 7, 7, 7, 7}, kept[BURGZEMI_POWERS_LEN] = {7, 7, 7, 7, 7};
+    memcpy(payload, untouched, sizeof payload);
+    memcpy(marks, untouched, sizeof marks);
+    move(what, wanted, code == LARSSON, n, q, m, b, table, sizeof table, strip, 21, 21, NULL);
+    see(what, ANY(job_read, table, sizeof table, strip, 21, payload, LENGTH(payload_len)), wanted, payload, untouched, sizeof payload);
+    unsigned answer = ANY(prescription_read, table, sizeof table, strip, 21, marks, sizeof marks, powers, BURGZEMI_POWERS_LEN);
+    see(what, answer, wanted == BURGZEMI_NOT_OPEN ? BURGZEMI_PRESCRIPTION : wanted, marks, untouched, sizeof marks);
+    see_powers(what, powers, kept, BURGZEMI_POWERS_LEN);
+}
+
+/* Start 12: sub-blocks begin at 0, 9 and 19, of which the first two bear the rank. The message begins with a symbol that no byte does. */
+static void refused_older(void)
+{
+    uint8_t start[2] = {0, 12}, message[15], strip[21];
     memset(message, 1, sizeof message);
     message[0] = 16;
-#define MOVE(what, wanted, to_a) move(what, wanted, to_a, 21, 17, 1, 2, table, sizeof table, strip, 21, 21, NULL)
-    /* 4 21 8 9 19 10, each beside what would be refused later */
-    see("an older tray to move", burgzemi_larsson_encode(21, 17, 1, 2, start, 2, message, 15, strip, 21), BURGZEMI_SERVED, start, start, 2);
+    /* 4 21 8 9 19 10 14, each beside what would be refused later */
+    see("an older tray to read", burgzemi_larsson_encode(21, 17, 1, 2, start, 2, message, 15, strip, 21), BURGZEMI_SERVED, start, start, 2);
     strip[0] = 3;
     strip[12] = 18;
     strip[14] = 17;
-    MOVE("a value of 18 in the burst, to A", BURGZEMI_SYMBOL, 1);
+    refused("a value of 18 in the burst of an older tray", BURGZEMI_SYMBOL, LARSSON, strip);
     strip[12] = 17;
-    MOVE("three values", BURGZEMI_MAJORITY, 1);
+    refused("three values", BURGZEMI_MAJORITY, LARSSON, strip);
     strip[0] = strip[9] = 1;
     strip[1] = strip[10] = 3;
-    MOVE("a value of 20 in two sub-blocks", BURGZEMI_VALUE, 1);
+    refused("a value of 20 in two sub-blocks", BURGZEMI_VALUE, LARSSON, strip);
     strip[9] = strip[19] = 0;
     strip[10] = strip[20] = 12;
-    MOVE("a bearer without the value", BURGZEMI_DISAGREES, 1);
+    refused("a bearer without the value", BURGZEMI_DISAGREES, LARSSON, strip);
     strip[0] = 0;
     strip[1] = 12;
-    MOVE("a silent message cell, to A", BURGZEMI_ERASED, 1);
+    refused("a silent message cell of an older tray", BURGZEMI_ERASED, LARSSON, strip);
     strip[14] = 1;
-    MOVE("a byte of 273, to A", BURGZEMI_PAYLOAD, 1);
+    refused("a byte of 273 of an older tray", BURGZEMI_PAYLOAD, LARSSON, strip);
     strip[2] = 1;
-    MOVE("a leftover symbol", BURGZEMI_PAYLOAD, 1);
+    refused("a leftover symbol", BURGZEMI_PAYLOAD, LARSSON, strip);
+    strip[20] = 0;
+    refused("an unknown job of an older tray", BURGZEMI_NOT_OPEN, LARSSON, strip);
+}
 
+/* Start 12: parts begin at 0, 7 and 14, of which the last spells the rank. The message begins with a symbol that no byte does. */
+static void refused_newer(void)
+{
+    uint8_t start[2] = {0, 12}, message[16], strip[21];
+    memset(message, 1, sizeof message);
+    message[0] = 16;
     /* 4 7 19 8 9 19 10 14, likewise */
-    see("a strip to move", burgzemi_encode(21, 17, 1, 2, start, 2, message, 16, strip, 21), BURGZEMI_SERVED, start, start, 2);
+    see("a strip to read", burgzemi_encode(21, 17, 1, 2, start, 2, message, 16, strip, 21), BURGZEMI_SERVED, start, start, 2);
     strip[0] = 1;
     strip[12] = 18;
     strip[15] = strip[20] = 17;
-    MOVE("a value of 18 in the burst, to an older tray", BURGZEMI_SYMBOL, 0);
+    refused("a value of 18 in the burst", BURGZEMI_SYMBOL, CONSTRUCTION_A, strip);
     strip[12] = 17;
-    MOVE("no part with a fixed symbol", BURGZEMI_PATTERN, 0);
+    refused("no part with a fixed symbol", BURGZEMI_PATTERN, CONSTRUCTION_A, strip);
     strip[0] = 0;
     strip[14] = 2;
-    MOVE("a silent digit", BURGZEMI_ERASED, 0);
+    refused("a silent digit", BURGZEMI_ERASED, CONSTRUCTION_A, strip);
     strip[15] = 3;
-    MOVE("a value of 20", BURGZEMI_VALUE, 0);
+    refused("a value of 20", BURGZEMI_VALUE, CONSTRUCTION_A, strip);
     strip[14] = 1;
     strip[15] = 0;
-    MOVE("another placement", BURGZEMI_DISAGREES, 0);
+    refused("another placement", BURGZEMI_DISAGREES, CONSTRUCTION_A, strip);
     strip[15] = 12;
-    MOVE("a silent message cell, to an older tray", BURGZEMI_ERASED, 0);
+    refused("a silent message cell", BURGZEMI_ERASED, CONSTRUCTION_A, strip);
     strip[20] = 1;
-    MOVE("a byte of 273, to an older tray", BURGZEMI_PAYLOAD, 0);
+    refused("a byte of 273", BURGZEMI_PAYLOAD, CONSTRUCTION_A, strip);
     strip[1] = 1;
-    MOVE("an unknown job", BURGZEMI_NOT_OPEN, 0);
-#undef MOVE
+    refused("an unknown job", BURGZEMI_NOT_OPEN, CONSTRUCTION_A, strip);
 }
 
 /* 1 2 10 3, each beside what would be refused later */
@@ -1240,7 +1373,6 @@ static void refused_figures(int to_a)
 /* Jobs 7 and 0 in each state, with a last byte that has no room and is 0 or isn't: 12, 23 and 14 go before 22, and 22 before 17. */
 static void moved_states(int to_a)
 {
-    static const uint8_t states[6] = {BURGZEMI_NOT_OPEN, BURGZEMI_SERVED, BURGZEMI_CANCELLED, BURGZEMI_CANCELLED, BURGZEMI_HELD, BURGZEMI_CANCELLED};
     const uint32_t n = to_a ? 11 : 16, m = to_a ? 2 : 3, len = to_a ? 6 : 7;
     const uint8_t starts[6] = {0, 2, 0, 5, 0, 9};
     for (int i = 0; i < 24; i++) {
@@ -1250,7 +1382,7 @@ static void moved_states(int to_a)
         see("a payload of 5", (to_a ? burgzemi_encode : burgzemi_larsson_encode)(n, 256, m, 1, starts, 2 * m, payload, 5, expected, n), 0, starts, starts, 6);
         payload[len - 1] = surplus;
         see("a payload", (to_a ? burgzemi_larsson_encode : burgzemi_encode)(n, 256, m, 1, starts, 2 * m, payload, len, strip, n), 0, starts, starts, 6);
-        unsigned wanted = states[state];
+        unsigned wanted = by_state[state];
         if (wanted == BURGZEMI_SERVED)
             wanted = surplus ? BURGZEMI_SURPLUS : payload[3] ? BURGZEMI_SERVED : BURGZEMI_NUMBER_ZERO;
         const char *what = to_a ? "a job by its state, to A" : "a job by its state, to an older tray";
@@ -1281,32 +1413,41 @@ static void large_move(const char *what, uint32_t n, uint32_t m, uint32_t b)
     see(what, burgzemi_move_to_larsson(n, 256, m, b, table, sizeof table, moved, n, back, n), BURGZEMI_SERVED, back, strip, n);
 }
 
+/* What is tested alike under each code. */
+static void under_each_code(enum code code)
+{
+    side_by_side(code);
+    figures_of_some(code);
+    for (uint32_t depth = 1; depth <= BURGZEMI_MAX_DEPTH; depth++) {
+        strip_of(code, 3, depth);
+        strip_of(code, 47, depth);
+        strip_of(code, 1024, depth);
+    }
+    strip_of(code, BURGZEMI_MAX_WORD, BURGZEMI_MAX_DEPTH);
+    scratch(code, 2, 11);
+    zero_on_strips(code);
+    refused_jobs(code);
+    refused_tables(code);
+    transfer_example(code);
+    prescriptions_written(code);
+    prescriptions_read(code);
+}
+
 int main(void)
 {
     words();
-    checks();
     large_strip("4096 symbols, 6 bursts", CONSTRUCTION_A, BURGZEMI_MAX_WORD, 6, 112, 3388);
     large_strip("999 symbols, 8 bursts", CONSTRUCTION_A, 999, BURGZEMI_MAX_BURSTS, 15, 823);
     large_strip("4096 symbols, one long burst", CONSTRUCTION_B, BURGZEMI_MAX_WORD, 1, 1365, 2728);
     large_strip("4096 symbols, 6 bursts, an older tray", LARSSON, BURGZEMI_MAX_WORD, 6, 333, 2042);
     large_strip("1631 symbols, 8 bursts, an older tray", LARSSON, 1631, BURGZEMI_MAX_BURSTS, 94, 807);
     maps();
-    for (int one_long = 0; one_long <= 1; one_long++) {
-        side_by_side(one_long);
-        for (uint32_t depth = 1; depth <= BURGZEMI_MAX_DEPTH; depth++) {
-            strip_of(one_long, 3, depth);
-            strip_of(one_long, 47, depth);
-            strip_of(one_long, 1024, depth);
-        }
-        strip_of(one_long, BURGZEMI_MAX_WORD, BURGZEMI_MAX_DEPTH);
-    }
-    scratch(0, 2, 11);
-    scratch(1, 5, 8);
+    for (enum code code = CONSTRUCTION_A; code <= LARSSON; code++)
+        under_each_code(code);
+    scratch(CONSTRUCTION_B, 5, 8);
     calls();
     number_zero();
-    transfer_example();
     eyes();
-    prescriptions();
     long_lengths();
     long_written();
     long_found();
@@ -1317,8 +1458,10 @@ int main(void)
     larsson_written();
     larsson_found();
     larsson_maps();
+    checks();
     moved_strips();
-    refused_strips();
+    refused_older();
+    refused_newer();
     for (int to_a = 0; to_a <= 1; to_a++) {
         refused_figures(to_a);
         moved_states(to_a);

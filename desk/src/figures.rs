@@ -52,25 +52,6 @@ macro_rules! of_any {
     };
 }
 
-/// The same for calls that the Larsson code hasn't; `$what` says which these are.
-macro_rules! of_construction {
-    ($self:ident, $what:expr, $f:ident => $call:expr) => {
-        match &$self.code {
-            Code::A($f) => $call?,
-            Code::B($f) => $call?,
-            Code::Larsson(_) => {
-                return Err(Trouble::Unserved(format!(
-                    "Larsson code figures hold, and older trays have {}",
-                    $what
-                )))
-            }
-        }
-    };
-}
-
-const NO_JOBS: &str = "no jobs of their own: `move` brings a job there and back, `encode` and `decode` take any message";
-const NO_LANES: &str = "no words side by side";
-
 impl Figures {
     fn with(numbers: [u32; 4], code: Code) -> Figures {
         let [n, q, m, b] = numbers.map(|number| number as usize);
@@ -129,6 +110,11 @@ impl Figures {
         Ok(Reading { starts, message })
     }
 
+    /// Whether a word holds this message outside these bursts.
+    pub fn verify(&self, starts: &[u16], message: &[u8], word: &[u8]) -> Result<bool, Refusal> {
+        of_any!(self, f => burgzemi::verify(f, starts, message, word))
+    }
+
     pub fn cover(&self, map: &[u8]) -> Result<Vec<u16>, Refusal> {
         Ok(of_any!(self, f => burgzemi::cover(f, map))?.to_vec())
     }
@@ -138,15 +124,15 @@ impl Figures {
         table: &Table,
         starts: &[u16],
         payload: &[u8],
-    ) -> Result<Vec<u8>, Trouble> {
+    ) -> Result<Vec<u8>, Refusal> {
         let mut word = vec![0; self.numbers.n];
-        of_construction!(self, NO_JOBS, f => burgzemi::job_write(f, table, starts, payload, &mut word));
+        of_any!(self, f => burgzemi::job_write(f, table, starts, payload, &mut word))?;
         Ok(word)
     }
 
-    pub fn job_read(&self, table: &Table, word: &[u8]) -> Result<Vec<u8>, Trouble> {
+    pub fn job_read(&self, table: &Table, word: &[u8]) -> Result<Vec<u8>, Refusal> {
         let mut payload = vec![0; self.payload_len()];
-        of_construction!(self, NO_JOBS, f => burgzemi::job_read(f, table, word, &mut payload));
+        of_any!(self, f => burgzemi::job_read(f, table, word, &mut payload))?;
         Ok(payload)
     }
 
@@ -156,9 +142,9 @@ impl Figures {
         starts: &[u16],
         number: u32,
         order: &Prescription,
-    ) -> Result<Vec<u8>, Trouble> {
+    ) -> Result<Vec<u8>, Refusal> {
         let mut word = vec![0; self.numbers.n];
-        of_construction!(self, NO_JOBS, f => burgzemi::prescription_write(f, table, starts, number, order, &mut word));
+        of_any!(self, f => burgzemi::prescription_write(f, table, starts, number, order, &mut word))?;
         Ok(word)
     }
 
@@ -166,38 +152,27 @@ impl Figures {
         &self,
         table: &Table,
         word: &[u8],
-    ) -> Result<(u32, Prescription), Trouble> {
-        Ok(of_construction!(self, NO_JOBS, f => burgzemi::prescription_read(f, table, word)))
+    ) -> Result<(u32, Prescription), Refusal> {
+        of_any!(self, f => burgzemi::prescription_read(f, table, word))
     }
 
     /// Lays words side by side that stand one after another.
-    pub fn interleave(&self, depth: u32, words: &[u8]) -> Result<Vec<u8>, Trouble> {
+    pub fn interleave(&self, depth: u32, words: &[u8]) -> Result<Vec<u8>, Refusal> {
         let mut strip = vec![0; self.lanes_len(depth)];
-        of_construction!(self, NO_LANES, f => burgzemi::interleave(f, depth, words, &mut strip));
+        of_any!(self, f => burgzemi::interleave(f, depth, words, &mut strip))?;
         Ok(strip)
     }
 
     /// Takes such a strip apart into words that stand one after another.
-    pub fn deinterleave(&self, depth: u32, strip: &[u8]) -> Result<Vec<u8>, Trouble> {
+    pub fn deinterleave(&self, depth: u32, strip: &[u8]) -> Result<Vec<u8>, Refusal> {
         let mut words = vec![0; self.lanes_len(depth)];
-        of_construction!(self, NO_LANES, f => burgzemi::deinterleave(f, depth, strip, &mut words));
+        of_any!(self, f => burgzemi::deinterleave(f, depth, strip, &mut words))?;
         Ok(words)
     }
 
     /// No more room than for the largest depth is made: the library refuses a larger one first.
     fn lanes_len(&self, depth: u32) -> usize {
         depth.min(burgzemi::MAX_DEPTH) as usize * self.numbers.n
-    }
-
-    /// Construction A's figures, for the check of a strip.
-    pub fn checked(&self) -> Result<&burgzemi::Figures, Trouble> {
-        match &self.code {
-            Code::A(f) => Ok(f),
-            _ => Err(Trouble::Unserved(format!(
-                "{} figures hold, and the check is for Construction A's strips",
-                self.code()
-            ))),
-        }
     }
 
     /// Moves a job to the other of Construction A and the Larsson code.

@@ -108,7 +108,7 @@ pub const REFUSALS: [(u8, &str, &str); 24] = [
     (
         21,
         "no value stands in most of the sub-blocks",
-        "the strip is damaged outside its bursts, or is no older tray's: don't grind by it, read it again",
+        "the strip is damaged outside its bursts, has other figures, or is no older tray's: don't grind by it, read it again",
     ),
     (
         22,

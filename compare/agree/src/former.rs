@@ -5,7 +5,7 @@ use second::choose::unrank;
 use second::Figures;
 
 use crate::judge::{Judge, Op};
-use crate::make::{any_numbers, start_bytes};
+use crate::make::{numbers, start_bytes};
 use crate::rng::Rng;
 use crate::sides::PROVED;
 
@@ -23,12 +23,12 @@ impl Digest {
 
     /// The length of a message, and the words of the first, the last and some rank.
     fn add_strips(&mut self, rng: &mut Rng, f: &Figures) {
-        self.add(&(PROVED.message_len)(any_numbers(f)).to_be_bytes());
+        self.add(&(PROVED.message_len)(numbers(f)).to_be_bytes());
         for rank in [0, f.t - 1, rng.below(f.t)] {
             let starts = start_bytes(&unrank(f, rank)[..f.m]);
             let message: Vec<u8> = (0..f.k).map(|_| rng.below(f.q as u64) as u8).collect();
             let mut word = vec![0xEE; f.n];
-            let answer = (PROVED.encode)(any_numbers(f), &starts, &message, &mut word);
+            let answer = (PROVED.encode)(numbers(f), &starts, &message, &mut word);
             self.add(&[answer]);
             self.add(&word);
         }

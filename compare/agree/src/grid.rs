@@ -1,12 +1,12 @@
 //! Figures on a grid with every boundary, through each call that takes figures.
 
-use burgzemi::{Larsson, Long, Ranked};
+use burgzemi::{Long, Ranked};
 use second::choose::choose;
-use second::figures::{MAX_N, MAX_RUNS};
+use second::figures::{Code, MAX_N, MAX_RUNS};
 use second::Figures;
 
 use crate::judge::Judge;
-use crate::sides::{AnyNumbers, Numbers, PrescriptionNumbers};
+use crate::sides::{Numbers, PrescriptionNumbers};
 use crate::ways::WAYS;
 
 const EDGES: [u32; 4] = [65535, 65536, 1 << 31, u32::MAX];
@@ -113,11 +113,8 @@ pub fn each(visit: impl FnMut(Ranked)) {
 }
 
 /// The same of the Larsson code's.
-fn each_larsson(mut visit: impl FnMut(Larsson)) {
-    each_of(
-        |(n, q, m, b)| Figures::larsson(n, q, m, b).is_ok(),
-        |(n, q, m, b)| visit(Larsson(n, q, m, b)),
-    );
+fn each_larsson(visit: impl FnMut(Ranked)) {
+    each_of(|(n, q, m, b)| Figures::larsson(n, q, m, b).is_ok(), visit);
 }
 
 /// Outside the rules.
@@ -126,17 +123,15 @@ const NONE: PrescriptionNumbers = ((0, 0.0, 0.0, 0), (0, 0.0, 0.0, 0), 0.0);
 /// Makes every call with the figures alone: refusals 1, 2 and 10, and 18 or 3 for what fits.
 pub fn run(judge: &mut Judge) {
     let mut depths = (0..=17).cycle();
-    each(|f| {
-        figures_alone(judge, Numbers::Ranked(f), depths.next().unwrap_or(0));
-        judge.verify(f, &[], &[], &[]);
-        moves_alone(judge, f);
-    });
-    each_long(|f| figures_alone(judge, Numbers::Long(f), depths.next().unwrap_or(0)));
-    each_larsson(|f| {
-        any_figures_alone(judge, f.into());
-        let Larsson(n, q, m, b) = f;
-        moves_alone(judge, (n, q, m, b));
-    });
+    let mut visit = |f: Numbers| {
+        figures_alone(judge, f, depths.next().unwrap_or(0));
+        if f.code() != Code::ConstructionB {
+            moves_alone(judge, f.ranked());
+        }
+    };
+    each(|f| visit(Numbers::Ranked(f)));
+    each_long(|f| visit(Numbers::Long(f)));
+    each_larsson(|f| visit(Numbers::Larsson(f)));
 }
 
 /// The moves, whose figures both codes take.
@@ -146,16 +141,12 @@ fn moves_alone(judge: &mut Judge, f: Ranked) {
     }
 }
 
-/// The calls that every code has.
-fn any_figures_alone(judge: &mut Judge, f: AnyNumbers) {
+fn figures_alone(judge: &mut Judge, f: Numbers, depth: u32) {
     judge.lengths(f);
     judge.decode(f, &[], 0, 0);
     judge.encode(f, &[], &[], 0);
+    judge.verify(f, &[], &[], &[]);
     judge.cover(f, &[], 0);
-}
-
-fn figures_alone(judge: &mut Judge, f: Numbers, depth: u32) {
-    any_figures_alone(judge, f.into());
     judge.interleave(f, depth, &[], 0);
     judge.deinterleave(f, depth, &[], 0);
     judge.job_write(f, &[], &[], &[], 0);

@@ -1,17 +1,21 @@
 //! Jobs written and read on both sides, with tables and payloads at will.
 
-use second::job::payload_len;
+use second::figures::Code;
+use second::job::{has_room, payload_len};
 use second::Figures;
 
 use crate::calls::{bad_table, number, start, table};
-use crate::judge::{Judge, Op};
+use crate::judge::{hex, Judge, Op};
 use crate::make::{
     damage, found, numbers, odd_message, placement, silent_value, sound_message, start_bytes,
     symbols, wrong_len,
 };
+use crate::orders::{MARKS, POWERS};
 use crate::rng::Rng;
 use crate::sides::Numbers;
-use crate::words::bad_starts_of;
+use crate::silent::Silent;
+use crate::spoilt;
+use crate::words::{bad_starts_of, Strip};
 
 /// One round for these figures.
 pub fn round(judge: &mut Judge, rng: &mut Rng, f: Figures) {
@@ -21,6 +25,10 @@ pub fn round(judge: &mut Judge, rng: &mut Rng, f: Figures) {
     let word = judge.job_write(numbers(&f), &table, &start_bytes(&starts), &payload, f.n);
     if word.number == 0 {
         read_back(judge, rng, &f, &table, &starts, word.out, &payload);
+    }
+    if has_room(&f) {
+        spoilt(judge, rng, &f, &table);
+        silent(judge, rng, &f, &table);
     }
     spelled(judge, rng, &f, &table);
     oddly_spelled(judge, rng, &f, &table);
@@ -77,6 +85,55 @@ fn read_back(
         _ => rng.byte(),
     };
     judge.job_read(numbers(f), table, &word, payload.len());
+}
+
+/// The strip of a payload, of any job number.
+pub fn written(judge: &mut Judge, f: Figures, starts: Vec<u16>, payload: &[u8]) -> Strip {
+    let message = sound_message(&f, payload);
+    let answer = judge.encode(numbers(&f), &start_bytes(&starts), &message, f.n);
+    let word = answer.out;
+    Strip {
+        f,
+        starts,
+        message,
+        word,
+    }
+}
+
+/// The strip of a job that is mostly one of the table's.
+fn strip(judge: &mut Judge, rng: &mut Rng, f: &Figures, table: &[u8]) -> Strip {
+    let payload = payload(rng, f, table);
+    let starts = placement(rng, f);
+    written(judge, *f, starts, &payload)
+}
+
+/// A strip spoilt outside its runs: what the word reader refuses, the others refuse likewise.
+fn spoilt(judge: &mut Judge, rng: &mut Rng, f: &Figures, table: &[u8]) {
+    let strip = strip(judge, rng, f, table);
+    let word = spoilt::spoilt(rng, &strip);
+    let read = judge.decode(numbers(f), &word, f.k, 2 * f.m).number;
+    let job = judge.job_read(numbers(f), table, &word, payload_len(f));
+    let order = judge.prescription_read(numbers(f), table, &word, MARKS, POWERS);
+    let job_right = [0, 10, 12, 14, 23].contains(&job.number);
+    let order_right = order.number == 16 || order.number == job.number;
+    let right = match read {
+        0 => job_right && order_right,
+        refusal => [job.number, order.number] == [refusal; 2],
+    };
+    let inputs = || format!("{f:?} word {}", hex(&word));
+    judge.expect(Op::JobRead, right, &inputs, "not what the word reader says");
+}
+
+/// Silent cells outside the runs.
+fn silent(judge: &mut Judge, rng: &mut Rng, f: &Figures, table: &[u8]) {
+    let strip = strip(judge, rng, f, table);
+    if let Some(silent) = Silent::new(rng, &strip) {
+        let numbers = numbers(f);
+        let job = judge.job_read(numbers, table, &silent.word, payload_len(f));
+        silent.judge(judge, Op::JobRead.under(numbers), job.number);
+        let order = judge.prescription_read(numbers, table, &silent.word, MARKS, POWERS);
+        silent.judge(judge, Op::PrescriptionRead.under(numbers), order.number);
+    }
 }
 
 /// A word of number 0 under a table that lacks it or holds it alone: it is never written, and read where it is open.
@@ -170,13 +227,10 @@ fn refused_reading(judge: &mut Judge, rng: &mut Rng, f: &Figures, good: &[u8]) {
 
 /// Figures with one of them off.
 pub fn off(rng: &mut Rng, numbers: Numbers) -> Numbers {
-    let (mut n, mut q, mut m, mut b) = match numbers {
-        Numbers::Ranked(numbers) => numbers,
-        Numbers::Long((n, q, b)) => (n, q, 1, b),
-    };
-    let share = match numbers {
-        Numbers::Ranked(_) => n / m.max(1) + 1,
-        Numbers::Long(_) => n / 3 + 1,
+    let (mut n, mut q, mut m, mut b) = numbers.ranked();
+    let share = match numbers.code() {
+        Code::ConstructionB => n / 3 + 1,
+        _ => n / m.max(1) + 1,
     };
     match rng.below(6) {
         0 => n = rng.pick(&[0, 2, 4097]),
@@ -186,8 +240,5 @@ pub fn off(rng: &mut Rng, numbers: Numbers) -> Numbers {
         4 => b = share,
         _ => b = n,
     }
-    match numbers {
-        Numbers::Ranked(_) => Numbers::Ranked((n, q, m, b)),
-        Numbers::Long(_) => Numbers::Long((n, q, b)),
-    }
+    Numbers::of(numbers.code(), (n, q, m, b))
 }

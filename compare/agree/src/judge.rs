@@ -1,165 +1,19 @@
 //! The judge: makes each call on both sides, compares answers and every byte of the buffers, and counts.
 
-use burgzemi::Ranked;
-use second::figures::Code;
-use second::raw::DIFFERS;
 use second::Figures;
 
+use crate::kinds::Kind;
 use crate::lent::{Item, Lent};
-use crate::sides::{AnyNumbers, Numbers, Side, PROVED, SECOND};
+use crate::sides::{Numbers, Side, PROVED, SECOND};
 use crate::tally::Tally;
+
+pub use crate::kinds::Op;
 
 mod moving;
 mod prescription;
 
 /// How many differences are printed in full.
 const PRINTED: u64 = 10;
-
-#[derive(Clone, Copy, PartialEq, Eq, Debug)]
-pub enum Op {
-    Figures,
-    Encode,
-    Decode,
-    Verify,
-    Cover,
-    Interleave,
-    Deinterleave,
-    Open,
-    Cancel,
-    Finish,
-    Reinstate,
-    Hold,
-    Release,
-    OtherLetter,
-    JobWrite,
-    JobRead,
-    Transpose,
-    SphericalEquivalent,
-    PrescriptionWrite,
-    PrescriptionRead,
-    MoveToA,
-    MoveToLarsson,
-}
-
-impl Op {
-    /// The call on a table that a letter asks for.
-    pub fn of_letter(letter: u8) -> Op {
-        match letter {
-            b'O' => Op::Open,
-            b'C' => Op::Cancel,
-            b'F' => Op::Finish,
-            b'I' => Op::Reinstate,
-            b'H' => Op::Hold,
-            b'U' => Op::Release,
-            _ => Op::OtherLetter,
-        }
-    }
-
-    /// Whether the Larsson code's figures have this call too.
-    fn takes_larsson(self) -> bool {
-        matches!(self, Op::Figures | Op::Encode | Op::Decode | Op::Cover)
-    }
-
-    /// Whether Construction B's have it.
-    fn takes_long(self) -> bool {
-        self.takes_larsson()
-            || matches!(
-                self,
-                Op::Interleave
-                    | Op::Deinterleave
-                    | Op::JobWrite
-                    | Op::JobRead
-                    | Op::PrescriptionWrite
-                    | Op::PrescriptionRead
-            )
-    }
-
-    /// This call under these figures.
-    fn under(self, f: impl Into<AnyNumbers>) -> Kind {
-        let code = match f.into() {
-            AnyNumbers::Construction(Numbers::Ranked(_)) => Code::ConstructionA,
-            AnyNumbers::Construction(Numbers::Long(_)) => Code::ConstructionB,
-            AnyNumbers::Larsson(_) => Code::Larsson,
-        };
-        Kind { op: self, code }
-    }
-}
-
-/// A kind of call, and the code of its figures: Construction A's for one without figures.
-#[derive(Clone, Copy)]
-pub struct Kind {
-    pub op: Op,
-    pub code: Code,
-}
-
-impl From<Op> for Kind {
-    fn from(op: Op) -> Kind {
-        let code = Code::ConstructionA;
-        Kind { op, code }
-    }
-}
-
-impl Kind {
-    /// The answers that it can give; none where the code has no such call.
-    pub fn possible(self) -> &'static [u8] {
-        match self.code {
-            Code::Larsson if self.op == Op::Decode => &[0, 1, 2, 3, 4, 8, 9, 19, 21],
-            Code::Larsson if !self.op.takes_larsson() => &[],
-            Code::ConstructionB if !self.op.takes_long() => &[],
-            _ => OPS[self.op as usize].2,
-        }
-    }
-}
-
-/// Each call, its name, and the answers that it can give under a construction's figures, each of which a gate run must see.
-pub const OPS: [(Op, &str, &[u8]); 22] = [
-    (Op::Figures, "figures", &[0, 1, 2]),
-    (Op::Encode, "word write", &[0, 1, 2, 3, 4, 5]),
-    (Op::Decode, "word read", &[0, 1, 2, 3, 4, 7, 8, 9, 19]),
-    (Op::Verify, "verify", &[0, 1, 2, 3, 4, 5, DIFFERS]),
-    (Op::Cover, "covering", &[0, 1, 2, 3, 4, 6]),
-    (Op::Interleave, "interleave", &[0, 1, 2, 3, 4, 18]),
-    (Op::Deinterleave, "deinterleave", &[0, 1, 2, 3, 4, 18]),
-    (Op::Open, "open", &[0, 1, 3, 12, 13, 15, 17]),
-    (Op::Cancel, "cancel", &[0, 1, 3, 12, 15, 17]),
-    (Op::Finish, "finish", &[0, 1, 3, 12, 14, 23]),
-    (Op::Reinstate, "reinstate", &[0, 1, 3, 20]),
-    (Op::Hold, "hold", &[0, 1, 3, 12, 14, 23]),
-    (Op::Release, "release", &[0, 1, 3, 12, 24]),
-    (Op::OtherLetter, "other letter", &[3, 11]),
-    (
-        Op::JobWrite,
-        "job write",
-        &[0, 1, 2, 3, 5, 10, 12, 14, 17, 23],
-    ),
-    (
-        Op::JobRead,
-        "job read",
-        &[0, 1, 2, 3, 4, 7, 8, 9, 10, 12, 14, 19, 23],
-    ),
-    (Op::Transpose, "transposing", &[0, 3, 16]),
-    (Op::SphericalEquivalent, "equivalent", &[0, 3, 16]),
-    (
-        Op::PrescriptionWrite,
-        "prescription write",
-        &[0, 1, 2, 3, 5, 10, 12, 14, 16, 17, 23],
-    ),
-    (
-        Op::PrescriptionRead,
-        "prescription read",
-        &[0, 1, 2, 3, 4, 7, 8, 9, 10, 12, 14, 16, 19, 23],
-    ),
-    (
-        Op::MoveToA,
-        "move to A",
-        &[0, 1, 2, 3, 4, 8, 9, 10, 12, 14, 17, 19, 21, 22, 23],
-    ),
-    (
-        Op::MoveToLarsson,
-        "move to Larsson",
-        &[0, 1, 2, 3, 4, 7, 8, 9, 10, 12, 14, 17, 19, 22, 23],
-    ),
-];
 
 /// A call of one side on its own two buffers.
 type Call<'a, T> = dyn Fn(&Side, &mut [u8], &mut [T]) -> u8 + 'a;
@@ -217,7 +71,7 @@ impl Judge {
 
     fn count(&mut self, kind: Kind, number: u8, inputs: &dyn Fn() -> String) {
         self.tally.count(kind, number);
-        if !kind.possible().contains(&number) {
+        if !kind.can_answer(number) {
             self.report(
                 kind.op,
                 inputs,
@@ -230,7 +84,7 @@ impl Judge {
     pub fn report(&mut self, op: Op, inputs: &dyn Fn() -> String, what: &str) {
         self.differences += 1;
         if self.differences <= PRINTED {
-            println!("difference: {}: {what}\n  {}", OPS[op as usize].1, inputs());
+            println!("difference: {}: {what}\n  {}", op.name(), inputs());
         }
     }
 
@@ -242,8 +96,7 @@ impl Judge {
     }
 
     /// Both lengths that figures give.
-    pub fn lengths(&mut self, numbers: impl Into<AnyNumbers>) {
-        let numbers = numbers.into();
+    pub fn lengths(&mut self, numbers: Numbers) {
         let of = |side: &Side| ((side.message_len)(numbers), (side.payload_len)(numbers));
         let (ours, theirs) = (of(&PROVED), of(&SECOND));
         let inputs = || format!("figures {numbers:?}");
@@ -257,14 +110,7 @@ impl Judge {
         self.count(Op::Figures.under(numbers), number, &inputs);
     }
 
-    pub fn encode(
-        &mut self,
-        f: impl Into<AnyNumbers>,
-        starts: &[u8],
-        message: &[u8],
-        word: usize,
-    ) -> Answer {
-        let f = f.into();
+    pub fn encode(&mut self, f: Numbers, starts: &[u8], message: &[u8], word: usize) -> Answer {
         let inputs = || {
             format!(
                 "{f:?} starts {} message {} word {word}",
@@ -282,14 +128,7 @@ impl Judge {
     }
 
     /// The message comes as `out`, the starts as `also`.
-    pub fn decode(
-        &mut self,
-        f: impl Into<AnyNumbers>,
-        word: &[u8],
-        message: usize,
-        starts: usize,
-    ) -> Answer {
-        let f = f.into();
+    pub fn decode(&mut self, f: Numbers, word: &[u8], message: usize, starts: usize) -> Answer {
         let inputs = || format!("{f:?} word {} message {message} starts {starts}", hex(word));
         let lent = (Lent::new(message), Lent::new(starts));
         let answer = self.both(
@@ -306,12 +145,12 @@ impl Judge {
     }
 
     /// The word and the message are lent as written buffers are, and must be left as they were.
-    pub fn verify(&mut self, f: Ranked, starts: &[u8], message: &[u8], word: &[u8]) -> u8 {
+    pub fn verify(&mut self, f: Numbers, starts: &[u8], message: &[u8], word: &[u8]) -> u8 {
         let bytes = [starts, message, word];
         let inputs = || format!("{f:?} starts, message, word {}", all(&bytes));
         let lent = (Lent::holding(word), Lent::holding(message));
         let answer = self.both(
-            Op::Verify.into(),
+            Op::Verify.under(f),
             lent.0,
             lent.1,
             &inputs,
@@ -322,8 +161,7 @@ impl Judge {
         answer.number
     }
 
-    pub fn cover(&mut self, f: impl Into<AnyNumbers>, map: &[u8], starts: usize) -> Answer {
-        let f = f.into();
+    pub fn cover(&mut self, f: Numbers, map: &[u8], starts: usize) -> Answer {
         let inputs = || format!("{f:?} map {} starts {starts}", hex(map));
         self.both(
             Op::Cover.under(f),
@@ -378,25 +216,31 @@ impl Judge {
     ) -> Answer {
         let bytes = [table, starts, payload];
         let inputs = || format!("{f:?} table, starts, payload {} word {word}", all(&bytes));
-        self.both(
-            Op::JobWrite.under(f),
+        let kind = Op::JobWrite.under(f);
+        let answer = self.both(
+            kind,
             Lent::new(word),
             Lent::new(0),
             &inputs,
             &|side, out, _| (side.job_write)(f, table, starts, payload, out),
-        )
+        );
+        self.tally.count_job(kind, f, table, answer.number);
+        answer
     }
 
     pub fn job_read(&mut self, f: Numbers, table: &[u8], word: &[u8], payload: usize) -> Answer {
         let bytes = [table, word];
         let inputs = || format!("{f:?} table, word {} payload {payload}", all(&bytes));
-        self.both(
-            Op::JobRead.under(f),
+        let kind = Op::JobRead.under(f);
+        let answer = self.both(
+            kind,
             Lent::new(payload),
             Lent::new(0),
             &inputs,
             &|side, out, _| (side.job_read)(f, table, word, out),
-        )
+        );
+        self.tally.count_job(kind, f, table, answer.number);
+        answer
     }
 }
 

@@ -1,15 +1,16 @@
-//! The Larsson code: its figures at the boundaries, every word of the shortest strips, and words that fall short of a majority.
+//! The Larsson code: its figures at the boundaries, document 01's job, every word of the shortest strips, and words that fall short of a majority.
 
 use std::ops::Range;
 
-use burgzemi::Larsson;
 use second::choose::unrank;
 use second::figures::MAX_RUNS;
 use second::larsson::{bearers, begin};
 use second::Figures;
 
+use crate::calls::TABLE;
 use crate::judge::{hex, Judge, Op};
-use crate::make::{any_numbers, found, silent_value, symbol, symbols, value, values};
+use crate::make::{found, numbers, silent_value, symbol, symbols, value, values};
+use crate::orders::{MARKS, POWERS};
 use crate::rng::Rng;
 use crate::sides::Numbers;
 use crate::words::{self, Strip};
@@ -21,6 +22,7 @@ pub fn run(judge: &mut Judge, rng: &mut Rng) {
     limits(judge);
     one_code_alone(judge);
     papers_strip(judge);
+    papers_job(judge);
     for (q, longest) in EVERY_WORD {
         for n in 3..=longest {
             each_fitting(n, q, |f| words::every_word(judge, &f));
@@ -77,7 +79,7 @@ fn limits(judge: &mut Judge) {
         (4096, 256, 1, 0, 1),
         (2, 2, 1, 1, 1),
     ] {
-        let f = Larsson(n, q, m, b);
+        let f = Numbers::Larsson((n, q, m, b));
         let answer = judge.decode(f, &[], 0, 1).number;
         let inputs = || format!("{f:?} is {number}");
         let what = "not what the documents say";
@@ -94,11 +96,10 @@ fn one_code_alone(judge: &mut Judge) {
         ((3, 2, 1, 1), 2, 2),
     ] {
         let answers = [
-            judge.decode(Larsson(n, q, m, b), &[], 0, 1).number,
-            judge
-                .decode(Numbers::Ranked((n, q, m, b)), &[], 0, 1)
-                .number,
+            Numbers::Larsson((n, q, m, b)),
+            Numbers::Ranked((n, q, m, b)),
         ];
+        let answers = answers.map(|f| judge.decode(f, &[], 0, 1).number);
         let inputs = || format!("n {n}, q {q}, m {m}, b {b}: {answers:?}");
         let right = answers == [larsson, construction_a];
         judge.expect(Op::Figures, right, &inputs, "not what the documents say");
@@ -107,7 +108,7 @@ fn one_code_alone(judge: &mut Judge) {
 
 /// n 20, q 2, m 1, b 3: R is 5 and k is 7. Sub-blocks begin at 0, 7 and 15; the run from 9 touches the second.
 fn papers_strip(judge: &mut Judge) {
-    let f = Larsson(20, 2, 1, 3);
+    let f = Numbers::Larsson((20, 2, 1, 3));
     let written = judge.encode(f, &[0, 9], &[1; 7], 20);
     let wanted = b"01001111100011101001".map(|digit| digit - b'0');
     let right = written.number == 0 && written.out == wanted;
@@ -134,6 +135,37 @@ fn papers_strip(judge: &mut Judge) {
         let answer = judge.decode(f, &found, 7, 2).number;
         let inputs = || format!("{f:?} {} is {number}", String::from_utf8_lossy(word));
         judge.expect(Op::Decode, answer == number, &inputs, what);
+    }
+}
+
+/// Document 01's job on an older tray: sub-blocks at 0, 7 and 14, of which the run from 6 touches the second. T is 14, and no prescription has room.
+fn papers_job(judge: &mut Judge) {
+    let f = Numbers::Larsson((15, 256, 1, 2));
+    let mut table = [0; TABLE];
+    let unopened = judge.job_write(f, &table, &[0, 6], b"\0\0\0\x07ABCDEFG", 15);
+    (table[0], table[4]) = (1, 7);
+    let written = judge.job_write(f, &table, &[0, 6], b"\0\0\0\x07ABCDEFG", 15);
+    let word = *b"\x06\0\0\0\x07A\0\0BCDEFG\x06";
+    let right = (unopened.number, written.number) == (14, 0) && written.out == word;
+    let what = "not what the documents say";
+    judge.expect(Op::JobWrite, right, &|| format!("{f:?}"), what);
+    for (values, wanted) in [
+        ([6, 255, 6], [0, 0, 16]),
+        ([6, 6, 7], [9; 3]),
+        ([14, 0, 14], [8; 3]),
+        ([6, 7, 8], [21; 3]),
+    ] {
+        let mut found = word;
+        (found[0], found[7], found[14]) = (values[0], values[1], values[2]);
+        let answers = [
+            judge.decode(f, &found, 11, 2).number,
+            judge.job_read(f, &table, &found, 11).number,
+            judge
+                .prescription_read(f, &table, &found, MARKS, POWERS)
+                .number,
+        ];
+        let inputs = || format!("{f:?} {values:?}: {answers:?}");
+        judge.expect(Op::JobRead, answers == wanted, &inputs, what);
     }
 }
 
@@ -254,7 +286,7 @@ fn spell(f: &Figures, value: u128, symbols: &mut [u8]) {
 
 /// Reads a word of symbols and silent cells: 21 is for one without a majority, and for no other.
 fn judged(judge: &mut Judge, f: &Figures, word: &[u8]) -> u8 {
-    let number = judge.decode(any_numbers(f), word, f.k, 2 * f.m).number;
+    let number = judge.decode(numbers(f), word, f.k, 2 * f.m).number;
     let right = (number == 21) == (most_votes(f, word) <= f.m);
     let inputs = || format!("{f:?} word {}", hex(word));
     judge.expect(Op::Decode, right, &inputs, "21 is for no majority");

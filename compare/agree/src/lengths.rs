@@ -1,16 +1,15 @@
 //! Buffers whose lengths are right in their low 16 or 32 bits alone: all are refused with 3.
 
-use burgzemi::{Larsson, Ranked};
+use burgzemi::Ranked;
 
 use crate::calls::TABLE;
 use crate::judge::{Judge, Op};
-use crate::sides::{AnyNumbers, EyeNumbers, Numbers, PrescriptionNumbers, Side, PROVED, SECOND};
+use crate::kinds::CODES;
+use crate::sides::{EyeNumbers, Numbers, PrescriptionNumbers, Side, PROVED, SECOND};
 use crate::ways::WAYS;
 
-/// Document 01's transfer example: n 15, k and K 11, one start; and the other codes' figures with the same lengths.
+/// Document 01's transfer example: n 15, k and K 11, one start. Each code has these lengths.
 const EXAMPLE: Ranked = (15, 256, 1, 2);
-const FIGURES: [Numbers; 2] = [Numbers::Ranked(EXAMPLE), Numbers::Long((15, 256, 2))];
-const LARSSON: AnyNumbers = AnyNumbers::Larsson(Larsson(15, 256, 1, 2));
 const WORD: usize = 15;
 const PAYLOAD: usize = 11;
 const PLANO: EyeNumbers = (0, 0.0, 0.0, 0);
@@ -19,8 +18,8 @@ const ORDER: PrescriptionNumbers = (PLANO, PLANO, 60.0);
 /// A call that takes one buffer of a wrong length.
 type Call<'a> = &'a mut dyn FnMut(&mut [u8]) -> u8;
 
-/// Each call that every code has, with one length replaced; `with` lends a buffer that is too long.
-fn word_calls(side: &Side, f: AnyNumbers, with: &mut dyn FnMut(usize, Call) -> u8) -> [u8; 8] {
+/// Each call on a word, with one length replaced; `with` lends a buffer that is too long.
+fn word_calls(side: &Side, f: Numbers, with: &mut dyn FnMut(usize, Call) -> u8) -> [u8; 11] {
     let (mut word, mut payload, mut starts) = ([0; WORD], [0; PAYLOAD], [0; 2]);
     [
         with(2, &mut |long| (side.encode)(f, long, &payload, &mut word)),
@@ -37,6 +36,9 @@ fn word_calls(side: &Side, f: AnyNumbers, with: &mut dyn FnMut(usize, Call) -> u
         with(2, &mut |long| (side.decode)(f, &word, &mut payload, long)),
         with(WORD, &mut |long| (side.cover)(f, long, &mut starts)),
         with(2, &mut |long| (side.cover)(f, &word, long)),
+        with(2, &mut |long| (side.verify)(f, long, &payload, &word)),
+        with(PAYLOAD, &mut |long| (side.verify)(f, &starts, long, &word)),
+        with(WORD, &mut |long| (side.verify)(f, &starts, &payload, long)),
     ]
 }
 
@@ -52,17 +54,6 @@ fn lane_calls(side: &Side, f: Numbers, with: &mut dyn FnMut(usize, Call) -> u8) 
             (side.deinterleave)(f, 2, long, &mut two)
         }),
         with(2 * WORD, &mut |long| (side.deinterleave)(f, 2, &two, long)),
-    ]
-}
-
-/// Likewise the check, which Construction A alone has.
-fn check_calls(side: &Side, with: &mut dyn FnMut(usize, Call) -> u8) -> [u8; 3] {
-    let f = EXAMPLE;
-    let (word, payload, starts) = ([0; WORD], [0; PAYLOAD], [0; 2]);
-    [
-        with(2, &mut |long| (side.verify)(f, long, &payload, &word)),
-        with(PAYLOAD, &mut |long| (side.verify)(f, &starts, long, &word)),
-        with(WORD, &mut |long| (side.verify)(f, &starts, &payload, long)),
     ]
 }
 
@@ -159,11 +150,9 @@ pub fn run(judge: &mut Judge) {
     for extra in [1 << 8, 1 << 16, 1 << 32] {
         for side in [PROVED, SECOND] {
             let mut with = |len: usize, call: Call| call(&mut long[..len + extra]);
-            let mut answers = check_calls(&side, &mut with).to_vec();
-            answers.extend(word_calls(&side, LARSSON, &mut with));
-            answers.extend(move_calls(&side, &mut with));
-            for f in FIGURES {
-                answers.extend(word_calls(&side, f.into(), &mut with));
+            let mut answers = move_calls(&side, &mut with);
+            for f in CODES.map(|code| Numbers::of(code, EXAMPLE)) {
+                answers.extend(word_calls(&side, f, &mut with));
                 answers.extend(lane_calls(&side, f, &mut with));
                 answers.extend(job_calls(&side, f, &mut with));
                 answers.extend(prescription_calls(&side, f, &mut with));
@@ -176,9 +165,8 @@ pub fn run(judge: &mut Judge) {
     let mut long = vec![0.0; (1 << 29) + TABLE];
     for extra in [1 << 5, 1 << 8, 1 << 13, 1 << 16, 1 << 29] {
         for side in [PROVED, SECOND] {
-            let answers = FIGURES
-                .map(|f| power_calls(&side, f, &mut long, extra))
-                .concat();
+            let calls = |code| power_calls(&side, Numbers::of(code, EXAMPLE), &mut long, extra);
+            let answers = CODES.map(calls).concat();
             all_three(judge, &side, extra, &answers);
         }
     }

@@ -1,11 +1,13 @@
 //! What the comparisons share: a seeded generator, the two sides, the judge, and the making of inputs.
 
 pub mod calls;
+mod causes;
 pub mod eyes;
 pub mod former;
 pub mod grid;
 pub mod jobs;
 pub mod judge;
+pub mod kinds;
 pub mod lanes;
 pub mod larsson;
 pub mod lengths;
@@ -20,6 +22,7 @@ pub mod rng;
 pub mod sides;
 pub mod silent;
 pub mod slips;
+mod spoilt;
 pub mod streams;
 pub mod strips;
 mod tally;

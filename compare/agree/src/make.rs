@@ -2,7 +2,7 @@
 
 use std::ops::RangeInclusive;
 
-use burgzemi::{Larsson, Ranked};
+use burgzemi::Ranked;
 use second::blocks::Layout;
 use second::choose::unrank;
 use second::figures::{Code, MAX_N, MAX_RUNS};
@@ -11,28 +11,16 @@ use second::moving::Layouts;
 use second::{larsson, Figures};
 
 use crate::rng::Rng;
-use crate::sides::{AnyNumbers, Numbers};
+use crate::sides::Numbers;
 
-/// Construction A's figures as numbers.
+/// Figures as numbers: n, q, m and b.
 pub fn ranked(f: &Figures) -> Ranked {
     (f.n as u32, f.q, f.m as u32, f.b as u32)
 }
 
-/// Figures of either construction as numbers.
+/// Figures as numbers of their code.
 pub fn numbers(f: &Figures) -> Numbers {
-    match f.code {
-        Code::ConstructionB => Numbers::Long((f.n as u32, f.q, f.b as u32)),
-        _ => Numbers::Ranked(ranked(f)),
-    }
-}
-
-/// Figures of any code as numbers.
-pub fn any_numbers(f: &Figures) -> AnyNumbers {
-    let (n, q, m, b) = ranked(f);
-    match f.code {
-        Code::Larsson => Larsson(n, q, m, b).into(),
-        _ => numbers(f).into(),
-    }
+    Numbers::of(f.code, ranked(f))
 }
 
 /// Lengths at the limits: the longest that fit with 8 runs, with 7, and at all, before change request 11 and since; those
@@ -44,14 +32,14 @@ const EDGES: [u64; 14] = [
 /// Judges n, q, m and b.
 type Judged = fn(u32, u32, u32, u32) -> Result<Figures, u8>;
 
-/// Construction A's figures that fit. No burst is longer than a block.
-pub fn figures(rng: &mut Rng) -> Figures {
-    fitting(rng, Figures::new, |n, m| n / (m * m.max(3)))
-}
-
-/// The Larsson code's figures that fit. No burst is longer than a gap between sub-blocks, plus 1.
-pub fn larsson_figures(rng: &mut Rng) -> Figures {
-    fitting(rng, Figures::larsson, |n, m| n / (2 * m) + 1)
+/// Figures of this code that fit.
+pub fn figures(rng: &mut Rng, code: Code) -> Figures {
+    match code {
+        // No burst is longer than a block; of the Larsson code, than a gap between sub-blocks, plus 1.
+        Code::ConstructionA => fitting(rng, Figures::new, |n, m| n / (m * m.max(3))),
+        Code::ConstructionB => long_figures(rng),
+        Code::Larsson => fitting(rng, Figures::larsson, |n, m| n / (2 * m) + 1),
+    }
 }
 
 /// Figures that fit both, with room for a job in each payload.
@@ -105,7 +93,7 @@ fn with_length(
 }
 
 /// Construction B's figures that fit: one burst, up to a third of the word.
-pub fn long_figures(rng: &mut Rng) -> Figures {
+fn long_figures(rng: &mut Rng) -> Figures {
     loop {
         let n = match rng.below(4) {
             0 => rng.between(3, 40),

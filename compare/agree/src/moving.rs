@@ -1,23 +1,18 @@
 //! Jobs moved between the Larsson code and Construction A: either payload the longer, there and back, every state of a job, spoilt strips, and refused calls.
 
 use burgzemi::Ranked;
-use second::blocks::{burst_blocks, index_blocks, Layout};
-use second::figures::Code;
 use second::job::payload_len;
 use second::Figures;
 
 use crate::calls::{bad_table, start, table, TABLE};
-use crate::jobs::{known_number, off};
+use crate::jobs::{known_number, off, written};
 use crate::judge::{hex, Judge};
-use crate::larsson::voted;
-use crate::make::{
-    any_numbers, damage, found, odd_message, placement, silent_value, sound_message, spell,
-    start_bytes, symbol, value, wrong_len,
-};
+use crate::make::{damage, found, numbers, odd_message, placement, start_bytes, wrong_len};
 use crate::rng::Rng;
 use crate::sides::Numbers;
-use crate::uses::{cells, Use};
-use crate::ways::{MoveKind, Way, WAYS};
+use crate::silent::Silent;
+use crate::spoilt;
+use crate::ways::{Way, WAYS};
 use crate::words::Strip;
 
 pub fn run(judge: &mut Judge, rng: &mut Rng) {
@@ -118,19 +113,6 @@ fn wanted(state: u8, number: u32, surplus: bool) -> u8 {
         4 => 23,
         2 | 3 | 5 => 12,
         _ => 14,
-    }
-}
-
-/// The strip of a payload, of any job number.
-fn written(judge: &mut Judge, f: Figures, starts: Vec<u16>, payload: &[u8]) -> Strip {
-    let message = sound_message(&f, payload);
-    let answer = judge.encode(any_numbers(&f), &start_bytes(&starts), &message, f.n);
-    let word = answer.out;
-    Strip {
-        f,
-        starts,
-        message,
-        word,
     }
 }
 
@@ -252,7 +234,7 @@ fn there_and_back(judge: &mut Judge, rng: &mut Rng, route: &Route) {
     let back = judge.move_job(way.back(), *f, &table, &between, from.n);
     let same = back.number == 0 && back.out == strip.word;
     judge.expect(way.back().op(), same, &inputs, "not the strip before");
-    let read = judge.decode(any_numbers(from), &back.out, from.k, 2 * from.m);
+    let read = judge.decode(numbers(from), &back.out, from.k, 2 * from.m);
     let same = read.out == strip.message && read.also == start_bytes(&strip.starts);
     judge.expect(way.back().op(), same, &inputs, "not the message before");
 }
@@ -273,27 +255,13 @@ fn zero(judge: &mut Judge, rng: &mut Rng, route: &Route) {
     judge.expect(way.op(), right, &inputs, what);
 }
 
-/// A strip with other values where it tells of the placement, or with any cells changed: what the word reader refuses, the move refuses likewise.
+/// A strip spoilt outside its runs: what the word reader refuses, the move refuses likewise.
 fn spoilt(judge: &mut Judge, rng: &mut Rng, route: &Route) {
     let Route { way, f, from, to } = route;
     let table = table(rng);
     let (strip, _) = route.job(judge, rng, &table);
-    let mut word = match rng.below(4) {
-        0 => found(rng, from.q, from.n),
-        1 => other_value(rng, &strip),
-        _ => strip.word.clone(),
-    };
-    let wanted = rng.pick(&[Use::Index, Use::Index, Use::Fixed, Use::Message]);
-    let cells = cells(&strip, wanted);
-    for _ in 0..rng.below(4).min(cells.len() as u64) {
-        word[rng.pick(&cells)] = match rng.below(8) {
-            0 => rng.byte(),
-            1 => silent_value(from.q).unwrap_or(0),
-            2 | 3 => 0,
-            _ => symbol(rng, from.q),
-        };
-    }
-    let read = judge.decode(any_numbers(from), &word, from.k, 2 * from.m);
+    let word = spoilt::spoilt(rng, &strip);
+    let read = judge.decode(numbers(from), &word, from.k, 2 * from.m);
     let answer = judge.move_job(*way, *f, &table, &word, to.n).number;
     let right = match read.number {
         0 => [0, 10, 12, 14, 17, 22, 23].contains(&answer),
@@ -303,44 +271,14 @@ fn spoilt(judge: &mut Judge, rng: &mut Rng, route: &Route) {
     judge.expect(way.op(), right, &inputs, "not what the word reader says");
 }
 
-/// The strip with another value, often too large, in the I-blocks, or one in most sub-blocks or not quite.
-fn other_value(rng: &mut Rng, strip: &Strip) -> Vec<u8> {
-    let f = &strip.f;
-    if f.code == Code::Larsson {
-        return voted(rng, f).word;
-    }
-    let layout = Layout::new(f);
-    let index = index_blocks(f, burst_blocks(f, &layout, &strip.starts));
-    let mut word = strip.word.clone();
-    spell(f, &layout, index, value(rng, f, f.t), &mut word);
-    word
-}
-
-/// A silent cell outside the runs, where the strip tells of the placement or in the message.
+/// A silent cell outside the runs.
 fn silent(judge: &mut Judge, rng: &mut Rng, route: &Route) {
-    let Route { way, f, from, to } = route;
-    let Some(silent) = silent_value(from.q) else {
-        return;
-    };
+    let Route { way, f, to, .. } = route;
     let table = table(rng);
     let (strip, _) = route.job(judge, rng, &table);
-    let (wanted, kind) = rng.pick(&[
-        (Use::Index, MoveKind::SilentIndex),
-        (Use::Message, MoveKind::SilentMessage),
-    ]);
-    let cells = cells(&strip, wanted);
-    let mut word = strip.word.clone();
-    damage(rng, from, &strip.starts, &mut word);
-    word[rng.pick(&cells)] = silent;
-    let answer = judge.move_job(*way, *f, &table, &word, to.n).number;
-    let right = match wanted {
-        Use::Index if from.code == Code::Larsson => [9, 21].contains(&answer),
-        _ => answer == 19,
-    };
-    let inputs = || format!("{way:?} {f:?} {:?} strip {}", strip.starts, hex(&word));
-    judge.expect(way.op(), right, &inputs, "a silent cell outside the runs");
-    if answer == 19 {
-        judge.tally.count_move(*way, kind);
+    if let Some(silent) = Silent::new(rng, &strip) {
+        let moved = judge.move_job(*way, *f, &table, &silent.word, to.n);
+        silent.judge(judge, way.op().into(), moved.number);
     }
 }
 
@@ -352,7 +290,7 @@ fn oddly_spelled(judge: &mut Judge, rng: &mut Rng, route: &Route) {
     let payload = route.payload(rng, number);
     let message = odd_message(rng, from, &payload);
     let starts = start_bytes(&placement(rng, from));
-    let word = judge.encode(any_numbers(from), &starts, &message, from.n);
+    let word = judge.encode(numbers(from), &starts, &message, from.n);
     judge.move_job(*way, *f, &table, &word.out, to.n);
 }
 
@@ -376,7 +314,5 @@ fn refused(judge: &mut Judge, rng: &mut Rng, route: &Route) {
             _ => figures = off(rng, figures),
         }
     }
-    if let Numbers::Ranked(figures) = figures {
-        judge.move_job(*way, figures, &table, &word, moved);
-    }
+    judge.move_job(*way, figures.ranked(), &table, &word, moved);
 }

@@ -1,5 +1,6 @@
 //! The making of prescriptions, and of strips that carry them.
 
+use second::figures::Code;
 use second::job::{payload_len, width};
 use second::Figures;
 
@@ -7,9 +8,9 @@ use crate::calls::table;
 use crate::eyes::dioptres;
 use crate::jobs::known_number;
 use crate::judge::{Answer, Judge};
-use crate::make::{damage, figures, long_figures, numbers, placement, start_bytes};
+use crate::make::{damage, figures, numbers, placement, start_bytes};
 use crate::rng::Rng;
-use crate::sides::{EyeNumbers, PrescriptionNumbers};
+use crate::sides::{EyeNumbers, Numbers, PrescriptionNumbers};
 
 /// The bytes and doubles that a reading gives.
 pub const MARKS: usize = 8;
@@ -120,31 +121,30 @@ pub fn odd_numbers(rng: &mut Rng, order: &Order, powers: &[f64]) -> Prescription
     (right, left, distance)
 }
 
-/// Figures of any kind, or whose payload is just long enough for a prescription, or just too short; `long` ones are Construction B's.
-fn roomy(rng: &mut Rng, long: bool) -> Figures {
+/// Figures of this code: of any kind, or whose payload is just long enough for a prescription, or just too short.
+fn roomy(rng: &mut Rng, code: Code) -> Figures {
     match rng.below(4) {
-        0 if long => long_figures(rng),
-        0 => figures(rng),
+        0 => figures(rng, code),
         _ => {
             let wanted = rng.pick(&[4, 5, 6, 15, 16, 17, 17, 18, 18, 19, 25, 40]);
-            with_payload(rng, wanted, long)
+            with_payload(rng, wanted, code)
         }
     }
 }
 
-/// Figures with a payload of so many bytes.
-pub fn with_payload(rng: &mut Rng, wanted: usize, long: bool) -> Figures {
-    let judged = |n, q, m, b| match long {
-        true => Figures::construction_b(n, q, m * b),
-        false => Figures::new(n, q, m, b),
-    };
+/// Figures of this code with a payload of so many bytes.
+pub fn with_payload(rng: &mut Rng, wanted: usize, code: Code) -> Figures {
     loop {
         let q = rng.pick(&[2, 3, 4, 7, 15, 16, 17, 100, 255, 256]);
         let (m, b) = (rng.between(1, 4) as u32, rng.between(1, 4) as u32);
-        // Of a longer word, runs, first symbols and I-blocks leave more.
+        let (m, b) = match code {
+            Code::ConstructionB => (1, m * b),
+            _ => (m, b),
+        };
+        // Of a longer word, runs and what tells of them leave more.
         let least = wanted * width(q);
         let fitting: Vec<Figures> = (least..least + 100)
-            .filter_map(|n| judged(n as u32, q, m, b).ok())
+            .filter_map(|n| Numbers::of(code, (n as u32, q, m, b)).try_into().ok())
             .filter(|f| payload_len(f) == wanted)
             .collect();
         if !fitting.is_empty() {
@@ -163,8 +163,8 @@ pub struct Tray {
 }
 
 impl Tray {
-    pub fn random(rng: &mut Rng, long: bool) -> Tray {
-        let f = roomy(rng, long);
+    pub fn random(rng: &mut Rng, code: Code) -> Tray {
+        let f = roomy(rng, code);
         Tray::of(rng, f)
     }
 

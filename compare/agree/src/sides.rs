@@ -1,15 +1,44 @@
 //! The two implementations behind one set of calls on plain numbers and bytes.
 
-use burgzemi::{Larsson, Long, Ranked};
-use second::Figures;
+use burgzemi::{Long, Ranked};
+use second::figures::Code;
+use second::{raw, Figures};
 
 pub use second::raw::{EyeNumbers, PrescriptionNumbers};
 
-/// The figures of either construction, for both sides.
+/// The figures of any code, for both sides.
 #[derive(Clone, Copy, PartialEq, Eq, Debug)]
 pub enum Numbers {
     Ranked(Ranked),
     Long(Long),
+    Larsson(Ranked),
+}
+
+impl Numbers {
+    /// The figures of a code, of which Construction B's have no m.
+    pub fn of(code: Code, (n, q, m, b): Ranked) -> Numbers {
+        match code {
+            Code::ConstructionA => Numbers::Ranked((n, q, m, b)),
+            Code::ConstructionB => Numbers::Long((n, q, b)),
+            Code::Larsson => Numbers::Larsson((n, q, m, b)),
+        }
+    }
+
+    pub fn code(self) -> Code {
+        match self {
+            Numbers::Ranked(_) => Code::ConstructionA,
+            Numbers::Long(_) => Code::ConstructionB,
+            Numbers::Larsson(_) => Code::Larsson,
+        }
+    }
+
+    /// n, q, m, which is 1 for Construction B, and b.
+    pub fn ranked(self) -> Ranked {
+        match self {
+            Numbers::Ranked(numbers) | Numbers::Larsson(numbers) => numbers,
+            Numbers::Long((n, q, b)) => (n, q, 1, b),
+        }
+    }
 }
 
 impl From<Numbers> for burgzemi::Numbers {
@@ -17,6 +46,7 @@ impl From<Numbers> for burgzemi::Numbers {
         match numbers {
             Numbers::Ranked(numbers) => numbers.into(),
             Numbers::Long(numbers) => numbers.into(),
+            Numbers::Larsson((n, q, m, b)) => burgzemi::Larsson(n, q, m, b).into(),
         }
     }
 }
@@ -28,45 +58,7 @@ impl TryFrom<Numbers> for Figures {
         match numbers {
             Numbers::Ranked(numbers) => numbers.try_into(),
             Numbers::Long(numbers) => numbers.try_into(),
-        }
-    }
-}
-
-/// The figures of any code, likewise.
-#[derive(Clone, Copy, PartialEq, Eq, Debug)]
-pub enum AnyNumbers {
-    Construction(Numbers),
-    Larsson(Larsson),
-}
-
-impl From<Numbers> for AnyNumbers {
-    fn from(numbers: Numbers) -> AnyNumbers {
-        AnyNumbers::Construction(numbers)
-    }
-}
-
-impl From<Larsson> for AnyNumbers {
-    fn from(numbers: Larsson) -> AnyNumbers {
-        AnyNumbers::Larsson(numbers)
-    }
-}
-
-impl From<AnyNumbers> for burgzemi::AnyNumbers {
-    fn from(numbers: AnyNumbers) -> burgzemi::AnyNumbers {
-        match numbers {
-            AnyNumbers::Construction(numbers) => burgzemi::AnyNumbers::Construction(numbers.into()),
-            AnyNumbers::Larsson(numbers) => numbers.into(),
-        }
-    }
-}
-
-impl TryFrom<AnyNumbers> for Figures {
-    type Error = u8;
-
-    fn try_from(numbers: AnyNumbers) -> Result<Figures, u8> {
-        match numbers {
-            AnyNumbers::Construction(numbers) => numbers.try_into(),
-            AnyNumbers::Larsson(Larsson(n, q, m, b)) => Figures::larsson(n, q, m, b),
+            Numbers::Larsson((n, q, m, b)) => raw::Larsson(n, q, m, b).try_into(),
         }
     }
 }
@@ -80,12 +72,12 @@ type PrescriptionWrite = fn(Numbers, &[u8], &[u8], u32, PrescriptionNumbers, &mu
 
 pub struct Side {
     pub name: &'static str,
-    pub message_len: fn(AnyNumbers) -> u32,
-    pub payload_len: fn(AnyNumbers) -> u32,
-    pub encode: fn(AnyNumbers, &[u8], &[u8], &mut [u8]) -> u8,
-    pub decode: fn(AnyNumbers, &[u8], &mut [u8], &mut [u8]) -> u8,
-    pub verify: fn(Ranked, &[u8], &[u8], &[u8]) -> u8,
-    pub cover: fn(AnyNumbers, &[u8], &mut [u8]) -> u8,
+    pub message_len: fn(Numbers) -> u32,
+    pub payload_len: fn(Numbers) -> u32,
+    pub encode: fn(Numbers, &[u8], &[u8], &mut [u8]) -> u8,
+    pub decode: fn(Numbers, &[u8], &mut [u8], &mut [u8]) -> u8,
+    pub verify: fn(Numbers, &[u8], &[u8], &[u8]) -> u8,
+    pub cover: fn(Numbers, &[u8], &mut [u8]) -> u8,
     pub interleave: Lanes,
     pub deinterleave: Lanes,
     pub call: fn(&mut [u8], u8, u32) -> u8,

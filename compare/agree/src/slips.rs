@@ -2,7 +2,7 @@
 //! at exactly those positions.
 
 use crate::judge::{Judge, Op};
-use crate::make::{any_numbers, damage, start_bytes};
+use crate::make::{damage, numbers, start_bytes};
 use crate::rng::Rng;
 use crate::uses::{cells, Use};
 use crate::words::Strip;
@@ -25,7 +25,7 @@ pub fn round(judge: &mut Judge, rng: &mut Rng, strip: &Strip) {
         message[i] = ((message[i] as u64 + steps) % f.q as u64) as u8;
         word[cells[i]] = message[i];
     }
-    let read = judge.decode(any_numbers(f), &word, f.k, 2 * f.m);
+    let read = judge.decode(numbers(f), &word, f.k, 2 * f.m);
     let others = read.out.iter().zip(&strip.message).filter(|(a, b)| a != b);
     let right = read.number == 0
         && read.also == start_bytes(&strip.starts)

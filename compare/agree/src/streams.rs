@@ -2,14 +2,15 @@
 
 use burgzemi::{Long, Ranked};
 use second::blocks::{burst_blocks, index_blocks, Layout};
+use second::figures::Code;
 use second::job::payload_len;
 use second::{codec, index, Figures};
 
 use crate::calls::number;
 use crate::grid;
 use crate::make::{
-    damage, figures, found, long_figures, numbers, odd_message, placement, silent_value,
-    sound_message, spell, start_bytes, value,
+    damage, figures, found, numbers, odd_message, placement, silent_value, sound_message, spell,
+    start_bytes, value,
 };
 use crate::rng::Rng;
 use crate::sides::Numbers;
@@ -125,21 +126,17 @@ impl Stream<'_> {
         }
     }
 
+    /// A record of Construction A's figures, or of Construction B's.
     fn set(&mut self, numbers: Numbers) {
-        match numbers {
-            Numbers::Ranked((n, q, m, b)) => {
-                self.head(b'S');
-                self.bytes.extend((n as u16).to_be_bytes());
-                self.bytes.extend([(q - 1) as u8, m as u8]);
-                self.bytes.extend((b as u16).to_be_bytes());
-            }
-            Numbers::Long((n, q, b)) => {
-                self.head(b'L');
-                self.bytes.extend((n as u16).to_be_bytes());
-                self.bytes.push((q - 1) as u8);
-                self.bytes.extend((b as u16).to_be_bytes());
-            }
+        let (n, q, m, b) = numbers.ranked();
+        let long = numbers.code() == Code::ConstructionB;
+        self.head(if long { b'L' } else { b'S' });
+        self.bytes.extend((n as u16).to_be_bytes());
+        self.bytes.push((q - 1) as u8);
+        if !long {
+            self.bytes.push(m as u8);
         }
+        self.bytes.extend((b as u16).to_be_bytes());
         if let Ok(f) = numbers.try_into() {
             self.figures = Some(f);
         }
@@ -147,10 +144,11 @@ impl Stream<'_> {
 
     /// Construction B's figures, once in three, or Construction A's.
     fn any_figures(&mut self) -> Numbers {
-        match self.rng.below(3) {
-            0 => numbers(&long_figures(self.rng)),
-            _ => numbers(&figures(self.rng)),
-        }
+        let code = match self.rng.below(3) {
+            0 => Code::ConstructionB,
+            _ => Code::ConstructionA,
+        };
+        numbers(&figures(self.rng, code))
     }
 
     fn fitting(&mut self) {
@@ -161,8 +159,8 @@ impl Stream<'_> {
     /// Figures at or past a boundary.
     fn boundary(&mut self) {
         let numbers = match self.any_figures() {
-            Numbers::Ranked(f) => Numbers::Ranked(self.ranked_boundary(f)),
             Numbers::Long(f) => Numbers::Long(self.long_boundary(f)),
+            f => Numbers::Ranked(self.ranked_boundary(f.ranked())),
         };
         self.set(numbers);
     }

@@ -1,24 +1,21 @@
 //! What was seen so far: every answer of each kind of call, and the accepted words.
 
+use burgzemi::Ranked;
 use second::blocks::Layout;
 use second::figures::{Code, MAX_RUNS};
+use second::job::has_room;
+use second::moving::Layouts;
 use second::Figures;
 
-use crate::judge::{Kind, Op, OPS};
+use crate::causes::{Cause, CAUSES};
+use crate::kinds::{Kind, Op, KINDS};
 use crate::larsson::most_votes;
-use crate::sides::AnyNumbers;
-use crate::ways;
-
-/// Each code, in the order of its numbers, and what its calls are named with.
-const CODES: [(Code, &str); 3] = [
-    (Code::ConstructionA, ""),
-    (Code::ConstructionB, "long "),
-    (Code::Larsson, "larsson "),
-];
+use crate::sides::Numbers;
+use crate::ways::{Way, WAYS};
 
 pub struct Tally {
-    /// Answers by code and call.
-    seen: [[[u64; 256]; OPS.len()]; CODES.len()],
+    /// Answers by kind of call.
+    seen: [[u64; 256]; KINDS],
     /// Accepted words, by m and by how many parts have no block that looks F.
     accepted: [[u64; 3]; MAX_RUNS + 1],
     /// The same of Construction B.
@@ -27,29 +24,35 @@ pub struct Tally {
     accepted_larsson: [[u64; 3]; MAX_RUNS + 1],
     /// Words with altered message cells: with none, one, several, or all of several.
     slips: [u64; 4],
-    /// Moves, by direction and by what their number alone doesn't tell.
-    moves: [[u64; ways::MOVE_KINDS.len()]; ways::WAYS.len()],
+    /// Refused calls, by kind and by what their number alone doesn't tell.
+    causes: [[u64; CAUSES.len()]; KINDS],
+    /// Served moves, by direction and by whether the payload is moved to a shorter one, one as long, or a longer one.
+    moves: [[u64; 3]; WAYS.len()],
+    /// Jobs written by the Larsson code, under figures that Construction A takes too, or doesn't.
+    larsson_jobs: [u64; 2],
 }
 
 impl Default for Tally {
     fn default() -> Tally {
         Tally {
-            seen: [[[0; 256]; OPS.len()]; CODES.len()],
+            seen: [[0; 256]; KINDS],
             accepted: Default::default(),
             accepted_long: Default::default(),
             accepted_larsson: Default::default(),
             slips: Default::default(),
+            causes: [[0; CAUSES.len()]; KINDS],
             moves: Default::default(),
+            larsson_jobs: Default::default(),
         }
     }
 }
 
 impl Tally {
     pub fn count(&mut self, kind: Kind, number: u8) {
-        self.seen[kind.code as usize][kind.op as usize][number as usize] += 1;
+        self.seen[kind.index()][number as usize] += 1;
     }
 
-    pub fn count_accepted(&mut self, f: AnyNumbers, word: &[u8]) {
+    pub fn count_accepted(&mut self, f: Numbers, word: &[u8]) {
         let Ok(f) = Figures::try_from(f) else { return };
         match f.code {
             Code::ConstructionA => self.accepted[f.m][parts_without_fixed(&f, word)] += 1,
@@ -74,8 +77,32 @@ impl Tally {
         self.slips[kind] += 1;
     }
 
-    pub fn count_move(&mut self, way: ways::Way, kind: ways::MoveKind) {
-        self.moves[way as usize][kind as usize] += 1;
+    pub fn count_cause(&mut self, kind: Kind, cause: Cause) {
+        self.causes[kind.index()][cause as usize] += 1;
+    }
+
+    /// A job call under these figures and this table, and its answer.
+    pub fn count_job(&mut self, kind: Kind, f: Numbers, table: &[u8], number: u8) {
+        let room = || Figures::try_from(f).map(|f| has_room(&f));
+        if let Some(cause) = Cause::of(number, table, room) {
+            self.count_cause(kind, cause);
+        }
+        if let (Op::JobWrite, Code::Larsson, 0) = (kind.op, kind.code, number) {
+            let alone = Figures::try_from(Numbers::Ranked(f.ranked())).is_err();
+            self.larsson_jobs[alone as usize] += 1;
+        }
+    }
+
+    /// A move likewise, whose figures both codes take.
+    pub fn count_move(&mut self, way: Way, f: Ranked, table: &[u8], number: u8) {
+        let (n, q, m, b) = f;
+        let room = || Layouts::new(n, q, m, b).map(|both| both.have_room());
+        if let Some(cause) = Cause::of(number, table, room) {
+            self.count_cause(way.op().into(), cause);
+        }
+        if let (0, Some(lengths)) = (number, way.lengths(f)) {
+            self.moves[way as usize][lengths as usize] += 1;
+        }
     }
 
     /// How many words were written or read, or refused for more than their figures and lengths.
@@ -90,61 +117,77 @@ impl Tally {
             Op::MoveToA,
             Op::MoveToLarsson,
         ];
-        let judged = |&op: &Op| {
-            let both = self.seen.iter().map(|seen| &seen[op as usize]);
-            both.map(|seen| seen[0] + seen[4..].iter().sum::<u64>())
-                .sum::<u64>()
+        let judged = |kind: Kind| {
+            let seen = &self.seen[kind.index()];
+            seen[0] + seen[4..].iter().sum::<u64>()
         };
-        words.iter().map(judged).sum()
+        let kinds = Kind::all().filter(|kind| words.contains(&kind.op));
+        kinds.map(judged).sum()
     }
 
     /// Prints a line for each kind of call, and tells whether every answer that it can give was seen.
     pub fn summary(&self) -> bool {
         let mut complete = true;
-        let kinds = CODES
-            .iter()
-            .flat_map(|code| OPS.iter().map(move |row| (code, row)));
-        for (&(code, prefix), &(op, name, _)) in kinds {
-            let possible = Kind { op, code }.possible();
-            if possible.is_empty() {
-                continue;
-            }
-            let name = format!("{prefix}{name}");
-            let seen = &self.seen[code as usize][op as usize];
-            let shown: Vec<String> = possible
-                .iter()
-                .map(|&number| format!("{number}: {}", seen[number as usize]))
+        for kind in Kind::all() {
+            let (name, seen) = (kind.name(), &self.seen[kind.index()]);
+            let shown: Vec<String> = kind
+                .possible()
+                .map(|number| format!("{number}: {}", seen[number as usize]))
                 .collect();
             let total: u64 = seen.iter().sum();
-            println!("{name:>23} {total:>9}   {}", shown.join("  "));
-            for &number in possible
-                .iter()
-                .filter(|&&number| seen[number as usize] == 0)
-            {
+            println!("{name:>26} {total:>9}   {}", shown.join("  "));
+            for number in kind.possible().filter(|&number| seen[number as usize] == 0) {
                 println!("never seen: {name} answering {number}");
                 complete = false;
             }
         }
-        complete & self.accepted_summary() & self.slips_summary() & self.moves_summary()
+        complete
+            & self.causes_summary()
+            & self.accepted_summary()
+            & self.slips_summary()
+            & self.jobs_summary()
     }
 
-    /// Prints how often each kind of move was made, and tells whether all were that a direction has.
-    fn moves_summary(&self) -> bool {
+    /// Prints why calls were refused, and tells whether each kind was refused for all that it can be.
+    fn causes_summary(&self) -> bool {
         let mut complete = true;
-        for (way, seen) in ways::WAYS.iter().zip(&self.moves) {
-            let kinds = ways::MOVE_KINDS.iter().filter(|&&(kind, _)| way.has(kind));
-            let shown: Vec<String> = kinds
-                .map(|&(kind, name)| {
-                    complete &= seen[kind as usize] > 0;
-                    format!("{name} {}", seen[kind as usize])
+        for kind in Kind::all() {
+            let seen = &self.causes[kind.index()];
+            let causes = CAUSES.iter().filter(|&&(cause, _)| kind.has(cause));
+            let shown: Vec<String> = causes
+                .map(|&(cause, name)| {
+                    complete &= seen[cause as usize] > 0;
+                    format!("{name} {}", seen[cause as usize])
                 })
                 .collect();
-            println!("moves {}: {}", way.name(), shown.join(", "));
+            if !shown.is_empty() {
+                println!("{:>26}   {}", kind.name(), shown.join(", "));
+            }
         }
         if !complete {
-            println!("never seen: some kind of move");
+            println!("never seen: some reason to refuse a call");
         }
         complete
+    }
+
+    /// Prints how often jobs were moved, and written by the Larsson code, and tells whether each kind was. One in three of the latter, at least, must have
+    /// figures that Construction A doesn't take.
+    fn jobs_summary(&self) -> bool {
+        for (way, [shorter, as_long, longer]) in WAYS.iter().zip(self.moves) {
+            let name = way.name();
+            println!("moved {name}: to a shorter payload {shorter}, to one as long {as_long}, to a longer one {longer}");
+        }
+        let [both, alone] = self.larsson_jobs;
+        println!("jobs written by the Larsson code: figures that Construction A takes too {both}, that it doesn't {alone}");
+        let moved = self.moves.as_flattened().iter().all(|&seen| seen > 0);
+        if !moved {
+            println!("never seen: some kind of move");
+        }
+        let enough = both > 0 && 2 * alone >= both;
+        if !enough {
+            println!("too few: jobs by the Larsson code under figures that it alone takes");
+        }
+        moved && enough
     }
 
     fn slips_summary(&self) -> bool {

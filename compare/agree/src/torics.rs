@@ -1,5 +1,6 @@
 //! Prescriptions on strips, one after another: every pair of a sphere and a cylinder, and every short payload.
 
+use second::figures::Code;
 use second::Figures;
 
 use crate::calls::TABLE;
@@ -20,9 +21,9 @@ fn seven_open() -> Vec<u8> {
 }
 
 /// Payloads of 1 to 40 bytes: no job below 5, no prescription below 17.
-pub fn payload_lengths(judge: &mut Judge, rng: &mut Rng, long: bool) {
+pub fn payload_lengths(judge: &mut Judge, rng: &mut Rng, code: Code) {
     for len in 1..=40 {
-        let f = with_payload(rng, len, long);
+        let f = with_payload(rng, len, code);
         let tray = Tray {
             table: seven_open(),
             job: 7,

@@ -4,9 +4,7 @@ use second::raw::DIFFERS;
 use second::Figures;
 
 use crate::judge::{all, hex, Judge, Op};
-use crate::make::{
-    damage, found, numbers, placement, ranked, start_bytes, symbol, symbols, wrong_len,
-};
+use crate::make::{damage, found, numbers, placement, start_bytes, symbol, symbols, wrong_len};
 use crate::rng::Rng;
 use crate::words::{bad_starts_of, Strip};
 
@@ -23,7 +21,7 @@ fn agreeing(judge: &mut Judge, rng: &mut Rng, strip: &Strip) {
     let mut word = strip.word.clone();
     damage(rng, f, &strip.starts, &mut word);
     let starts = start_bytes(&strip.starts);
-    let answer = judge.verify(ranked(f), &starts, &strip.message, &word);
+    let answer = judge.verify(numbers(f), &starts, &strip.message, &word);
     let inputs = || format!("{f:?} {:?} word {}", strip.starts, hex(&word));
     let what = "what the runs hold doesn't matter";
     judge.expect(Op::Verify, answer == 0, &inputs, what);
@@ -60,7 +58,7 @@ fn altered(judge: &mut Judge, rng: &mut Rng, strip: &Strip) {
 /// Yes exactly when the reader gives back this placement and message.
 fn law(judge: &mut Judge, f: &Figures, starts: &[u16], message: &[u8], word: &[u8]) -> u8 {
     let starts = start_bytes(starts);
-    let answer = judge.verify(ranked(f), &starts, message, word);
+    let answer = judge.verify(numbers(f), &starts, message, word);
     let read = judge.decode(numbers(f), word, f.k, 2 * f.m);
     let same = read.number == 0 && read.out == message && read.also == starts;
     let bytes = [&starts, message, word];
@@ -115,5 +113,5 @@ fn refused(judge: &mut Judge, rng: &mut Rng, strip: &Strip) {
             _ => {}
         }
     }
-    judge.verify(ranked(f), &starts, &message, &word);
+    judge.verify(numbers(f), &starts, &message, &word);
 }

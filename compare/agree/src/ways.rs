@@ -1,10 +1,9 @@
-//! The two directions of a move between the Larsson code and Construction A, and the kinds of moves that are told apart.
+//! The two directions of a move between the Larsson code and Construction A.
 
 use std::cmp::Ordering;
 
 use burgzemi::Ranked;
 use second::job::payload_len;
-use second::moving::Layouts;
 use second::Figures;
 
 use crate::judge::Op;
@@ -58,50 +57,21 @@ impl Way {
         })
     }
 
-    /// Whether such a move can be made: a silent cell that tells of the placement has no 19 of its own in the Larsson code.
-    pub fn has(self, kind: MoveKind) -> bool {
-        self == Way::ToLarsson || kind != MoveKind::SilentIndex
+    /// Which payload is the longer, of figures that both codes take.
+    pub fn lengths(self, f: Ranked) -> Option<Lengths> {
+        let (from, to) = self.figures(f)?;
+        Some(match payload_len(&to).cmp(&payload_len(&from)) {
+            Ordering::Less => Lengths::Shorter,
+            Ordering::Equal => Lengths::AsLong,
+            Ordering::Greater => Lengths::Longer,
+        })
     }
 }
 
-/// What the number of an answer doesn't tell of a move.
+/// What a payload is moved to.
 #[derive(Clone, Copy, PartialEq, Eq, Debug)]
-pub enum MoveKind {
+pub enum Lengths {
     Shorter,
     AsLong,
     Longer,
-    NoRoom,
-    NoPayload,
-    SilentIndex,
-    SilentMessage,
-}
-
-pub const MOVE_KINDS: [(MoveKind, &str); 7] = [
-    (MoveKind::Shorter, "to a shorter payload"),
-    (MoveKind::AsLong, "to one as long"),
-    (MoveKind::Longer, "to a longer one"),
-    (MoveKind::NoRoom, "10 for K"),
-    (MoveKind::NoPayload, "10 for the message"),
-    (MoveKind::SilentIndex, "19 for the I-blocks"),
-    (MoveKind::SilentMessage, "19 for the message"),
-];
-
-impl MoveKind {
-    /// Of a served move, or of one refused with 10.
-    pub fn of(way: Way, f: Ranked, number: u8) -> Option<MoveKind> {
-        let (n, q, m, b) = f;
-        match number {
-            0 => {
-                let (from, to) = way.figures(f)?;
-                Some(match payload_len(&to).cmp(&payload_len(&from)) {
-                    Ordering::Less => MoveKind::Shorter,
-                    Ordering::Equal => MoveKind::AsLong,
-                    Ordering::Greater => MoveKind::Longer,
-                })
-            }
-            10 if Layouts::new(n, q, m, b).ok()?.have_room() => Some(MoveKind::NoPayload),
-            10 => Some(MoveKind::NoRoom),
-            _ => None,
-        }
-    }
 }

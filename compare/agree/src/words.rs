@@ -3,12 +3,13 @@
 use second::blocks::{burst_blocks, index_blocks, pattern, Layout};
 use second::choose::{rank, unrank};
 use second::figures::Code;
+use second::raw::DIFFERS;
 use second::{index, Figures};
 
 use crate::judge::{Judge, Op};
 use crate::make::{
-    any_numbers, damage, figures, found, placement, silent_value, spell, start_bytes, symbol,
-    symbols, value, values, wrong_len,
+    damage, figures, found, numbers, placement, silent_value, spell, start_bytes, symbol, symbols,
+    value, values, wrong_len,
 };
 use crate::rng::Rng;
 use crate::sides::{PROVED, SECOND};
@@ -31,9 +32,7 @@ pub fn round(judge: &mut Judge, rng: &mut Rng, f: Figures) {
         _ => changed(judge, rng, &strip),
     }
     silent::outside(judge, rng, &strip);
-    if f.code == Code::ConstructionA {
-        verify::round(judge, rng, &strip);
-    }
+    verify::round(judge, rng, &strip);
     slips::round(judge, rng, &strip);
     refused_writing(judge, rng, &strip);
     refused_reading(judge, rng, &strip);
@@ -43,7 +42,7 @@ pub fn round(judge: &mut Judge, rng: &mut Rng, f: Figures) {
 fn written(judge: &mut Judge, rng: &mut Rng, f: Figures) -> Strip {
     let starts = placement(rng, &f);
     let message = symbols(rng, f.q, f.k);
-    let answer = judge.encode(any_numbers(&f), &start_bytes(&starts), &message, f.n);
+    let answer = judge.encode(numbers(&f), &start_bytes(&starts), &message, f.n);
     let inputs = || format!("{f:?} {starts:?}");
     judge.expect(
         Op::Encode,
@@ -65,13 +64,13 @@ fn read_back(judge: &mut Judge, rng: &mut Rng, strip: &Strip) {
     for writer in [PROVED, SECOND] {
         let mut word = vec![0xEE; f.n];
         (writer.encode)(
-            any_numbers(f),
+            numbers(f),
             &start_bytes(&strip.starts),
             &strip.message,
             &mut word,
         );
         damage(rng, f, &strip.starts, &mut word);
-        let read = judge.decode(any_numbers(f), &word, f.k, 2 * f.m);
+        let read = judge.decode(numbers(f), &word, f.k, 2 * f.m);
         let right = read.number == 0
             && read.out == strip.message
             && read.also == start_bytes(&strip.starts);
@@ -106,7 +105,7 @@ fn altered(judge: &mut Judge, rng: &mut Rng, strip: &Strip) {
             _ => silent_value(f.q).unwrap_or(0),
         };
     }
-    judge.decode(any_numbers(f), &word, f.k, 2 * f.m);
+    judge.decode(numbers(f), &word, f.k, 2 * f.m);
 }
 
 /// Spells another value over the I-blocks: a boundary one, or that of a placement close by.
@@ -122,7 +121,7 @@ fn other_value(judge: &mut Judge, rng: &mut Rng, strip: &Strip) {
     ] {
         let mut word = strip.word.clone();
         spell(f, &layout, index, value, &mut word);
-        let read = judge.decode(any_numbers(f), &word, f.k, 2 * f.m);
+        let read = judge.decode(numbers(f), &word, f.k, 2 * f.m);
         let right = (read.number == 8) == (value >= bound as u128);
         let inputs = || format!("{f:?} value {value} word {word:?}");
         judge.expect(Op::Decode, right, &inputs, "8 is for a value too large");
@@ -131,7 +130,7 @@ fn other_value(judge: &mut Judge, rng: &mut Rng, strip: &Strip) {
 
 fn any_word(judge: &mut Judge, rng: &mut Rng, f: &Figures) {
     let word = found(rng, f.q, f.n);
-    judge.decode(any_numbers(f), &word, f.k, 2 * f.m);
+    judge.decode(numbers(f), &word, f.k, 2 * f.m);
     let fixed = likely_pattern(rng, f) & all_blocks(f);
     patterned(judge, rng, f, fixed);
 }
@@ -180,7 +179,7 @@ fn patterned(judge: &mut Judge, rng: &mut Rng, f: &Figures, fixed: u64) {
         let value = fitting_value(rng, f, &layout, index);
         spell(f, &layout, index, value, &mut word);
     }
-    judge.decode(any_numbers(f), &word, f.k, 2 * f.m);
+    judge.decode(numbers(f), &word, f.k, 2 * f.m);
 }
 
 fn fitting_value(rng: &mut Rng, f: &Figures, layout: &Layout, index: u64) -> u128 {
@@ -229,7 +228,7 @@ fn refused_writing(judge: &mut Judge, rng: &mut Rng, strip: &Strip) {
             _ => {}
         }
     }
-    judge.encode(any_numbers(f), &starts, &message, word);
+    judge.encode(numbers(f), &starts, &message, word);
 }
 
 /// Starts too close by one, descending, past the end by one or by far, or moved at will.
@@ -266,7 +265,7 @@ fn refused_reading(judge: &mut Judge, rng: &mut Rng, strip: &Strip) {
             _ => {}
         }
     }
-    judge.decode(any_numbers(f), &word, message, starts);
+    judge.decode(numbers(f), &word, message, starts);
 }
 
 /// Maps worn inside a placement's runs, with or without one cell more, at random, or with a byte above 1.
@@ -289,17 +288,26 @@ fn covering(judge: &mut Judge, rng: &mut Rng, f: &Figures) {
             1 => len = wrong_len(rng, len),
             _ => {}
         }
-        judge.cover(any_numbers(f), &map, len);
+        judge.cover(numbers(f), &map, len);
     }
 }
 
-/// Every list of n values up to q, read.
+/// Every list of n values up to q, read, and checked against what was read from it, or else from the last that was accepted.
 pub fn every_word(judge: &mut Judge, f: &Figures) {
     let values = f.q as usize + 1;
+    let mut listed = (start_bytes(&unrank(f, 0)[..f.m]), vec![0; f.k]);
     for number in 0..values.pow(f.n as u32) {
         let digit = |i: u32| (number / values.pow(i) % values) as u8;
         let word: Vec<u8> = (0..f.n as u32).map(digit).collect();
-        judge.decode(any_numbers(f), &word, f.k, 2 * f.m);
+        let read = judge.decode(numbers(f), &word, f.k, 2 * f.m);
+        let wanted = if read.number == 0 { 0 } else { DIFFERS };
+        if wanted == 0 {
+            listed = (read.also, read.out);
+        }
+        let checked = judge.verify(numbers(f), &listed.0, &listed.1, &word);
+        let inputs = || format!("{f:?} {listed:?} word {word:?}");
+        let what = "not as the reader has it";
+        judge.expect(Op::Verify, checked == wanted, &inputs, what);
     }
 }
 
@@ -312,7 +320,7 @@ pub fn end_ranks(judge: &mut Judge, rng: &mut Rng, f: Figures) {
         let starts = unrank(&f, rank)[..f.m].to_vec();
         let message = symbols(rng, f.q, f.k);
         let word = judge
-            .encode(any_numbers(&f), &start_bytes(&starts), &message, f.n)
+            .encode(numbers(&f), &start_bytes(&starts), &message, f.n)
             .out;
         let strip = Strip {
             f,
@@ -326,9 +334,9 @@ pub fn end_ranks(judge: &mut Judge, rng: &mut Rng, f: Figures) {
 
 /// Values that only differ from a rank above their low 64 bits: a reader that lost the rest would accept them.
 pub fn wrapped_values(judge: &mut Judge, rng: &mut Rng) {
-    let mut f = figures(rng);
+    let mut f = figures(rng, Code::ConstructionA);
     while values(&f) >> 64 == 0 {
-        f = figures(rng);
+        f = figures(rng, Code::ConstructionA);
     }
     let strip = written(judge, rng, f);
     let layout = Layout::new(&f);
@@ -346,7 +354,7 @@ pub fn wrapped_values(judge: &mut Judge, rng: &mut Rng) {
         }
         let mut word = strip.word.clone();
         spell(&f, &layout, index, value, &mut word);
-        let read = judge.decode(any_numbers(&f), &word, f.k, 2 * f.m);
+        let read = judge.decode(numbers(&f), &word, f.k, 2 * f.m);
         let inputs = || format!("{f:?} value {value}");
         judge.expect(
             Op::Decode,

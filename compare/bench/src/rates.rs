@@ -1,13 +1,12 @@
 //! The rates of the codes: how much of a word is message, by the library's own lengths.
 
-use agree::sides::{AnyNumbers, Numbers, PROVED};
+use agree::sides::{Numbers, PROVED};
 use burgzemi::raw::NO_LENGTH;
-use burgzemi::Larsson;
 
 const ALPHABETS: [u32; 2] = [2, 256];
 
 /// k / n, or a dash for figures that don't fit.
-fn rate(n: u32, numbers: AnyNumbers) -> String {
+fn rate(n: u32, numbers: Numbers) -> String {
     match (PROVED.message_len)(numbers) {
         NO_LENGTH => "-".to_string(),
         k => format!("{:.4}", k as f64 / n as f64),
@@ -17,13 +16,13 @@ fn rate(n: u32, numbers: AnyNumbers) -> String {
 /// The rates of Construction A, of Construction B where there is one burst, and of the Larsson code.
 fn rates(n: u32, q: u32, m: u32, b: u32) -> [String; 3] {
     let long = match m {
-        1 => rate(n, Numbers::Long((n, q, b)).into()),
+        1 => rate(n, Numbers::Long((n, q, b))),
         _ => String::new(),
     };
     [
-        rate(n, Numbers::Ranked((n, q, m, b)).into()),
+        rate(n, Numbers::Ranked((n, q, m, b))),
         long,
-        rate(n, Larsson(n, q, m, b).into()),
+        rate(n, Numbers::Larsson((n, q, m, b))),
     ]
 }
 

@@ -2,9 +2,10 @@
 
 use std::hint::black_box;
 
-use agree::make::{any_numbers, placement, start_bytes};
+use agree::make::{numbers, placement, start_bytes};
 use agree::rng::Rng;
-use agree::sides::{AnyNumbers, Side, PROVED, SECOND};
+use agree::sides::{Numbers, Side, PROVED, SECOND};
+use second::job::{has_room, payload_len};
 use second::Figures;
 
 /// Strips taken in turn, so that no single placement is measured.
@@ -37,7 +38,7 @@ pub fn long_rows() -> Vec<Figures> {
     rows
 }
 
-/// The figures that both the Larsson code and Construction A take, of each. Burst lengths as in `rows`.
+/// The figures that both the Larsson code and Construction A take, of each. Burst lengths as in `rows`. All have room for a job.
 pub fn larsson_rows() -> Vec<(Figures, Figures)> {
     let mut rows = Vec::new();
     for n in [64, 256, 1024, 4096] {
@@ -91,26 +92,40 @@ struct Strip {
     silent: Vec<u8>,
 }
 
+/// A job of the table, and its strip with damage in its runs.
+struct Job {
+    starts: Vec<u8>,
+    payload: Vec<u8>,
+    found: Vec<u8>,
+}
+
 /// Strips ready to be written and read, and buffers that are never cleared between calls.
 pub struct Work {
-    numbers: AnyNumbers,
+    numbers: Numbers,
     strips: Vec<Strip>,
+    /// Empty where the figures have no room for one.
+    jobs: Vec<Job>,
+    table: Vec<u8>,
     word: Vec<u8>,
     message: Vec<u8>,
     starts: Vec<u8>,
+    payload: Vec<u8>,
 }
 
 impl Work {
     pub fn new(f: &Figures) -> Work {
         let mut rng = Rng::new(SEED);
         let strips = (0..STRIPS).map(|_| strip(&mut rng, f)).collect();
-        let (word, message, starts) = (vec![0; f.n], vec![0; f.k], vec![0; 2 * f.m]);
+        let jobs = if has_room(f) { STRIPS } else { 0 };
         Work {
-            numbers: any_numbers(f),
+            numbers: numbers(f),
             strips,
-            word,
-            message,
-            starts,
+            jobs: (0..jobs).map(|_| job(&mut rng, f)).collect(),
+            table: table(),
+            word: vec![0; f.n],
+            message: vec![0; f.k],
+            starts: vec![0; 2 * f.m],
+            payload: vec![0; payload_len(f)],
         }
     }
 
@@ -131,6 +146,8 @@ impl Work {
                     let numbers = black_box(self.numbers);
                     (side.decode)(numbers, &strip.silent, &mut self.message, &mut self.starts)
                 }
+                Measured::JobWrite(side) => self.write_job(side, i),
+                Measured::JobRead(side) => self.read_job(side, i),
                 Measured::Copy => {
                     self.word.copy_from_slice(black_box(&strip.found));
                     0
@@ -139,6 +156,26 @@ impl Work {
             black_box((&self.word, &self.message, &self.starts));
             assert_eq!(answer, 0, "a measured call is served");
         }
+    }
+
+    fn write_job(&mut self, side: &Side, i: usize) -> u8 {
+        let job = &self.jobs[i % STRIPS];
+        let numbers = black_box(self.numbers);
+        (side.job_write)(
+            numbers,
+            &self.table,
+            &job.starts,
+            &job.payload,
+            &mut self.word,
+        )
+    }
+
+    fn read_job(&mut self, side: &Side, i: usize) -> u8 {
+        let job = &self.jobs[i % STRIPS];
+        let numbers = black_box(self.numbers);
+        let answer = (side.job_read)(numbers, &self.table, &job.found, &mut self.payload);
+        black_box(&self.payload);
+        answer
     }
 }
 
@@ -149,7 +186,34 @@ pub enum Measured {
     Decode(&'static Side),
     /// Reading a word with silent cells in its runs.
     Silent(&'static Side),
+    JobWrite(&'static Side),
+    JobRead(&'static Side),
     Copy,
+}
+
+/// A table of 64 open jobs, numbers 1 to 64.
+fn table() -> Vec<u8> {
+    (1..=64u8).flat_map(|number| [1, 0, 0, 0, number]).collect()
+}
+
+fn job(rng: &mut Rng, f: &Figures) -> Job {
+    let placement = placement(rng, f);
+    let starts = start_bytes(&placement);
+    let mut payload = rng.bytes(payload_len(f));
+    payload[..4].copy_from_slice(&[0, 0, 0, rng.between(1, 64) as u8]);
+    let mut found = vec![0; f.n];
+    let answer = (SECOND.job_write)(numbers(f), &table(), &starts, &payload, &mut found);
+    assert_eq!(answer, 0, "an open job is written");
+    for &start in &placement {
+        for cell in &mut found[start as usize..start as usize + f.b] {
+            *cell = rng.below(f.q as u64) as u8;
+        }
+    }
+    Job {
+        starts,
+        payload,
+        found,
+    }
 }
 
 fn strip(rng: &mut Rng, f: &Figures) -> Strip {
@@ -157,7 +221,7 @@ fn strip(rng: &mut Rng, f: &Figures) -> Strip {
     let starts = start_bytes(&placement);
     let message: Vec<u8> = (0..f.k).map(|_| rng.below(f.q as u64) as u8).collect();
     let mut found = vec![0; f.n];
-    let answer = (SECOND.encode)(any_numbers(f), &starts, &message, &mut found);
+    let answer = (SECOND.encode)(numbers(f), &starts, &message, &mut found);
     assert_eq!(answer, 0, "a placement is written");
     let mut silent = found.clone();
     for &start in &placement {
@@ -190,12 +254,15 @@ pub fn asked(side: &str, call: &str, row: &str) -> Option<(Measured, Work)> {
         "encode" => Measured::Encode(side),
         "decode" => Measured::Decode(side),
         "silent" => Measured::Silent(side),
+        "job-write" => Measured::JobWrite(side),
+        "job-read" => Measured::JobRead(side),
         _ => return None,
     };
     let (larsson, beside) = larsson_rows().into_iter().unzip();
     let rows = [rows(), long_rows(), larsson, beside].concat();
     let f = rows.get(row.parse::<usize>().ok()?)?;
-    Some((measured, Work::new(f)))
+    let job = matches!(measured, Measured::JobWrite(_) | Measured::JobRead(_));
+    (!job || has_room(f)).then(|| (measured, Work::new(f)))
 }
 
 /// Makes calls for an instruction counter.

@@ -11,14 +11,36 @@ pub const ROUNDS: usize = 101;
 /// How long one measurement of a round is to take, about: short enough to be rarely interrupted.
 const NANOSECONDS: f64 = 2.5e5;
 
-/// The calls of a row, in the order in which each round takes them.
-const CALLS: [Measured; 5] = [
-    Measured::Encode(&PROVED),
-    Measured::Encode(&SECOND),
-    Measured::Decode(&PROVED),
-    Measured::Decode(&SECOND),
-    Measured::Copy,
-];
+/// The calls of a row, of which the last is the copy.
+const CALLS: usize = 5;
+
+/// The names of a writing and a reading call, and the calls of a row in the order in which each round takes them.
+pub struct Calls {
+    names: [&'static str; 2],
+    measured: [Measured; CALLS],
+}
+
+pub const WORDS: Calls = Calls {
+    names: ["encode", "decode"],
+    measured: [
+        Measured::Encode(&PROVED),
+        Measured::Encode(&SECOND),
+        Measured::Decode(&PROVED),
+        Measured::Decode(&SECOND),
+        Measured::Copy,
+    ],
+};
+
+pub const JOBS: Calls = Calls {
+    names: ["job write", "job read"],
+    measured: [
+        Measured::JobWrite(&PROVED),
+        Measured::JobWrite(&SECOND),
+        Measured::JobRead(&PROVED),
+        Measured::JobRead(&SECOND),
+        Measured::Copy,
+    ],
+};
 
 /// Makes so many of one of the calls.
 pub type Run<'a> = dyn FnMut(usize, usize) + 'a;
@@ -58,29 +80,30 @@ pub fn median(values: impl Iterator<Item = f64>) -> f64 {
 }
 
 /// The columns of one call: both sides' times, and the ratios, each the median of the rounds' own.
-fn columns(rounds: &[[f64; CALLS.len()]], ours: usize, second: usize) -> String {
+fn columns(rounds: &[[f64; CALLS]], ours: usize, second: usize) -> String {
     let time = |i: usize| median(rounds.iter().map(|times| times[i]));
     let ratio = |i: usize| median(rounds.iter().map(|times| times[ours] / times[i]));
-    let (to_second, to_copy) = (ratio(second), ratio(CALLS.len() - 1));
+    let (to_second, to_copy) = (ratio(second), ratio(CALLS - 1));
     let (a, b) = (time(ours), time(second));
     format!("{a:>8.3} {b:>7.3} {to_second:>6.2} {to_copy:>5.0}")
 }
 
 /// Prints the times of these rows.
-pub fn table(rows: &[Figures]) {
+pub fn table(rows: &[Figures], calls: &Calls) {
+    let [write, read] = calls.names;
     println!("nanoseconds a symbol, and the ratios ours/second and ours/copy; medians of {ROUNDS} rounds");
-    println!(
-        "                            encode                          decode                copy"
-    );
+    println!("{:28}{write:<32}{read:<22}copy", "");
     println!(
         "    n  m    q    b     ours  second    o/s   o/c      ours  second    o/s   o/c       ns"
     );
     for (i, f) in rows.iter().enumerate() {
         eprint!("\rtimes: row {} of {}", i + 1, rows.len());
         let mut work = Work::new(f);
-        let rounds = rounds(f.n, &mut |call, calls| work.run(CALLS[call], calls));
+        let rounds = rounds(f.n, &mut |call, count| {
+            work.run(calls.measured[call], count)
+        });
         let (encode, decode) = (columns(&rounds, 0, 1), columns(&rounds, 2, 3));
-        let copy = median(rounds.iter().map(|times| times[4]));
+        let copy = median(rounds.iter().map(|times| times[CALLS - 1]));
         println!("{} {encode}  {decode} {copy:>8.4}", name(f));
     }
     eprintln!();

@@ -6,7 +6,7 @@ use crate::digits;
 use crate::figures::{Figures, MAX_RUNS};
 
 /// The least K that has room for a number and some text.
-pub const LEAST_PAYLOAD: usize = 5;
+const LEAST_PAYLOAD: usize = 5;
 
 /// w: how many symbols a byte takes.
 pub fn width(q: u32) -> usize {
@@ -22,6 +22,11 @@ pub fn width(q: u32) -> usize {
 /// K: how many bytes a message holds.
 pub fn payload_len(f: &Figures) -> usize {
     f.k / width(f.q)
+}
+
+/// Whether the payload has room for a job.
+pub fn has_room(f: &Figures) -> bool {
+    payload_len(f) >= LEAST_PAYLOAD
 }
 
 /// The number that a payload of at least 4 bytes begins with.
@@ -57,11 +62,10 @@ fn unspell(q: u32, message: &[u8], payload: &mut [u8]) -> bool {
 
 /// Writes an open job's word. Refusals 10 3 5 17 12 23 14.
 pub fn write_job(f: &Figures, book: &Book, starts: &[u16], payload: &[u8], word: &mut [u8]) -> u8 {
-    let len = payload_len(f);
-    if len < LEAST_PAYLOAD {
+    if !has_room(f) {
         return 10;
     }
-    if starts.len() != f.m || payload.len() != len || word.len() != f.n {
+    if starts.len() != f.m || payload.len() != payload_len(f) || word.len() != f.n {
         return 3;
     }
     if !placed(f, starts) {
@@ -83,11 +87,10 @@ pub(crate) fn write_payload(f: &Figures, starts: &[u16], payload: &[u8], word: &
 
 /// Reads an open job's word. Refusals 10 for K, 3, then those of the word reader, 10, 12 23 14.
 pub fn read_job(f: &Figures, book: &Book, word: &[u8], payload: &mut [u8]) -> u8 {
-    let len = payload_len(f);
-    if len < LEAST_PAYLOAD {
+    if !has_room(f) {
         return 10;
     }
-    if word.len() != f.n || payload.len() != len {
+    if word.len() != f.n || payload.len() != payload_len(f) {
         return 3;
     }
     let bytes = match found_payload(f, word) {

@@ -2,7 +2,7 @@
 
 use crate::book::Book;
 use crate::figures::Figures;
-use crate::job::{found_payload, number, payload_len, write_payload, LEAST_PAYLOAD};
+use crate::job::{found_payload, has_room, number, payload_len, write_payload};
 
 /// The layouts of the same figures in both codes. Refusals 1 2.
 #[derive(Debug)]
@@ -21,7 +21,7 @@ impl Layouts {
 
     /// Whether each payload has room for a job.
     pub fn have_room(&self) -> bool {
-        have_room(&self.larsson, &self.construction_a)
+        has_room(&self.larsson) && has_room(&self.construction_a)
     }
 
     /// Moves a job from an older strip. Refusals 10 3 4 21 8 9 19 10 12 23 14 22 17.
@@ -37,10 +37,6 @@ impl Layouts {
     }
 }
 
-fn have_room(one: &Figures, other: &Figures) -> bool {
-    payload_len(one) >= LEAST_PAYLOAD && payload_len(other) >= LEAST_PAYLOAD
-}
-
 fn move_job(
     from: &Figures,
     to: &Figures,
@@ -48,7 +44,7 @@ fn move_job(
     found: &[u8],
     word: &mut [u8],
 ) -> Result<(), u8> {
-    if !have_room(from, to) {
+    if !has_room(from) || !has_room(to) {
         return Err(10);
     }
     if found.len() != from.n || word.len() != to.n {

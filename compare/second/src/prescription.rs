@@ -4,7 +4,7 @@
 use crate::book::Book;
 use crate::codec::placed;
 use crate::figures::Figures;
-use crate::job::{found_payload, number, payload_len, write_payload, LEAST_PAYLOAD};
+use crate::job::{found_payload, has_room, number, payload_len, write_payload};
 
 /// The bytes of one eye: kind, sphere, cylinder, axis.
 const EYE: usize = 6;
@@ -198,7 +198,7 @@ pub fn write_prescription(
     word: &mut [u8],
 ) -> u8 {
     let len = payload_len(f);
-    if len < LEAST_PAYLOAD {
+    if !has_room(f) {
         return 10;
     }
     if starts.len() != f.m || word.len() != f.n {
@@ -221,10 +221,10 @@ pub fn write_prescription(
     0
 }
 
-/// Reads the word of an open job whose text is a prescription: its number, and the prescription. Refusals 10 for K, 3 4 7 19 8 9 19, 10, 16,
+/// Reads the word of an open job whose text is a prescription: its number, and the prescription. Refusals 10 for K, 3, then those of the word reader, 10, 16,
 /// 12 23 14.
 pub fn read_prescription(f: &Figures, book: &Book, word: &[u8]) -> Result<(u32, Prescription), u8> {
-    if payload_len(f) < LEAST_PAYLOAD {
+    if !has_room(f) {
         return Err(10);
     }
     if word.len() != f.n {

@@ -45,6 +45,18 @@ impl TryFrom<(u32, u32, u32)> for Figures {
     }
 }
 
+/// n, q, m and b of the Larsson code.
+#[derive(Clone, Copy, Debug, PartialEq, Eq)]
+pub struct Larsson(pub u32, pub u32, pub u32, pub u32);
+
+impl TryFrom<Larsson> for Figures {
+    type Error = u8;
+
+    fn try_from(Larsson(n, q, m, b): Larsson) -> Result<Figures, u8> {
+        Figures::larsson(n, q, m, b)
+    }
+}
+
 /// The starts held in 2 * m bytes.
 fn starts_of(bytes: &[u8]) -> [u16; MAX_RUNS] {
     let mut starts = [0; MAX_RUNS];
@@ -205,29 +217,34 @@ pub fn call(table: &mut [u8], letter: u8, number: u32) -> u8 {
     answer
 }
 
-/// What both job calls begin with: refusal 1 for the table, then 1 and 2 for the figures. A table of another length
-/// comes back as none, for it is judged with the other lengths.
-fn job_inputs(numbers: impl Numbers, table: &[u8]) -> Result<(Figures, Option<Book>), u8> {
-    let book = book_of(table).transpose()?;
-    Ok((numbers.try_into()?, book))
+/// What each job call begins with: refusal 1 for the table, 1 and 2 for the figures, 10 where they have no room for a job, and 3 for the table's length.
+fn job_call<F>(
+    judged: Result<F, u8>,
+    has_room: fn(&F) -> bool,
+    table: &[u8],
+    go: impl FnOnce(&F, &Book) -> u8,
+) -> u8 {
+    match (book_of(table).transpose(), judged) {
+        (Err(refusal), _) | (_, Err(refusal)) => refusal,
+        (_, Ok(f)) if !has_room(&f) => 10,
+        (Ok(Some(book)), Ok(f)) => go(&f, &book),
+        (Ok(None), _) => 3,
+    }
 }
 
-/// What both writing calls go on with: 10, then 3 for the bytes of the table and of the starts.
+/// What both writing calls go on with: 3 for the bytes of the starts.
 fn write_with(
     numbers: impl Numbers,
     table: &[u8],
     starts: &[u8],
     write: impl FnOnce(&Figures, &Book, &[u16]) -> u8,
 ) -> u8 {
-    let (f, book) = match job_inputs(numbers, table) {
-        Ok(inputs) => inputs,
-        Err(refusal) => return refusal,
-    };
-    match book {
-        _ if job::payload_len(&f) < job::LEAST_PAYLOAD => 10,
-        Some(book) if starts.len() == 2 * f.m => write(&f, &book, &starts_of(starts)[..f.m]),
-        _ => 3,
-    }
+    job_call(numbers.try_into(), job::has_room, table, |f, book| {
+        if starts.len() != 2 * f.m {
+            return 3;
+        }
+        write(f, book, &starts_of(starts)[..f.m])
+    })
 }
 
 pub fn job_write(
@@ -243,42 +260,21 @@ pub fn job_write(
 }
 
 pub fn job_read(numbers: impl Numbers, table: &[u8], word: &[u8], payload: &mut [u8]) -> u8 {
-    let (f, book) = match job_inputs(numbers, table) {
-        Ok(inputs) => inputs,
-        Err(refusal) => return refusal,
-    };
-    match book {
-        _ if job::payload_len(&f) < job::LEAST_PAYLOAD => 10,
-        Some(book) => job::read_job(&f, &book, word, payload),
-        None => 3,
-    }
+    job_call(numbers.try_into(), job::has_room, table, |f, book| {
+        job::read_job(f, book, word, payload)
+    })
 }
 
-pub fn move_to_a(numbers: Ranked, table: &[u8], strip: &[u8], moved: &mut [u8]) -> u8 {
-    move_job(numbers, table, |both, book| {
+pub fn move_to_a((n, q, m, b): Ranked, table: &[u8], strip: &[u8], moved: &mut [u8]) -> u8 {
+    let layouts = Layouts::new(n, q, m, b);
+    job_call(layouts, Layouts::have_room, table, |both, book| {
         both.from_larsson(book, strip, moved)
     })
 }
 
-pub fn move_to_larsson(numbers: Ranked, table: &[u8], strip: &[u8], moved: &mut [u8]) -> u8 {
-    move_job(numbers, table, |both, book| {
+pub fn move_to_larsson((n, q, m, b): Ranked, table: &[u8], strip: &[u8], moved: &mut [u8]) -> u8 {
+    let layouts = Layouts::new(n, q, m, b);
+    job_call(layouts, Layouts::have_room, table, |both, book| {
         both.to_larsson(book, strip, moved)
     })
-}
-
-/// What both moves begin with: refusal 1 for the table, 1 and 2 for the figures, 10, and 3 for the table's length.
-fn move_job((n, q, m, b): Ranked, table: &[u8], go: impl FnOnce(&Layouts, &Book) -> u8) -> u8 {
-    let book = match book_of(table).transpose() {
-        Ok(book) => book,
-        Err(refusal) => return refusal,
-    };
-    let layouts = match Layouts::new(n, q, m, b) {
-        Ok(layouts) => layouts,
-        Err(refusal) => return refusal,
-    };
-    match book {
-        _ if !layouts.have_room() => 10,
-        Some(book) => go(&layouts, &book),
-        None => 3,
-    }
 }

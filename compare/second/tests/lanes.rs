@@ -141,16 +141,26 @@ fn read_back(f: &Figures, depth: usize, stretches: &Stretches) {
 
 #[test]
 fn words_read_back_at_every_depth() {
-    for depth in 1..=MAX_DEPTH as usize {
-        let f = figures(15, 256, 1, 2);
-        for start in 0..depth * (f.n - f.b) {
-            read_back(&f, depth, &vec![(start, depth * f.b)]);
+    for f in [
+        Figures::new(15, 256, 1, 2),
+        Figures::construction_b(15, 256, 5),
+        Figures::larsson(15, 256, 1, 7),
+    ] {
+        let f = f.expect("these figures fit");
+        for depth in 1..=MAX_DEPTH as usize {
+            for start in 0..depth * (f.n - f.b) {
+                read_back(&f, depth, &vec![(start, depth * f.b)]);
+            }
         }
-        let f = figures(60, 4, 2, 4);
-        let (cells, longest) = (depth * f.n, depth * f.b);
-        for first in (0..cells - 2 * longest).step_by(7) {
-            for second in (first + longest..cells - longest).step_by(61) {
-                read_back(&f, depth, &vec![(first, longest), (second, longest)]);
+    }
+    for f in [Figures::new(60, 4, 2, 4), Figures::larsson(60, 4, 2, 8)] {
+        let f = f.expect("these figures fit");
+        for depth in 1..=MAX_DEPTH as usize {
+            let (cells, longest) = (depth * f.n, depth * f.b);
+            for first in (0..cells - 2 * longest).step_by(7) {
+                for second in (first + longest..cells - longest).step_by(61) {
+                    read_back(&f, depth, &vec![(first, longest), (second, longest)]);
+                }
             }
         }
     }
@@ -192,7 +202,13 @@ fn every_cell_at_every_depth() {
 
 #[test]
 fn refusals() {
-    let f = figures(3, 4, 1, 1);
+    refused(Figures::new(3, 4, 1, 1));
+    refused(Figures::construction_b(3, 4, 1));
+    refused(Figures::larsson(3, 4, 1, 1));
+}
+
+fn refused(f: Result<Figures, u8>) {
+    let f = f.expect("these figures fit");
     for call in [interleave, deinterleave] {
         let answer = |depth: u32, from: &[u8], to: usize| {
             let mut out = vec![0xEE; to];

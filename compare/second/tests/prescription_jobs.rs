@@ -1,6 +1,7 @@
-//! Document 02's change request 2: writing and reading a job whose text is a prescription.
+//! Document 02's change request 2: writing and reading a job whose text is a prescription, under each code's figures.
 
 use second::book::{Former, Place, PLACES};
+use second::figures::Code;
 use second::job::{payload_len, read_job, write_job};
 use second::prescription::{read_prescription, to_text, write_prescription, Eye, Prescription};
 use second::{Book, Figures};
@@ -21,11 +22,19 @@ const REFUSED: Prescription = Prescription {
     ..ORDER
 };
 
-/// One run of 2, with each byte a symbol: K is n - 4.
-fn strip(payload: usize) -> Figures {
-    let f = Figures::new(payload as u32 + 4, 256, 1, 2).expect("these figures fit");
-    assert_eq!(payload_len(&f), payload);
-    f
+/// One run of 2, with each byte a symbol: K is n - 4 in each code.
+fn strips(payload: usize) -> [Figures; 3] {
+    let n = payload as u32 + 4;
+    let each = [
+        Figures::new(n, 256, 1, 2),
+        Figures::construction_b(n, 256, 2),
+        Figures::larsson(n, 256, 1, 2),
+    ];
+    each.map(|f| {
+        let f = f.expect("these figures fit");
+        assert_eq!(payload_len(&f), payload);
+        f
+    })
 }
 
 /// A book with one number.
@@ -56,14 +65,13 @@ fn written(
 #[test]
 fn there_and_back() {
     let book = book(Place::Open(7));
-    for payload in [17, 18, 40] {
-        let f = strip(payload);
+    for f in [17, 18, 40].into_iter().flat_map(strips) {
         for start in 0..=f.n - 2 {
             let mut word = written(&f, &book, 7, &ORDER, start as u16).expect("an open job");
             word[start..start + 2].fill(0xFF);
             assert_eq!(read_prescription(&f, &book, &word), Ok((7, ORDER)));
             // A plain reading gives the text.
-            let mut bytes = vec![0; payload];
+            let mut bytes = vec![0; payload_len(&f)];
             assert_eq!(read_job(&f, &book, &word, &mut bytes), 0);
             assert_eq!(bytes[..4], [0, 0, 0, 7]);
             assert_eq!(to_text(&ORDER), Ok(std::array::from_fn(|i| bytes[4 + i])));
@@ -76,15 +84,23 @@ fn there_and_back() {
 #[test]
 fn several_symbols_to_a_byte() {
     let book = book(Place::Open(u32::MAX));
-    for (n, q, m, b) in [(200, 2, 1, 5), (90, 16, 3, 3), (400, 3, 4, 3)] {
-        let f = Figures::new(n, q, m, b).expect("these figures fit");
+    for f in [
+        Figures::new(200, 2, 1, 5),
+        Figures::new(90, 16, 3, 3),
+        Figures::new(400, 3, 4, 3),
+        Figures::construction_b(300, 2, 100),
+        Figures::larsson(200, 2, 1, 5),
+        Figures::larsson(90, 16, 3, 3),
+        Figures::larsson(400, 3, 4, 3),
+    ] {
+        let f = f.expect("these figures fit");
         assert!(payload_len(&f) >= 17);
-        let starts: Vec<u16> = (0..m as u16).map(|i| 7 + 20 * i).collect();
+        let starts: Vec<u16> = (0..f.m as u16).map(|i| 7 + 20 * i).collect();
         let mut word = vec![0; f.n];
         let answer = write_prescription(&f, &book, u32::MAX, &ORDER, &starts, &mut word);
         assert_eq!(answer, 0);
         for &start in &starts {
-            word[start as usize..start as usize + f.b].fill(q as u8);
+            word[start as usize..start as usize + f.b].fill(f.q as u8);
         }
         assert_eq!(read_prescription(&f, &book, &word), Ok((u32::MAX, ORDER)));
     }
@@ -95,15 +111,13 @@ fn the_writers_order() {
     let open = book(Place::Open(7));
     let empty = Book::default();
     // 10 for K, then 3, then 5, then 16, for a payload below 17 bytes too.
-    for payload in [2, 4] {
-        let f = strip(payload);
+    for f in [2, 4].into_iter().flat_map(strips) {
         assert_eq!(
             write_prescription(&f, &empty, 0, &REFUSED, &[], &mut []),
             10
         );
     }
-    for payload in [5, 16, 17] {
-        let f = strip(payload);
+    for f in [5, 16, 17].into_iter().flat_map(strips) {
         let mut word = vec![0; f.n];
         assert_eq!(
             write_prescription(&f, &open, 7, &REFUSED, &[], &mut word),
@@ -119,11 +133,16 @@ fn the_writers_order() {
         );
         assert_eq!(written(&f, &open, 7, &REFUSED, f.n as u16 - 1), Err(5));
         assert_eq!(written(&f, &open, 7, &REFUSED, 1), Err(16));
-        assert_eq!(written(&f, &open, 7, &ORDER, 1).is_ok(), payload == 17);
+        assert_eq!(
+            written(&f, &open, 7, &ORDER, 1).is_ok(),
+            payload_len(&f) == 17
+        );
     }
     // 16 goes before 17 12 23 14.
-    let f = strip(17);
-    for (place, number, refusal) in states() {
+    let each = strips(17)
+        .into_iter()
+        .flat_map(|f| states().into_iter().map(move |state| (f, state)));
+    for (f, (place, number, refusal)) in each {
         assert_eq!(written(&f, &book(place), number, &REFUSED, 1), Err(16));
         let refusal = if number == 0 { 17 } else { refusal };
         assert_eq!(
@@ -168,23 +187,34 @@ fn the_readers_order() {
     let empty = Book::default();
     let read =
         |f: &Figures, book: &Book, word: &[u8]| read_prescription(f, book, word).err().unwrap_or(0);
-    assert_eq!(read(&strip(4), &empty, &[]), 10);
-    for payload in [5, 16, 17] {
-        let f = strip(payload);
+    for f in strips(4) {
+        assert_eq!(read(&f, &empty, &[]), 10);
+    }
+    for f in [5, 16, 17].into_iter().flat_map(strips) {
         assert_eq!(read(&f, &empty, &vec![0; f.n - 1]), 3);
-        assert_eq!(read(&f, &empty, &vec![0; f.n]), 7);
+        let (unread, refusal) = unread(&f);
+        assert_eq!(read(&f, &empty, &unread), refusal);
         // No prescription, under any book.
         let word = plain(&f, &[]);
         assert_eq!(read(&f, &open, &word), 16);
         assert_eq!(read(&f, &empty, &word), 16);
     }
-    let f = strip(18);
-    let text = to_text(&ORDER).expect("the rules allow it");
-    let word = plain(&f, &text);
-    for (place, number, refusal) in states().into_iter().filter(|state| state.1 == 7) {
-        assert_eq!(read(&f, &book(place), &word), refusal, "{number}");
+    for f in strips(18) {
+        let text = to_text(&ORDER).expect("the rules allow it");
+        let word = plain(&f, &text);
+        for (place, number, refusal) in states().into_iter().filter(|state| state.1 == 7) {
+            assert_eq!(read(&f, &book(place), &word), refusal, "{number}");
+        }
+        assert_eq!(read(&f, &open, &plain(&f, &[&text[..], &[1]].concat())), 16);
     }
-    assert_eq!(read(&f, &open, &plain(&f, &[&text[..], &[1]].concat())), 16);
+}
+
+/// A word that tells of no placement, and its refusal: each first symbol 0, or each sub-block another.
+fn unread(f: &Figures) -> (Vec<u8>, u8) {
+    match f.code {
+        Code::Larsson => ((0..f.n as u8).collect(), 21),
+        _ => (vec![0; f.n], 7),
+    }
 }
 
 /// The message's own 10, and a silent cell's 19, go before 16.
@@ -206,8 +236,11 @@ fn words_that_spell_no_payload() {
 /// Number 0 is read where it is open, as in plain readings.
 #[test]
 fn number_zero() {
-    let f = strip(17);
-    let mut word = written(&f, &book(Place::Open(1)), 1, &ORDER, 0).expect("an open job");
+    strips(17).iter().for_each(number_zero_of);
+}
+
+fn number_zero_of(f: &Figures) {
+    let mut word = written(f, &book(Place::Open(1)), 1, &ORDER, 0).expect("an open job");
     let one = word
         .iter()
         .position(|&cell| cell == 1)
@@ -219,6 +252,6 @@ fn number_zero() {
         } else {
             Err(refusal)
         };
-        assert_eq!(read_prescription(&f, &book(place), &word), wanted);
+        assert_eq!(read_prescription(f, &book(place), &word), wanted);
     }
 }

@@ -20,7 +20,7 @@
 //! # Ok::<(), Refusal>(())
 //! ```
 //!
-//! A strip with one run that is longer than this takes has the figures of Construction B. They are taken by every call but `verify`.
+//! A strip with one run that is longer than this takes has the figures of Construction B. Every call but a move takes them.
 //!
 //! ```
 //! use burgzemi::{Figures, Refusal};
@@ -37,7 +37,7 @@
 //! # Ok::<(), Refusal>(())
 //! ```
 //!
-//! An older tray has the figures of the Larsson code. They are taken by `encode`, `decode`, `cover` and `move_to_a`, and by no other call.
+//! An older tray has the figures of the Larsson code. Every call takes these as well, but for the move from Construction A.
 //!
 //! ```
 //! use burgzemi::{Figures, Refusal};
@@ -53,7 +53,26 @@
 //! # Ok::<(), Refusal>(())
 //! ```
 //!
-//! A job of an older tray is moved to a strip of Construction A with the same figures, and back.
+//! Its jobs are written and read like any others.
+//!
+//! ```
+//! use burgzemi::{Figures, Refusal, Table};
+//!
+//! let older = Figures::larsson(15, 256, 1, 2)?;
+//! let mut jobs = Table::new();
+//! jobs.open(7)?;
+//!
+//! let mut word = [0; 15];
+//! burgzemi::job_write(&older, &jobs, &[6], b"\0\0\0\x07ABCDEFG", &mut word)?;
+//! word[6..8].fill(0xFF); // damage inside the run
+//!
+//! let mut payload = [0; 11];
+//! burgzemi::job_read(&older, &jobs, &word, &mut payload)?;
+//! assert_eq!(&payload[4..], b"ABCDEFG");
+//! # Ok::<(), Refusal>(())
+//! ```
+//!
+//! They can be moved to a strip of Construction A with the same figures, and back.
 //!
 //! ```
 //! use burgzemi::{Figures, Refusal, Table};
@@ -64,7 +83,7 @@
 //! jobs.open(7)?;
 //!
 //! let (mut strip, mut moved, mut back) = ([0; 15], [0; 15], [0; 15]);
-//! burgzemi::encode(&older, &[6], b"\0\0\0\x07ABCDEFG", &mut strip)?;
+//! burgzemi::job_write(&older, &jobs, &[6], b"\0\0\0\x07ABCDEFG", &mut strip)?;
 //! burgzemi::move_to_a(&older, &jobs, &strip, &mut moved)?;
 //! let mut payload = [0; 11];
 //! burgzemi::job_read(&newer, &jobs, &moved, &mut payload)?;
@@ -73,11 +92,6 @@
 //! burgzemi::move_to_larsson(&newer, &jobs, &moved, &mut back)?;
 //! assert_eq!(back, strip);
 //! # Ok::<(), Refusal>(())
-//! ```
-//!
-//! ```compile_fail,E0277
-//! let strip = burgzemi::Figures::larsson(20, 2, 1, 3).expect("these figures fit");
-//! let _ = burgzemi::interleave(&strip, 1, &[0; 20], &mut [0; 20]);
 //! ```
 
 mod prescription;
@@ -88,7 +102,7 @@ mod table;
 use std::ops::Deref;
 
 pub use prescription::{prescription_read, prescription_write, Eye, Prescription};
-pub use raw::{AnyNumbers, Larsson, Long, Numbers, Ranked};
+pub use raw::{Larsson, Long, Numbers, Ranked};
 pub use refusal::Refusal;
 pub use table::Table;
 
@@ -108,17 +122,11 @@ pub struct Figures<N = Ranked> {
 }
 
 /// The numbers that figures of one code are.
-pub trait Code: Copy + Into<AnyNumbers> {}
+pub trait Code: Copy + Into<Numbers> {}
 
 impl Code for Ranked {}
 impl Code for Long {}
 impl Code for Larsson {}
-
-/// Those of a construction, whose strips have jobs and lie side by side.
-pub trait Construction: Code + Into<Numbers> {}
-
-impl Construction for Ranked {}
-impl Construction for Long {}
 
 impl Figures {
     /// n symbols of a word, each below q, and m runs of b positions.
@@ -157,17 +165,17 @@ impl<N: Code> Figures<N> {
     /// n.
     pub fn word_len(&self) -> usize {
         match self.numbers.into() {
-            AnyNumbers::Construction(Numbers::Ranked((n, ..)) | Numbers::Long((n, ..)))
-            | AnyNumbers::Larsson(Larsson(n, ..)) => n as usize,
+            Numbers::Ranked((n, ..))
+            | Numbers::Long((n, ..))
+            | Numbers::Larsson(Larsson(n, ..)) => n as usize,
         }
     }
 
     /// m, which is 1 for Construction B.
     pub fn runs(&self) -> usize {
         match self.numbers.into() {
-            AnyNumbers::Construction(Numbers::Ranked((_, _, m, _)))
-            | AnyNumbers::Larsson(Larsson(_, _, m, _)) => m as usize,
-            AnyNumbers::Construction(Numbers::Long(_)) => 1,
+            Numbers::Ranked((_, _, m, _)) | Numbers::Larsson(Larsson(_, _, m, _)) => m as usize,
+            Numbers::Long(_) => 1,
         }
     }
 
@@ -262,7 +270,12 @@ pub fn decode<N: Code>(
 
 /// Whether a word from elsewhere agrees with the word of a placement and a message at every position outside the runs, where a cell without a
 /// reading agrees with nothing. What the runs hold doesn't matter.
-pub fn verify(f: &Figures, starts: &[u16], message: &[u8], word: &[u8]) -> Result<bool, Refusal> {
+pub fn verify<N: Code>(
+    f: &Figures<N>,
+    starts: &[u16],
+    message: &[u8],
+    word: &[u8],
+) -> Result<bool, Refusal> {
     let starts = StartBytes::of(starts);
     match raw::verify(f.numbers, starts.get(), message, word) {
         raw::DIFFERS => Ok(false),
@@ -280,7 +293,7 @@ pub fn cover<N: Code>(f: &Figures<N>, map: &[u8]) -> Result<Placement, Refusal> 
 
 /// Lays `depth` words, which stand one after another, side by side: cell t of the strip is symbol t / depth of word t mod depth. Where at most m
 /// stretches of the strip are worn, each at most depth * b cells, each word's map can be covered.
-pub fn interleave<N: Construction>(
+pub fn interleave<N: Code>(
     f: &Figures<N>,
     depth: u32,
     words: &[u8],
@@ -290,7 +303,7 @@ pub fn interleave<N: Construction>(
 }
 
 /// Takes a found strip of words side by side apart, into words that stand one after another. A value q is a cell without a reading, as in `decode`.
-pub fn deinterleave<N: Construction>(
+pub fn deinterleave<N: Code>(
     f: &Figures<N>,
     depth: u32,
     strip: &[u8],
@@ -300,7 +313,7 @@ pub fn deinterleave<N: Construction>(
 }
 
 /// Writes the word of an open job; the payload is its number, high byte first and never 0, and its text.
-pub fn job_write<N: Construction>(
+pub fn job_write<N: Code>(
     f: &Figures<N>,
     table: &Table,
     starts: &[u16],
@@ -318,7 +331,7 @@ pub fn job_write<N: Construction>(
 }
 
 /// Reads the found word of an open job into its payload. A value q is a cell without a reading, as in `decode`.
-pub fn job_read<N: Construction>(
+pub fn job_read<N: Code>(
     f: &Figures<N>,
     table: &Table,
     word: &[u8],

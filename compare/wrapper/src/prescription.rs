@@ -3,7 +3,7 @@
 use crate::raw::{self, EyeNumbers, PrescriptionNumbers};
 use crate::refusal::Refusal;
 use crate::table::Table;
-use crate::{Construction, Figures, StartBytes};
+use crate::{Code, Figures, StartBytes};
 
 /// What one eye needs. Powers are dioptres, in whole eighths; a value outside the rules is refused by every call that takes it.
 #[derive(Clone, Copy, PartialEq, Debug)]
@@ -96,7 +96,7 @@ impl Prescription {
 }
 
 /// Writes the word of an open job whose text is a prescription. The payload must have room for it: 17 bytes.
-pub fn prescription_write<N: Construction>(
+pub fn prescription_write<N: Code>(
     f: &Figures<N>,
     table: &Table,
     starts: &[u16],
@@ -116,7 +116,7 @@ pub fn prescription_write<N: Construction>(
 
 /// Reads the found word of an open job whose text is a prescription: the job's number, and the prescription. A value q is a cell without a reading, as
 /// in `decode`.
-pub fn prescription_read<N: Construction>(
+pub fn prescription_read<N: Code>(
     f: &Figures<N>,
     table: &Table,
     word: &[u8],

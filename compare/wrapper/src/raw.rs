@@ -11,17 +11,11 @@ pub type Long = (u32, u32, u32);
 #[derive(Clone, Copy, PartialEq, Eq, Debug)]
 pub struct Larsson(pub u32, pub u32, pub u32, pub u32);
 
-/// The figures of either construction.
+/// The figures of any code.
 #[derive(Clone, Copy, PartialEq, Eq, Debug)]
 pub enum Numbers {
     Ranked(Ranked),
     Long(Long),
-}
-
-/// The figures of any code: a construction's, or the Larsson code's.
-#[derive(Clone, Copy, PartialEq, Eq, Debug)]
-pub enum AnyNumbers {
-    Construction(Numbers),
     Larsson(Larsson),
 }
 
@@ -37,21 +31,9 @@ impl From<Long> for Numbers {
     }
 }
 
-impl From<Ranked> for AnyNumbers {
-    fn from(numbers: Ranked) -> AnyNumbers {
-        AnyNumbers::Construction(numbers.into())
-    }
-}
-
-impl From<Long> for AnyNumbers {
-    fn from(numbers: Long) -> AnyNumbers {
-        AnyNumbers::Construction(numbers.into())
-    }
-}
-
-impl From<Larsson> for AnyNumbers {
-    fn from(numbers: Larsson) -> AnyNumbers {
-        AnyNumbers::Larsson(numbers)
+impl From<Larsson> for Numbers {
+    fn from(numbers: Larsson) -> Numbers {
+        Numbers::Larsson(numbers)
     }
 }
 
@@ -69,45 +51,27 @@ pub const DIFFERS: u8 = 255;
 
 #[rustfmt::skip]
 mod c {
-    use super::{AnyNumbers, Larsson, Numbers};
+    use super::{Larsson, Numbers};
 
-    /// Declares the call of each construction, and the function that makes the one of given figures.
-    macro_rules! of_either {
-        ($($name:ident: $ranked:ident, $long:ident($($argument:ident: $kind:ty),*) -> $answer:ty;)*) => {
+    /// Declares the call of each code, and the function that makes the one of given figures.
+    macro_rules! of_each {
+        ($($name:ident: $ranked:ident, $long:ident, $larsson:ident($($argument:ident: $kind:ty),*) -> $answer:ty;)*) => {
             extern "C" {
                 $(fn $ranked(n: u32, q: u32, m: u32, b: u32, $($argument: $kind),*) -> $answer;
-                fn $long(n: u32, q: u32, b: u32, $($argument: $kind),*) -> $answer;)*
+                fn $long(n: u32, q: u32, b: u32, $($argument: $kind),*) -> $answer;
+                fn $larsson(n: u32, q: u32, m: u32, b: u32, $($argument: $kind),*) -> $answer;)*
             }
             $(pub unsafe fn $name(f: Numbers, $($argument: $kind),*) -> $answer {
                 match f {
                     Numbers::Ranked((n, q, m, b)) => $ranked(n, q, m, b, $($argument),*),
                     Numbers::Long((n, q, b)) => $long(n, q, b, $($argument),*),
+                    Numbers::Larsson(Larsson(n, q, m, b)) => $larsson(n, q, m, b, $($argument),*),
                 }
             })*
         };
     }
 
-    /// The same with the Larsson code's call too.
-    macro_rules! of_any {
-        ($($name:ident: $ranked:ident, $long:ident, $larsson:ident($($argument:ident: $kind:ty),*) -> $answer:ty;)*) => {
-            mod either {
-                use super::Numbers;
-
-                of_either! { $($name: $ranked, $long($($argument: $kind),*) -> $answer;)* }
-            }
-            extern "C" {
-                $(fn $larsson(n: u32, q: u32, m: u32, b: u32, $($argument: $kind),*) -> $answer;)*
-            }
-            $(pub unsafe fn $name(f: AnyNumbers, $($argument: $kind),*) -> $answer {
-                match f {
-                    AnyNumbers::Construction(f) => either::$name(f, $($argument),*),
-                    AnyNumbers::Larsson(Larsson(n, q, m, b)) => $larsson(n, q, m, b, $($argument),*),
-                }
-            })*
-        };
-    }
-
-    of_any! {
+    of_each! {
         message_len: burgzemi_message_len, burgzemi_long_message_len, burgzemi_larsson_message_len() -> u32;
         payload_len: burgzemi_payload_len, burgzemi_long_payload_len, burgzemi_larsson_payload_len() -> u32;
         encode: burgzemi_encode, burgzemi_long_encode, burgzemi_larsson_encode(
@@ -124,38 +88,40 @@ mod c {
             map: *const u8, map_len: usize,
             starts: *mut u8, starts_len: usize
         ) -> u8;
-    }
-
-    of_either! {
-        interleave: burgzemi_interleave, burgzemi_long_interleave(
+        verify: burgzemi_verify, burgzemi_long_verify, burgzemi_larsson_verify(
+            starts: *const u8, starts_len: usize,
+            message: *const u8, message_len: usize,
+            word: *const u8, word_len: usize
+        ) -> u8;
+        interleave: burgzemi_interleave, burgzemi_long_interleave, burgzemi_larsson_interleave(
             depth: u32,
             words: *const u8, words_len: usize,
             strip: *mut u8, strip_len: usize
         ) -> u8;
-        deinterleave: burgzemi_deinterleave, burgzemi_long_deinterleave(
+        deinterleave: burgzemi_deinterleave, burgzemi_long_deinterleave, burgzemi_larsson_deinterleave(
             depth: u32,
             strip: *const u8, strip_len: usize,
             words: *mut u8, words_len: usize
         ) -> u8;
-        job_write: burgzemi_job_write, burgzemi_long_job_write(
+        job_write: burgzemi_job_write, burgzemi_long_job_write, burgzemi_larsson_job_write(
             table: *const u8, table_len: usize,
             starts: *const u8, starts_len: usize,
             payload: *const u8, payload_len: usize,
             word: *mut u8, word_len: usize
         ) -> u8;
-        job_read: burgzemi_job_read, burgzemi_long_job_read(
+        job_read: burgzemi_job_read, burgzemi_long_job_read, burgzemi_larsson_job_read(
             table: *const u8, table_len: usize,
             word: *const u8, word_len: usize,
             payload: *mut u8, payload_len: usize
         ) -> u8;
-        prescription_write: burgzemi_prescription_write, burgzemi_long_prescription_write(
+        prescription_write: burgzemi_prescription_write, burgzemi_long_prescription_write, burgzemi_larsson_prescription_write(
             table: *const u8, table_len: usize,
             starts: *const u8, starts_len: usize, number: u32,
             right_kind: u8, right_sphere: f64, right_cylinder: f64, right_axis: u8,
             left_kind: u8, left_sphere: f64, left_cylinder: f64, left_axis: u8, distance: f64,
             word: *mut u8, word_len: usize
         ) -> u8;
-        prescription_read: burgzemi_prescription_read, burgzemi_long_prescription_read(
+        prescription_read: burgzemi_prescription_read, burgzemi_long_prescription_read, burgzemi_larsson_prescription_read(
             table: *const u8, table_len: usize,
             word: *const u8, word_len: usize,
             marks: *mut u8, marks_len: usize,
@@ -164,12 +130,6 @@ mod c {
     }
 
     extern "C" {
-        pub fn burgzemi_verify(
-            n: u32, q: u32, m: u32, b: u32,
-            starts: *const u8, starts_len: usize,
-            message: *const u8, message_len: usize,
-            word: *const u8, word_len: usize,
-        ) -> u8;
         pub fn burgzemi_call(table: *mut u8, table_len: usize, letter: u8, number: u32) -> u8;
         pub fn burgzemi_move_to_a(
             n: u32, q: u32, m: u32, b: u32,
@@ -196,19 +156,19 @@ mod c {
 }
 
 /// k, or `NO_LENGTH` where the figures are refused.
-pub fn message_len(f: impl Into<AnyNumbers>) -> u32 {
+pub fn message_len(f: impl Into<Numbers>) -> u32 {
     // SAFETY: takes and returns numbers only, and touches no memory.
     unsafe { c::message_len(f.into()) }
 }
 
 /// K, or `NO_LENGTH` where the figures are refused.
-pub fn payload_len(f: impl Into<AnyNumbers>) -> u32 {
+pub fn payload_len(f: impl Into<Numbers>) -> u32 {
     // SAFETY: takes and returns numbers only, and touches no memory.
     unsafe { c::payload_len(f.into()) }
 }
 
 /// Writes a word.
-pub fn encode(f: impl Into<AnyNumbers>, starts: &[u8], message: &[u8], word: &mut [u8]) -> u8 {
+pub fn encode(f: impl Into<Numbers>, starts: &[u8], message: &[u8], word: &mut [u8]) -> u8 {
     let (s, t) = (starts.as_ptr(), starts.len());
     let (from, len) = (message.as_ptr(), message.len());
     // SAFETY: each pointer is a slice's own, never null, with its length; the one written to is lent alone.
@@ -216,7 +176,7 @@ pub fn encode(f: impl Into<AnyNumbers>, starts: &[u8], message: &[u8], word: &mu
 }
 
 /// Reads a word into the message and starts.
-pub fn decode(f: impl Into<AnyNumbers>, word: &[u8], message: &mut [u8], starts: &mut [u8]) -> u8 {
+pub fn decode(f: impl Into<Numbers>, word: &[u8], message: &mut [u8], starts: &mut [u8]) -> u8 {
     let (from, len) = (word.as_ptr(), word.len());
     let (to, room) = (message.as_mut_ptr(), message.len());
     let (s, t) = (starts.as_mut_ptr(), starts.len());
@@ -225,19 +185,19 @@ pub fn decode(f: impl Into<AnyNumbers>, word: &[u8], message: &mut [u8], starts:
 }
 
 /// Finds the starts that cover a map.
-pub fn cover(f: impl Into<AnyNumbers>, map: &[u8], starts: &mut [u8]) -> u8 {
+pub fn cover(f: impl Into<Numbers>, map: &[u8], starts: &mut [u8]) -> u8 {
     let (s, t) = (starts.as_mut_ptr(), starts.len());
     // SAFETY: each pointer is a slice's own, never null, with its length; the one written to is lent alone.
     unsafe { c::cover(f.into(), map.as_ptr(), map.len(), s, t) }
 }
 
 /// Checks a word against starts and a message: 0 where it agrees, `DIFFERS` where it doesn't, or the refusal.
-pub fn verify((n, q, m, b): Ranked, starts: &[u8], message: &[u8], word: &[u8]) -> u8 {
+pub fn verify(f: impl Into<Numbers>, starts: &[u8], message: &[u8], word: &[u8]) -> u8 {
     let (s, t) = (starts.as_ptr(), starts.len());
     let (listed, size) = (message.as_ptr(), message.len());
     let (from, len) = (word.as_ptr(), word.len());
     // SAFETY: each pointer is a slice's own, never null, with its length; none is written to.
-    unsafe { c::burgzemi_verify(n, q, m, b, s, t, listed, size, from, len) }
+    unsafe { c::verify(f.into(), s, t, listed, size, from, len) }
 }
 
 /// Lays words side by side.

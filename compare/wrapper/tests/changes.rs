@@ -2,7 +2,7 @@
 
 use burgzemi::{
     cover, decode, deinterleave, encode, interleave, job_read, job_write, move_to_a,
-    move_to_larsson, verify, Figures, Larsson, Refusal, Table, MAX_DEPTH,
+    move_to_larsson, verify, Code, Figures, Larsson, Refusal, Table, MAX_DEPTH,
 };
 
 /// Change request 7.
@@ -201,10 +201,16 @@ fn silent_cells_side_by_side() {
     assert_eq!(out, [4, 1, 3, 0, 2, 4]);
 }
 
-/// Change request 13.
+/// Change request 13: n 15, q 16 and one run of 2, where each code has a message of 11 symbols.
 #[test]
 fn words_from_the_frame_maker() {
-    let strip = Figures::new(15, 16, 1, 2).expect("these figures fit");
+    checked(Figures::new(15, 16, 1, 2));
+    checked(Figures::long(15, 16, 2));
+    checked(Figures::larsson(15, 16, 1, 2));
+}
+
+fn checked<N: Code>(strip: Result<Figures<N>, Refusal>) {
+    let strip = strip.expect("these figures fit");
     let (message, mut word) = ([7; 11], [0; 15]);
     assert_eq!(encode(&strip, &[6], &message, &mut word), Ok(()));
     assert_eq!(verify(&strip, &[6], &message, &word), Ok(true));
@@ -312,31 +318,37 @@ fn refused_words_of_one_long_run() {
     assert_eq!(message, [0xEE; 10]);
 }
 
-/// A stretch of depth * b cells is worn, at every place.
 #[test]
-fn side_by_side_with_one_long_run() {
-    let strip = Figures::long(20, 2, 5).expect("these figures fit");
+fn side_by_side_by_the_other_codes() {
+    worn_at_every_place(Figures::long(20, 2, 5), 5);
+    worn_at_every_place(Figures::larsson(20, 2, 1, 3), 3);
+}
+
+/// A stretch of depth * b cells is worn, at every place of strips with n 20 and q 2.
+fn worn_at_every_place<N: Code>(strip: Result<Figures<N>, Refusal>, b: usize) {
+    let strip = strip.expect("these figures fit");
+    let message = vec![1; strip.message_len()];
     for depth in 1..=MAX_DEPTH as usize {
         let (mut words, mut cells) = (vec![0; depth * 20], vec![0; depth * 20]);
-        for worn in 0..=depth * 15 {
+        for worn in 0..=depth * (20 - b) {
             let mut map = vec![0; depth * 20];
-            map[worn..worn + 5 * depth].fill(1);
+            map[worn..worn + b * depth].fill(1);
             let mut maps = vec![0; depth * 20];
             let taken = deinterleave(&strip, depth as u32, &map, &mut maps);
             assert_eq!(taken, Ok(()));
             for (word, map) in words.chunks_exact_mut(20).zip(maps.chunks_exact(20)) {
                 let starts = cover(&strip, map).expect("the map can be covered");
-                assert_eq!(encode(&strip, &starts, &[1; 10], word), Ok(()));
+                assert_eq!(encode(&strip, &starts, &message, word), Ok(()));
             }
             assert_eq!(interleave(&strip, depth as u32, &words, &mut cells), Ok(()));
             // Cells without a reading.
-            cells[worn..worn + 5 * depth].fill(2);
+            cells[worn..worn + b * depth].fill(2);
             let taken = deinterleave(&strip, depth as u32, &cells, &mut words);
             assert_eq!(taken, Ok(()));
             for word in words.chunks_exact(20) {
-                let mut message = [0; 10];
-                assert!(decode(&strip, word, &mut message).is_ok());
-                assert_eq!(message, [1; 10]);
+                let mut read = vec![0; message.len()];
+                assert!(decode(&strip, word, &mut read).is_ok());
+                assert_eq!(read, message);
             }
         }
     }
@@ -441,6 +453,37 @@ fn refused_words_of_older_trays() {
         Refusal::MAJORITY.to_string(),
         "refused with 21: no value is in most of the sub-blocks"
     );
+}
+
+/// The run is longer than Construction A takes. The middle of the sub-blocks at 0, 7 and 14 is touched.
+#[test]
+fn jobs_of_older_trays() {
+    assert_eq!(Figures::new(15, 256, 1, 7), Err(Refusal::UNFIT));
+    let strip = Figures::larsson(15, 256, 1, 7).expect("these figures fit");
+    let mut table = Table::new();
+    let (mut word, mut payload) = ([0xEE; 15], [0xEE; 6]);
+    let job = b"\0\0\0\x07AB";
+    let unopened = job_write(&strip, &table, &[6], job, &mut word);
+    assert_eq!((unopened, word), (Err(Refusal::NOT_OPEN), [0xEE; 15]));
+    assert_eq!(table.open(7), Ok(()));
+    assert_eq!(job_write(&strip, &table, &[6], job, &mut word), Ok(()));
+    assert_eq!(word, *b"\x06\0\0\0\x07A\0\0\0\0\0\0\0B\x06");
+    word[6..13].fill(0xFF);
+    assert_eq!(job_read(&strip, &table, &word, &mut payload), Ok(()));
+    assert_eq!(payload, *job);
+    for (sub_blocks, refusal) in [
+        ([6, 7, 8], Refusal::MAJORITY),
+        ([9, 0, 9], Refusal::VALUE),
+        ([6, 6, 7], Refusal::DISAGREES),
+    ] {
+        let mut found = word;
+        (found[0], found[7], found[14]) = (sub_blocks[0], sub_blocks[1], sub_blocks[2]);
+        let read = job_read(&strip, &Table::new(), &found, &mut payload);
+        assert_eq!(read, Err(refusal));
+    }
+    assert_eq!(table.cancel(7), Ok(()));
+    let cancelled = job_read(&strip, &table, &word, &mut payload);
+    assert_eq!(cancelled, Err(Refusal::CANCELLED));
 }
 
 /// No symbol tells of the one placement that there is, and every word is accepted.

@@ -1,8 +1,8 @@
 //! Document 02's change request 2, through the wrapper.
 
 use burgzemi::{
-    encode, job_read, job_write, prescription_read, prescription_write, Eye, Figures, Prescription,
-    Refusal, Table,
+    encode, job_read, job_write, prescription_read, prescription_write, Code, Eye, Figures,
+    Prescription, Refusal, Table,
 };
 
 fn toric(sphere: f64, cylinder: f64, axis: u8) -> Eye {
@@ -56,20 +56,34 @@ fn there_and_back() {
     }
 }
 
+/// A payload that is long enough, and one that is too short by a byte; on the older tray with a run that Construction A doesn't take.
 #[test]
-fn with_one_long_run() {
+fn by_the_other_codes() {
+    assert_eq!(Figures::new(30, 256, 1, 11), Err(Refusal::UNFIT));
+    written_or_too_short(Figures::long(30, 256, 10), Figures::long(27, 256, 9));
+    written_or_too_short(
+        Figures::larsson(30, 256, 1, 11),
+        Figures::larsson(29, 256, 1, 11),
+    );
+}
+
+fn written_or_too_short<N: Code>(
+    strip: Result<Figures<N>, Refusal>,
+    short: Result<Figures<N>, Refusal>,
+) {
+    let (strip, short) = (
+        strip.expect("these figures fit"),
+        short.expect("these figures fit"),
+    );
     let table = open(7);
-    let write = |n, b, word: &mut [u8]| {
-        let f = Figures::long(n, 256, b).expect("these figures fit");
-        prescription_write(&f, &table, &[8], 7, &ORDER, word)
-    };
     let mut word = [0; 30];
-    assert_eq!(write(30, 10, &mut word), Ok(()));
+    let written = prescription_write(&strip, &table, &[8], 7, &ORDER, &mut word);
+    assert_eq!(written, Ok(()));
     word[8..18].fill(0xFF);
-    let f = Figures::long(30, 256, 10).expect("these figures fit");
-    assert_eq!(prescription_read(&f, &table, &word), Ok((7, ORDER)));
-    let short = write(27, 9, &mut word[..27]);
-    assert_eq!(short, Err(Refusal::PRESCRIPTION));
+    assert_eq!(prescription_read(&strip, &table, &word), Ok((7, ORDER)));
+    let cut = &mut word[..short.word_len()];
+    let written = prescription_write(&short, &table, &[8], 7, &ORDER, cut);
+    assert_eq!(written, Err(Refusal::PRESCRIPTION));
 }
 
 #[test]

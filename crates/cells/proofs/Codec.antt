@@ -4,7 +4,7 @@ use mathlib.Core.Logic.{_↔_}
 use mathlib.Core.List.{List}
 use Prim.Native.Nat.{ℕ}
 use native.Mathlib.Omega.{arith}
-use Rattle.cells.specs.Codec.{Reading, accepted, refused, Codec, Word, LeadsTo, WritesWords, Exact, ReadsExactly}
+use Rattle.cells.specs.Codec.{Reading, accepted, refused, Codec, Word, LeadsTo, WritesWords, Exact, OwnRefusals, ReadsExactly}
 
 -- an acceptance is no refusal, and a refusal has one number
 pub not-accepted : {P : Type 0} {a : ℕ} {ss ms : List ℕ} → refused a ≡ accepted ss ms → P
@@ -29,7 +29,7 @@ others-refused c exact w word none = go (c .decode w) (λ ss ms e. none ss ms (e
     go (accepted ss ms) f = absurd (f ss ms (λ i. accepted ss ms))
     go (refused a) f = (a, λ i. refused a)
 
-pub reads-exactly : (c : Codec) (Listed : List ℕ → ℕ → Type 0) → WritesWords c → Exact c → ((w : List ℕ) (a : ℕ) → (c .decode w ≡ refused a) ↔ Listed w a)
-    → ReadsExactly c Listed
-reads-exactly c Listed writes exact listed =
-    record { written = writes; exactly = exact; one-pair = one-pair c exact; others = others-refused c exact; listed = listed }
+pub reads-exactly : (c : Codec) (Listed : List ℕ → ℕ → Type 0) → WritesWords c → Exact c → OwnRefusals c
+    → ((w : List ℕ) (a : ℕ) → (c .decode w ≡ refused a) ↔ Listed w a) → ReadsExactly c Listed
+reads-exactly c Listed writes exact own listed =
+    record { written = writes; exactly = exact; one-pair = one-pair c exact; others = others-refused c exact; own = own; listed = listed }

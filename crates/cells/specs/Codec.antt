@@ -1,12 +1,13 @@
--- What is asked of a code for localized bursts (document 01's runs), whatever its construction. Assumes nothing.
+-- What is asked of a code for localized bursts (document 01's runs), whichever it is. Assumes nothing.
 use mathlib.Core.Path.{_≡_}
 use mathlib.Core.Logic.{_↔_}
 use mathlib.Core.Bool.{Bool, true, false}
 use mathlib.Core.List.{List}
 use Prim.Native.Nat.{ℕ, _<_}
+use lib.Dec.{eqb}
 use lib.ListN.{length, getD}
 use Rattle.combinatorics.specs.Bursts.{inBurst}
-use Rattle.combinatorics.specs.Lists.{allBelow}
+use Rattle.combinatorics.specs.Lists.{any, allBelow}
 use Rattle.cells.specs.Erasures.{foundBound}
 
 -- what a decoder makes of a found word: a placement, by its starts, and a message; or a refusal
@@ -15,7 +16,7 @@ pub data Reading : Type 0 where
   refused : ℕ → Reading
 
 -- one code: the length of its words, its alphabet, the bound of the symbols that can be found, the length of a message; which starts are
--- a placement, and which positions its bursts have; encoder and decoder
+-- a placement, and which positions its bursts have; encoder and decoder; the numbers that the decoder refuses a word with, in order
 pub record Codec : Type 0 where
   pub wordLen : ℕ
   pub alphabet : ℕ
@@ -25,10 +26,11 @@ pub record Codec : Type 0 where
   pub spoilt : List ℕ → ℕ → Bool
   pub encode : List ℕ → List ℕ → List ℕ
   pub decode : List ℕ → Reading
+  pub wordRefusals : List ℕ
 
 -- a code on words of n symbols below q with k message symbols, whose placements have bursts of b positions
-abbrev pub burstCodec : (n q b k : ℕ) → (List ℕ → Bool) → (List ℕ → List ℕ → List ℕ) → (List ℕ → Reading) → Codec
-burstCodec n q b k placed encode decode =
+abbrev pub burstCodec : (n q b k : ℕ) → (List ℕ → Bool) → (List ℕ → List ℕ → List ℕ) → (List ℕ → Reading) → List ℕ → Codec
+burstCodec n q b k placed encode decode wordRefusals =
     record {
       wordLen = n;
       alphabet = q;
@@ -38,6 +40,7 @@ burstCodec n q b k placed encode decode =
       spoilt = inBurst b;
       encode = encode;
       decode = decode;
+      wordRefusals = wordRefusals;
     }
 
 -- a word that can be found
@@ -61,6 +64,10 @@ WritesWords c = (starts ms : List ℕ) → c .placed starts ≡ true → length 
 abbrev pub Exact : Codec → Type 0
 Exact c = (w starts ms : List ℕ) → Word c w → (c .decode w ≡ accepted starts ms) ↔ LeadsTo c w starts ms
 
+-- a word is refused with no number but the code's own
+abbrev pub OwnRefusals : Codec → Type 0
+OwnRefusals c = (w : List ℕ) (a : ℕ) → c .decode w ≡ refused a → any (eqb a) (c .wordRefusals) ≡ true
+
 -- a code whose refusals of a word have the listed conditions: what is asked of it, as one
 pub record ReadsExactly (c : Codec) (Listed : List ℕ → ℕ → Type 0) : Type 0 where
   -- what is written has n symbols, each below q
@@ -71,5 +78,7 @@ pub record ReadsExactly (c : Codec) (Listed : List ℕ → ℕ → Type 0) : Typ
   pub one-pair : (w ss ms ss′ ms′ : List ℕ) → Word c w → LeadsTo c w ss ms → LeadsTo c w ss′ ms′ → (ss ≡ ss′) × (ms ≡ ms′)
   -- every other word is refused
   pub others : (w : List ℕ) → Word c w → ((ss ms : List ℕ) → LeadsTo c w ss ms → ⊥) → (a : ℕ) × (c .decode w ≡ refused a)
+  -- with one of the code's own numbers
+  pub own : OwnRefusals c
   -- "Each number comes under its condition and under no other."
   pub listed : (w : List ℕ) (a : ℕ) → (c .decode w ≡ refused a) ↔ Listed w a

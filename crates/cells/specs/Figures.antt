@@ -1,4 +1,4 @@
--- Document 01, "Figures of a strip", as far as every construction has it: the figures and their ranges, placements with their count, and how many symbols
+-- Document 01, "Figures of a strip", as far as every code has it: the figures and their ranges, placements with their count, and how many symbols
 -- spell so many values; of its next two chapters the rank of a placement, and the placement of a rank. Assumes nothing.
 use mathlib.Core.Bool.{Bool, cond, _&&_}
 use mathlib.Core.List.{List}

@@ -1,4 +1,4 @@
--- What each call of a codec answers, and what the lent buffers hold afterwards, for every input and whatever the construction. "Every refusal returns its
+-- What each call of a codec answers, and what the lent buffers hold afterwards, for every input and whatever the code. "Every refusal returns its
 -- number only; output buffers .. keep their contents." Orders of refusals read downward. Assumes nothing.
 use mathlib.Core.Bool.{Bool, _&&_}
 use mathlib.Core.List.{List, [], _++_}

@@ -1,4 +1,4 @@
--- What ranks, covers and r are, whatever the construction: statements about the definitions of a placement's rank, of the placement of a rank and of
+-- What ranks, covers and r are, whatever the code: statements about the definitions of a placement's rank, of the placement of a rank and of
 -- covering, whose proofs are `rank-bijection` and `covers-least` of proofs/Ranking.antt, and of r, whose proof is in each construction's `faithful`. Assumes
 -- nothing.
 use mathlib.Core.Path.{_≡_}

@@ -8,11 +8,11 @@ use Rattle.construction_a.specs.Outcomes.{coding as codingA}
 use Rattle.construction_b.specs.Figures.{LongParams}
 use Rattle.construction_b.specs.Outcomes.{coding as codingB}
 use Rattle.larsson.specs.Outcomes.{coding as codingLarsson}
-use Rattle.params.specs.Answer.{figuredAs as blocksFiguredAs, LaidIn, LongLaidIn, Small}
+use Rattle.params.specs.Answer.{blocksFigured, LaidIn, LongLaidIn, Small}
 use Rattle.params.specs.declared.Layout.{Layout}
 use Rattle.params.specs.declared.LayoutAnswer.{LayoutAnswer}
 use Rattle.params.specs.declared.LayoutAnswer.the-variants.{Fit as BlocksFit, Refused as BlocksRefused}
-use Rattle.params.proofs.Either.{ServesAs as BlocksServeAs, ranked-serves, long-serves}
+use Rattle.params.proofs.Either.{BlocksServeAs, ranked-serves, long-serves}
 use Rattle.larsson_params.specs.Answer.{larssonFiguredAs, LarssonLaidIn}
 use Rattle.larsson_params.specs.declared.LarssonAnswer.{LarssonAnswer}
 use Rattle.larsson_params.specs.declared.LarssonAnswer.the-variants.{Fit as SubBlocksFit, Refused as SubBlocksRefused}
@@ -32,14 +32,14 @@ use Rattle.codes.proofs.Layouts.{in-order, small-in, of-blocks, of-sub-
 abbrev pub Answers : Coding → FiguresAnswer → Type 0
 Answers d r = (figuredAs r ≡ figuresUnder d) × LaidUnder d r
 
-by-blocks : (d : Coding) (r : LayoutAnswer) → blocksFiguredAs r ≡ figuresUnder d → ((l : Layout) → r ≡ BlocksFit l → BlocksServeAs d l) → Answers d (byBlocks r)
+by-blocks : (d : Coding) (r : LayoutAnswer) → blocksFigured r ≡ figuresUnder d → ((l : Layout) → r ≡ BlocksFit l → BlocksServeAs d l) → Answers d (byBlocks r)
 by-blocks d (BlocksFit l) e learnt = let own = learnt l refl in (e, (own .0, of-blocks l (own .1)))
 by-blocks d (BlocksRefused a) e learnt = (e, tt)
 
-pub by-ranked : (f : Params) (r : LayoutAnswer) → blocksFiguredAs r ≡ figuresUnder (codingA f) → LaidIn f r → Answers (codingA f) (byBlocks r)
+pub by-ranked : (f : Params) (r : LayoutAnswer) → blocksFigured r ≡ figuresUnder (codingA f) → LaidIn f r → Answers (codingA f) (byBlocks r)
 by-ranked f r e laid = by-blocks (codingA f) r e (λ l is. ranked-serves f r l is e laid)
 
-pub by-long : (f : LongParams) (r : LayoutAnswer) → blocksFiguredAs r ≡ figuresUnder (codingB f) → LongLaidIn f r → Answers (codingB f) (byBlocks r)
+pub by-long : (f : LongParams) (r : LayoutAnswer) → blocksFigured r ≡ figuresUnder (codingB f) → LongLaidIn f r → Answers (codingB f) (byBlocks r)
 by-long f r e laid = by-blocks (codingB f) r e (λ l is. long-serves f r l is e laid)
 
 pub by-sub-blocks : (f : Params) (r : LarssonAnswer) → larssonFiguredAs r ≡ figuresUnder (codingLarsson f) → LarssonLaidIn f r

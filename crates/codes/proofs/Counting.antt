@@ -8,7 +8,7 @@ use Rattle.codes.specs.declared.WordLayout.{WordLayout}
 use Rattle.codes.specs.Bridge.{codingOf}
 use Rattle.codes.specs.DemandTwo.{ListedIn}
 use Rattle.codes.specs.Given.{codingIn, Serves}
-use Rattle.codes.proofs.Exact.{reads-exactly, placed-is}
+use Rattle.codes.proofs.Exact.{demand-two, placed-is}
 use Rattle.codes.proofs.Layouts.{under-layout}
 
 abbrev Counts : Coding → Type 0
@@ -17,5 +17,5 @@ Counts d = (w out : List ℕ) (v : ℕ) → decodeUnder d w out .answer ≡ rank
 pub accepted-count : (l : WordLayout) → Serves l → (w out : List ℕ) (v : ℕ) → decodeUnder (codingIn l) w out .answer ≡ rankIs v
     → decodeUnder (codingIn l) w out .placement .count ≡ l .m
 accepted-count l g w out v r =
-    under-layout Counts (λ f i h. counts-under (codingOf f) (ListedIn f) (reads-exactly f i h) (λ ss e. placed-is f ss e .0) i h) l g w out v r
+    under-layout Counts (λ f i h. counts-under (codingOf f) (ListedIn f) (demand-two f i h) (λ ss e. placed-is f ss e .0) i h) l g w out v r
     ∙ sym (g .numbers .bursts-is)

@@ -8,7 +8,7 @@ use lib.ListN.{length}
 use Rattle.combinatorics.specs.Bursts.{apart, inBurst}
 use Rattle.combinatorics.proofs.Cases.{eqb-same, eqb-true}
 use Rattle.combinatorics.proofs.Lists.{both}
-use Rattle.cells.specs.Codec.{ReadsExactly}
+use Rattle.cells.specs.Codec.{OwnRefusals}
 use Rattle.cells.specs.Erasures.{foundBound}
 use Rattle.cells.proofs.Erasures.{found-least}
 use Rattle.cells.specs.Figures.{isPlacement}
@@ -16,7 +16,7 @@ use Rattle.cells.specs.Outcomes.{answerNumber, decodeUnder}
 use Rattle.construction_a.proofs.DemandTwo as A
 use Rattle.construction_b.specs.Figures.{isPlacement as isPlacementB}
 use Rattle.construction_b.proofs.DemandTwo as B
-use Rattle.larsson.proofs.Exact.{larsson-exact}
+use Rattle.larsson.proofs.DemandTwo as L
 use Rattle.params.specs.Bridge.{given, givenLong}
 use Rattle.decoder.specs.declared.Decoded.{Decoded as Answered}
 use Rattle.decoder.specs.Answer.{wordNumber, decodedAs}
@@ -24,19 +24,25 @@ use Rattle.decoder.proofs.DemandTwo.{decodes-exactly-under, by-outcome-under}
 use Rattle.codes.specs.declared.Figures.{Figures}
 use Rattle.codes.specs.declared.Figures.the-variants.{Ranked, Long, Larsson}
 use Rattle.codes.specs.Bridge.{codingOf}
-use Rattle.codes.specs.DemandTwo.{ListedIn, DecodesExactly}
+use Rattle.codes.specs.DemandTwo.{ListedIn, DemandTwo, DecodesExactly}
 
-pub reads-exactly : (f : Figures) → codingOf f .inRange ≡ true → codingOf f .fits ≡ true → ReadsExactly (codingOf f .codec) (ListedIn f)
-reads-exactly (Ranked p) = A.demand-two (given p)
-reads-exactly (Long p) = B.demand-two (givenLong p)
-reads-exactly (Larsson p) = larsson-exact (given p)
+pub demand-two : DemandTwo
+demand-two (Ranked p) = A.demand-two (given p)
+demand-two (Long p) = B.demand-two (givenLong p)
+demand-two (Larsson p) = L.demand-two (given p)
+
+-- a word is refused with the code's own numbers, whatever the figures
+pub own-refusals : (f : Figures) → OwnRefusals (codingOf f .codec)
+own-refusals (Ranked p) = A.own-refusals (given p)
+own-refusals (Long p) = B.own-refusals (givenLong p)
+own-refusals (Larsson p) = L.own-refusals (given p)
 
 -- the clauses of word read's contract
 pub by-outcome : (f : Figures) (w out : List ℕ) (r : Answered) (left : List ℕ) → decodedAs r left ≡ decodeUnder (codingOf f) w out
     → (decodedAs r left ≡ decodeUnder (codingOf f) w out)
     × (DecodesExactly f w out (decodedAs r left) × (wordNumber (r .answer) ≡ answerNumber (decodeUnder (codingOf f) w out .answer)))
 by-outcome f w out =
-    by-outcome-under (codingOf f) (ListedIn f) w out (decodes-exactly-under (codingOf f) (ListedIn f) (reads-exactly f) w out)
+    by-outcome-under (codingOf f) (ListedIn f) w out (decodes-exactly-under (codingOf f) (ListedIn f) (demand-two f) w out)
 
 -- ---- Which starts are a placement: as many as there are bursts, each burst behind the one before
 

@@ -1,6 +1,6 @@
 -- What every layout has, whichever code laid it out. Assumes nothing.
 use mathlib.Core.Path.{_≡_, refl, sym, ap, ap₂, subst, _∙_}
-use mathlib.Core.Bool.{Bool, true}
+use mathlib.Core.Bool.{true}
 use mathlib.Core.List.{List}
 use Prim.Native.Nat.{ℕ, _≤_}
 use native.Mathlib.Omega.{arith}
@@ -15,7 +15,7 @@ use Rattle.construction_b.proofs.Figures.{ranged as ranged-b}
 use Rattle.larsson.specs.Figures.{messageLen as messageLenLarsson}
 use Rattle.params.specs.Answer.{Small}
 use Rattle.params.specs.Bridge.{given, givenLong}
-use Rattle.params.specs.Given.{figuresOf, codingWith, LayoutFitsWith}
+use Rattle.params.specs.Given.{figuresOf, codingWith}
 use Rattle.params.specs.declared.Layout.{Layout}
 use Rattle.params.specs.declared.Spells.{Spells}
 use Rattle.params.specs.declared.Spells.the-variants.{Rank, EndOffset}

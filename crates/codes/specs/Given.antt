@@ -1,9 +1,10 @@
 -- What the layers above may count on: a layout of figures that fit, whichever code's they are. Assumes nothing.
 use mathlib.Core.Path.{_≡_}
+use Prim.Native.Nat.{ℕ}
 use Rattle.cells.specs.Outcomes.{Coding}
 use Rattle.larsson.specs.Outcomes.{coding as codingLarsson}
 use Rattle.params.specs.declared.Layout.{Layout}
-use Rattle.params.specs.Given.{codingIn as codingBlocks, Serves as BlocksServe}
+use Rattle.params.specs.Given.{blocksCoding, BlocksServe}
 use Rattle.larsson_params.specs.declared.LarssonLayout.{LarssonLayout}
 use Rattle.larsson_params.specs.Given.{larssonFiguresOf, LarssonLayoutFits}
 use Rattle.codes.specs.declared.Laid.{Laid}
@@ -12,11 +13,20 @@ use Rattle.codes.specs.declared.WordLayout.{WordLayout}
 
 -- what a code's own layout gives
 abbrev pub codingBy : Laid → Coding
-codingBy (Blocks l) = codingBlocks l
+codingBy (Blocks l) = blocksCoding l
 codingBy (SubBlocks l) = codingLarsson (larssonFiguresOf l)
 
 abbrev pub codingIn : WordLayout → Coding
 codingIn l = codingBy (l .laid)
+
+-- T, and r or R
+abbrev pub countBy : Laid → ℕ
+countBy (Blocks l) = l .«placement_count»
+countBy (SubBlocks l) = l .«placement_count»
+
+abbrev pub tailBy : Laid → ℕ
+tailBy (Blocks l) = l .«index_tail»
+tailBy (SubBlocks l) = l .«sub_len»
 
 -- its figures fit, and it is theirs
 abbrev pub FitsBy : Laid → Type 0
@@ -29,8 +39,8 @@ pub record HasNumbers (d : Coding) (l : WordLayout) : Type 0 where
   pub alphabet-is : l .q ≡ d .codec .alphabet
   pub bursts-is : l .m ≡ d .bursts
   pub burst-is : l .b ≡ d .burstLen
-  pub count-is : l .«placement_count» ≡ d .placementCount
-  pub tail-is : l .«index_tail» ≡ d .indexTail
+  pub count-is : countBy (l .laid) ≡ d .placementCount
+  pub tail-is : tailBy (l .laid) ≡ d .indexTail
   pub len-is : l .«message_len» ≡ d .codec .messageLen
 
 -- the figures of its code fit, and the layout is theirs
@@ -51,13 +61,10 @@ ofBlocks l =
       q = l .q;
       m = l .m;
       b = l .b;
-      «placement_count» = l .«placement_count»;
-      «index_tail» = l .«index_tail»;
       «message_len» = l .«message_len»;
       laid = Blocks l;
     }
 
--- R stands in the place of r
 abbrev pub ofSubBlocks : LarssonLayout → WordLayout
 ofSubBlocks l =
     record {
@@ -65,8 +72,6 @@ ofSubBlocks l =
       q = l .q;
       m = l .m;
       b = l .b;
-      «placement_count» = l .«placement_count»;
-      «index_tail» = l .«sub_len»;
       «message_len» = l .«message_len»;
       laid = SubBlocks l;
     }

@@ -1,11 +1,10 @@
 // The codes that a word can have: their figures, the layout that these give, and word write, word read and covering under any of them. Assumes nothing.
 ghost use mathlib.Core.Path.{_≡_};
-ghost use Rattle.cells.specs.Erasures.{foundBound};
 ghost use Rattle.cells.specs.Outcomes.{answerNumber, figuresUnder, encodeUnder, coverUnder, decodeUnder};
 ghost use Rattle.placements.specs.Bridge.{heldAs, coveredAs};
 ghost use Rattle.decoder.specs.Answer.{wordNumber, decodedAs};
 ghost use Rattle.codes.specs.Bridge.{codingOf};
-ghost use Rattle.codes.specs.Given.{codingIn, Serves, ofBlocks, ofSubBlocks};
+ghost use Rattle.codes.specs.Given.{codingIn, countBy, tailBy, Serves, ofBlocks, ofSubBlocks};
 ghost use Rattle.codes.specs.Answer.{figuredAs, LaidAs, byBlocks, bySubBlocks};
 ghost use Rattle.codes.specs.DemandTwo.{DecodesExactly};
 use decoder::Decoded;
@@ -19,7 +18,6 @@ use params::long::LongParams;
 use placements::CoverAnswer;
 use placements::Placement;
 use placements::unplaced;
-use symbols::numbers::BYTE_VALUES;
 
 // The figures of each code: Construction A, Construction B, and the Larsson code of the older trays.
 pub enum Figures {
@@ -34,15 +32,13 @@ pub enum Laid {
     SubBlocks(LarssonLayout),
 }
 
-// The figures of a word that can be laid out, and T, r (R of the Larsson code) and k, which every code has; beside them the code's own layout. Construction B
-// has one burst. Positions and lengths are usize, values u64.
+// The figures of a word that can be laid out, and k, which every code has; beside them the code's own layout. Construction B has one burst. Positions and
+// lengths are usize, values u64.
 pub struct WordLayout {
     pub n: usize,
     pub q: u64,
     pub m: usize,
     pub b: usize,
-    pub placement_count: u64,
-    pub index_tail: usize,
     pub message_len: usize,
     pub laid: Laid,
 }
@@ -65,17 +61,50 @@ impl Figures {
             Figures::Larsson(p) => by_sub_blocks(larsson_params::figures(p.n, p.q, p.m, p.b)),
         }
     }
+
+    // m: Construction B has one burst.
+    pub fn bursts(self) -> u32
+        ensures { λ r. ⌜ r ≡ codingOf self .bursts ⌝ }
+    {
+        match self {
+            Figures::Ranked(p) => p.m,
+            Figures::Long(_) => 1,
+            Figures::Larsson(p) => p.m,
+        }
+    }
+
+    // b.
+    pub fn burst_len(self) -> u32
+        ensures { λ r. ⌜ r ≡ codingOf self .burstLen ⌝ }
+    {
+        match self {
+            Figures::Ranked(p) => p.b,
+            Figures::Long(p) => p.b,
+            Figures::Larsson(p) => p.b,
+        }
+    }
 }
 
 impl WordLayout {
-    // The bound of what can be found in a cell: q itself is a cell without a reading, where a byte has room for it.
-    pub fn found_bound(self) -> u64
-        ensures { λ r. ⌜ r ≡ foundBound (self .q) ⌝ }
+    // T.
+    pub fn placement_count(self) -> u64
+        ensures { λ r. ⌜ r ≡ countBy (self .laid) ⌝ }
     {
-        if self.q < BYTE_VALUES {
-            self.q + 1
-        } else {
-            self.q
+        let laid = self.laid;
+        match laid {
+            Laid::Blocks(own) => own.placement_count,
+            Laid::SubBlocks(own) => own.placement_count,
+        }
+    }
+
+    // r, and R of the Larsson code.
+    pub fn index_tail(self) -> usize
+        ensures { λ r. ⌜ r ≡ tailBy (self .laid) ⌝ }
+    {
+        let laid = self.laid;
+        match laid {
+            Laid::Blocks(own) => own.index_tail,
+            Laid::SubBlocks(own) => own.sub_len,
         }
     }
 }
@@ -98,8 +127,6 @@ fn of_blocks(own: Layout) -> WordLayout
         q: own.q,
         m: own.m,
         b: own.b,
-        placement_count: own.placement_count,
-        index_tail: own.index_tail,
         message_len: own.message_len,
         laid: Laid::Blocks(own),
     }
@@ -123,8 +150,6 @@ fn of_sub_blocks(own: LarssonLayout) -> WordLayout
         q: own.q,
         m: own.m,
         b: own.b,
-        placement_count: own.placement_count,
-        index_tail: own.sub_len,
         message_len: own.message_len,
         laid: Laid::SubBlocks(own),
     }

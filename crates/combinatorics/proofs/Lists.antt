@@ -9,8 +9,8 @@ use borrow.Author.Tests.{leb-true}
 use lib.Dec.{ltb, eqb}
 use lib.ListN.{length, getD, take, drop, set, replicate, drop-of-length-le}
 use lib.Seq.{take-all, take-suc, take-suc-set, drop-cons}
-use Rattle.combinatorics.specs.Lists.{all, allBelow, sameList}
-use Rattle.combinatorics.proofs.Cases.{by-le, by-eq, eqb-same, eqb-true, leb-holds}
+use Rattle.combinatorics.specs.Lists.{all, any, allBelow, sameList}
+use Rattle.combinatorics.proofs.Cases.{by-bool, by-le, by-eq, eqb-same, eqb-true, leb-holds}
 
 pub both : (a b : Bool) → (a && b) ≡ true → (a ≡ true) × (b ≡ true)
 both true b e = (refl, e)
@@ -60,6 +60,14 @@ pub map-below : (q : ℕ) (f : ℕ → ℕ) → ((x : ℕ) → f x < q) → (xs 
 unfolding all
 map-below q f small [] = refl
 map-below q f small (x ∷ xs) = rw (leb-holds (suc (f x)) q (small x)) (map-below q f small xs)
+
+-- what holds of every number of a list holds of one of them
+pub in-all : (p : ℕ → Bool) (xs : List ℕ) (a : ℕ) → all p xs ≡ true → any (eqb a) xs ≡ true → p a ≡ true
+unfolding all any
+in-all p [] a n h = absurd (false≢true h)
+in-all p (x ∷ xs) a n h =
+    let b = both (p x) (all p xs) n in
+    by-bool (eqb a x) (λ e. rw (eqb-true a x e) (b .0)) (λ e. in-all p xs a (b .1) (rw e at h))
 
 -- ---- As a loop goes: a test over the list from element i on
 

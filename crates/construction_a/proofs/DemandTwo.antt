@@ -5,13 +5,14 @@ use mathlib.Core.List.{List}
 use mathlib.Core.Option.{Option, none, some}
 use Prim.Native.Nat.{ℕ, suc, _-_, _<_}
 use native.Mathlib.Omega.{arith}
-use lib.ListN.{length}
-use Rattle.refusals.specs.Refusals.{must, noPattern, valueTooLarge, disagrees, erased}
+use lib.Dec.{eqb}
+use Rattle.refusals.specs.Refusals.{must, noPattern, valueTooLarge, disagrees, erased, patternRefusals}
+use Rattle.combinatorics.specs.Lists.{any}
 use Rattle.combinatorics.proofs.Cases.{by-le, leb-holds, leb-fails}
 use Rattle.combinatorics.proofs.Lists.{below-at}
 use Rattle.combinatorics.proofs.Members.{length-tabulate}
 use Rattle.cells.specs.Cells.{message, pick}
-use Rattle.cells.specs.Codec.{accepted, refused, WritesWords, Exact}
+use Rattle.cells.specs.Codec.{accepted, refused, WritesWords, Exact, OwnRefusals}
 use Rattle.cells.specs.Digits.{spell, places}
 use Rattle.cells.specs.Erasures.{foundBound, hasErasure}
 use Rattle.cells.proofs.Cells.{length-woven, woven-below}
@@ -19,10 +20,10 @@ use Rattle.cells.proofs.Codec.{not-accepted, same-number, reads-exactly}
 use Rattle.cells.proofs.Digits.{Spelled, spell-spelled, spelled-below}
 use Rattle.cells.proofs.Erasures.{found-least}
 use Rattle.cells.specs.Figures.{Params, placementCount, rank, placementOf}
-use Rattle.construction_a.specs.Figures.{parts, indexTail, messageLen}
+use Rattle.construction_a.specs.Figures.{indexTail, messageLen}
 use Rattle.construction_a.specs.Writing.{kindAt, plan, word}
-use Rattle.construction_a.specs.Reading.{looksFixed, indexFound, firstSymbols, written, agrees, readRank, readFrom, read}
-use Rattle.construction_a.specs.DemandTwo.{constructionA, found, IndexRead, Listed, no-pattern, erased-index, too-large, disagreeing, erased-message}
+use Rattle.construction_a.specs.Reading.{firstSymbols, written, agrees, readRank, readFrom, read}
+use Rattle.construction_a.specs.DemandTwo.{constructionA, found, Listed, no-pattern, erased-index, too-large, disagreeing, erased-message}
 use Rattle.construction_a.specs.DemandTwo.{DemandTwo}
 use Rattle.cells.proofs.Figures.{placed-starts, starts-placed}
 use Rattle.construction_a.proofs.Figures.{Served, serve, span-enough}
@@ -112,5 +113,19 @@ module _ (f : Params) (w : List ℕ) where
   by-listed a (erased-message ks ss p d) =
       rw (p .index .pattern, p .index .whole, leb-holds (suc (written f w ks)) (placementCount f) (p .below), p .starts, p .agreed, d)
 
+in-list : (f : Params) (w : List ℕ) (a : ℕ) → Listed f w a → any (eqb a) patternRefusals ≡ true
+unfolding any
+in-list f w a (no-pattern _) = refl
+in-list f w a (erased-index _ _ _) = refl
+in-list f w a (too-large _ _ _) = refl
+in-list f w a (disagreeing _ _ _ _) = refl
+in-list f w a (erased-message _ _ _ _) = refl
+
+-- whatever the figures
+pub own-refusals : (f : Params) → OwnRefusals (constructionA f)
+own-refusals f w a e = in-list f w a (listed f w a e)
+
 pub demand-two : DemandTwo
-demand-two f i h = let ok = serve f i h in reads-exactly (constructionA f) (Listed f) (writes f ok) (exact f ok) (λ w a. (listed f w a, by-listed f w a))
+demand-two f i h =
+    let ok = serve f i h in
+    reads-exactly (constructionA f) (Listed f) (writes f ok) (exact f ok) (own-refusals f) (λ w a. (listed f w a, by-listed f w a))

@@ -5,7 +5,7 @@ use mathlib.Core.Bool.{true, false}
 use mathlib.Core.List.{List}
 use mathlib.Core.Option.{Option, none, some}
 use Prim.Native.Nat.{ℕ, _≤_, _<_}
-use Rattle.refusals.specs.Refusals.{noPattern, valueTooLarge, disagrees, erased}
+use Rattle.refusals.specs.Refusals.{noPattern, valueTooLarge, disagrees, erased, patternRefusals}
 use Rattle.cells.specs.Cells.{message, pick}
 use Rattle.cells.specs.Codec.{Codec, burstCodec}
 use Rattle.cells.specs.Codec as Any
@@ -16,7 +16,7 @@ use Rattle.construction_a.specs.Writing.{plan, word}
 use Rattle.construction_a.specs.Reading.{looksFixed, indexFound, firstSymbols, written, agrees, read}
 
 abbrev pub constructionA : Params → Codec
-constructionA f = burstCodec (f .n) (f .q) (f .b) (messageLen f) (isPlacement f) (word f) (read f)
+constructionA f = burstCodec (f .n) (f .q) (f .b) (messageLen f) (isPlacement f) (word f) (read f) patternRefusals
 
 -- the I-blocks that the listed patterns give
 abbrev pub found : Params → List ℕ → Option (List ℕ)

@@ -1,4 +1,4 @@
--- Document 01, "Figures of a strip", under Construction A; what every construction has of it is in cells/specs/Figures. Assumes nothing.
+-- Document 01, "Figures of a strip", under Construction A; what every code has of it is in cells/specs/Figures. Assumes nothing.
 use mathlib.Core.Bool.{Bool, cond, _&&_}
 use Prim.Native.Nat.{ℕ, _+_, _-_, _*_, _/_}
 use lib.Dec.{leb, ltb}

@@ -5,13 +5,14 @@ use mathlib.Core.List.{List, [], _∷_}
 use mathlib.Core.Option.{Option, none, some}
 use Prim.Native.Nat.{ℕ, suc, _-_, _≤_, _<_}
 use native.Mathlib.Omega.{arith}
-use lib.Dec.{leb}
-use Rattle.refusals.specs.Refusals.{must, noPattern, valueTooLarge, disagrees, erased}
+use lib.Dec.{eqb, leb}
+use Rattle.refusals.specs.Refusals.{must, noPattern, valueTooLarge, disagrees, erased, patternRefusals}
+use Rattle.combinatorics.specs.Lists.{any}
 use Rattle.combinatorics.proofs.Cases.{by-le, leb-holds, leb-fails}
 use Rattle.combinatorics.proofs.Lists.{below-at}
 use Rattle.combinatorics.proofs.Members.{length-tabulate}
 use Rattle.cells.specs.Cells.{message, pick}
-use Rattle.cells.specs.Codec.{accepted, refused, WritesWords, Exact}
+use Rattle.cells.specs.Codec.{accepted, refused, WritesWords, Exact, OwnRefusals}
 use Rattle.cells.specs.Digits.{spell, places}
 use Rattle.cells.specs.Erasures.{foundBound, hasErasure}
 use Rattle.cells.specs.Plan.{kindIn}
@@ -109,5 +110,19 @@ module _ (f : LongParams) (w : List ℕ) where
         d,
       )
 
+in-list : (f : LongParams) (w : List ℕ) (a : ℕ) → Listed f w a → any (eqb a) patternRefusals ≡ true
+unfolding any
+in-list f w a (no-pattern _) = refl
+in-list f w a (erased-index _ _ _) = refl
+in-list f w a (too-large _ _ _) = refl
+in-list f w a (before-word _ _ _ _) = refl
+in-list f w a (erased-message _ _ _ _) = refl
+
+-- whatever the figures
+pub own-refusals : (f : LongParams) → OwnRefusals (constructionB f)
+own-refusals f w a e = in-list f w a (listed f w a e)
+
 pub demand-two : DemandTwo
-demand-two f i h = let ok = serve f i h in reads-exactly (constructionB f) (Listed f) (writes f ok) (exact f ok) (λ w a. (listed f w a, by-listed f w a))
+demand-two f i h =
+    let ok = serve f i h in
+    reads-exactly (constructionB f) (Listed f) (writes f ok) (exact f ok) (own-refusals f) (λ w a. (listed f w a, by-listed f w a))

@@ -21,7 +21,7 @@ use Rattle.construction_b.specs.DemandTwo.{found}
 use Rattle.construction_b.specs.Figures.{LongParams, indexTail}
 use Rattle.construction_b.specs.Reading as B
 use Rattle.construction_b.proofs.Base.{asBase, parts-same, head-same, alone, pattern-same}
-use Rattle.params.specs.Given.{figuresOf, longOf, LongLayoutFits, codingWith, codingIn, LayoutFits, LayoutFitsWith, Serves}
+use Rattle.params.specs.Given.{figuresOf, longOf, LongLayoutFits, codingWith, blocksCoding, LayoutFits, LayoutFitsWith, BlocksServe}
 use Rattle.params.specs.declared.Layout.{Layout}
 use Rattle.params.specs.declared.Spells.{Spells}
 use Rattle.params.specs.declared.Spells.the-variants.{Rank, EndOffset}
@@ -90,22 +90,22 @@ alone-some (some i) ks e = let s : ks ≡ i ∷ [] = cc in rw s (refl, refl)
 
 -- ---- Either
 
-module _ (l : Layout) (g : Serves l) (w : List ℕ) where
-  read-is : codingIn l .codec .decode w ≡ readIndex (l .spells) l w (indexIn l w)
+module _ (l : Layout) (g : BlocksServe l) (w : List ℕ) where
+  read-is : blocksCoding l .codec .decode w ≡ readIndex (l .spells) l w (indexIn l w)
   read-is = go (l .spells) g
     where
       go : (s : Spells) → LayoutFitsWith s l → codingWith s (figuresOf l) .codec .decode w ≡ readIndex s l w (indexIn l w)
       go Rank h = read-ranked l h w
       go EndOffset h = read-long l h w
 
-  pub read-none : indexIn l w ≡ none → codingIn l .codec .decode w ≡ refused noPattern
+  pub read-none : indexIn l w ≡ none → blocksCoding l .codec .decode w ≡ refused noPattern
   read-none e = read-is ∙ ap (readIndex (l .spells) l w) e
 
   module _ (ks : List ℕ) (shown : indexIn l w ≡ some ks) where
     -- no value above q is left, so that an erasure is a symbol that is not below q
     module _ (known : allBelow (foundBound (l .q)) (firstSymbolsIn l w ks) ≡ true) where
-      pub read-erased : allBelow (l .q) (firstSymbolsIn l w ks) ≡ false → codingIn l .codec .decode w ≡ refused erased
+      pub read-erased : allBelow (l .q) (firstSymbolsIn l w ks) ≡ false → blocksCoding l .codec .decode w ≡ refused erased
       read-erased e = read-is ∙ ap (readIndex (l .spells) l w) shown ∙ rw (erasure-is (l .q) (firstSymbolsIn l w ks) known, e)
 
-      pub read-shown : allBelow (l .q) (firstSymbolsIn l w ks) ≡ true → codingIn l .codec .decode w ≡ readValue (l .spells) l w ks
+      pub read-shown : allBelow (l .q) (firstSymbolsIn l w ks) ≡ true → blocksCoding l .codec .decode w ≡ readValue (l .spells) l w ks
       read-shown e = read-is ∙ ap (readIndex (l .spells) l w) shown ∙ rw (erasure-is (l .q) (firstSymbolsIn l w ks) known, e)

@@ -26,7 +26,7 @@ use Rattle.construction_a.proofs.Ranking.{rank-bijection}
 use Rattle.params.specs.declared.Layout.{Layout}
 use Rattle.params.specs.declared.Spells.{Spells}
 use Rattle.params.specs.declared.Spells.the-variants.{Rank, EndOffset}
-use Rattle.params.specs.Given.{figuresOf, longOf, codingWith, codingIn, LayoutFits, LayoutFitsWith, Serves}
+use Rattle.params.specs.Given.{figuresOf, codingWith, blocksCoding, LayoutFits}
 use Rattle.params.proofs.Fitting.{served, shaped, plan-is}
 use Rattle.placements.specs.declared.Placement.{Placement}
 use Rattle.placements.specs.Bridge.{heldAs, PlacesBursts}
@@ -63,7 +63,7 @@ module _ (d : Coding) (w out : List ℕ) where
         decode-read e = rw (range, fit, eqb-same (length w) (d .codec .wordLen) whole, eqb-same (length out) (d .codec .messageLen) room, e)
 
 -- the test for 4, by the layout's own numbers
-pub found-in : (l : Layout) (w : List ℕ) → allBelow (codingIn l .codec .foundBound) w ≡ allBelow (foundBound (l .q)) w
+pub found-in : (l : Layout) (w : List ℕ) → allBelow (blocksCoding l .codec .foundBound) w ≡ allBelow (foundBound (l .q)) w
 found-in l w = go (l .spells)
   where
     go : (s : Spells) → allBelow (codingWith s (figuresOf l) .codec .foundBound) w ≡ allBelow (foundBound (l .q)) w
@@ -82,7 +82,7 @@ module _ (f : Params) (w ks : List ℕ) where
   disagreeing v below e = rw (leb-holds (suc v) (placementCount f) below, e)
 
 module _ (l : Layout) (g : LayoutFits l) where
-  ranked-coding : codingIn l ≡ coding (figuresOf l)
+  ranked-coding : blocksCoding l ≡ coding (figuresOf l)
   ranked-coding = ap (λ (s : Spells). codingWith s (figuresOf l)) (g .laid .spells-is)
 
   module _ (w ks : List ℕ) (v : ℕ) (below : v < placementCount (figuresOf l)) where
@@ -95,7 +95,7 @@ module _ (l : Layout) (g : LayoutFits l) where
         (ap (λ (p : List Cell). let ms = pick message p w in must (not (hasErasure (l .q) ms)) (refused erased) (accepted ss ms)) (sym (plan-is l g ss)))
 
   pub ranked-read : (w ks : List ℕ) (v : ℕ) → IndexRead (figuresOf l) w ks → v ≡ written (figuresOf l) w ks
-      → codingIn l .codec .decode w ≡ readRank (figuresOf l) w ks v
+      → blocksCoding l .codec .decode w ≡ readRank (figuresOf l) w ks v
   unfolding read
   ranked-read w ks v i e = ap (λ (d : Coding). d .codec .decode w) ranked-coding ∙ rw (i .pattern, i .whole, e)
 

@@ -25,7 +25,7 @@ use Rattle.construction_a.specs.DemandTwo as A
 use Rattle.construction_a.proofs.DemandTwo as A′
 use Rattle.construction_b.specs.DemandTwo as B
 use Rattle.construction_b.proofs.DemandTwo as B′
-use Rattle.params.specs.Given.{figuresOf, longOf, frameOf, codingWith, codingIn, LayoutFitsWith, Serves}
+use Rattle.params.specs.Given.{figuresOf, longOf, frameOf, codingWith, blocksCoding, LayoutFitsWith, BlocksServe}
 use Rattle.params.specs.declared.Layout.{Layout}
 use Rattle.params.specs.declared.Spells.{Spells}
 use Rattle.params.specs.declared.Spells.the-variants.{Rank, EndOffset}
@@ -67,8 +67,8 @@ module _ (c : Codec) (Listed : List ℕ → ℕ → Type 0) (two : ReadsExactly 
       (λ t. absurd (true≢false (sym (pick-small message (c .wordLen) kind w (c .alphabet) (none-taken t)) ∙ e)))
       (λ t. t ∙ sym e))
 
-module _ (l : Layout) (g : Serves l) (w : List ℕ) (complete : length w ≡ l .n) (found : allBelow (foundBound (l .q)) w ≡ true) (ss : List ℕ)
-    (read-as : codingIn l .codec .decode w ≡ readMessage l w ss) where
+module _ (l : Layout) (g : BlocksServe l) (w : List ℕ) (complete : length w ≡ l .n) (found : allBelow (foundBound (l .q)) w ≡ true) (ss : List ℕ)
+    (read-as : blocksCoding l .codec .decode w ≡ readMessage l w ss) where
   some-symbol : 0 < l .q
   some-symbol = omega (arith, bound l (in-shape l g) .q-least)
 

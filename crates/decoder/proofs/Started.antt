@@ -24,7 +24,7 @@ use Rattle.construction_b.specs.Reading.{before, written, endAt, readPart, read
 use Rattle.construction_b.proofs.Base.{head-same, length-below}
 use Rattle.construction_b.proofs.Figures.{part-rises, part-end, start-placed, count-is, counted}
 use Rattle.construction_b.proofs.Ranking.{burst-fits, start-ranked}
-use Rattle.params.specs.Given.{figuresOf, longOf, codingWith, codingIn, LongLayoutFits}
+use Rattle.params.specs.Given.{figuresOf, longOf, codingWith, blocksCoding, LongLayoutFits}
 use Rattle.params.specs.declared.Layout.{Layout}
 use Rattle.params.specs.declared.Spells.{Spells}
 use Rattle.params.proofs.LongFitting.{served-long, base-is, long-plan-is, long-shaped}
@@ -42,7 +42,7 @@ before-lt (suc (suc zero)) l = omega arith
 before-lt (suc (suc (suc i))) l = absurd (omega arith)
 
 module _ (l : Layout) (g : LongLayoutFits l) where
-  long-coding : codingIn l ≡ coding (longOf (figuresOf l))
+  long-coding : blocksCoding l ≡ coding (longOf (figuresOf l))
   long-coding = ap (λ (s : Spells). codingWith s (figuresOf l)) (g .laid .spells-is)
 
   -- a part is a block
@@ -98,7 +98,7 @@ module _ (l : Layout) (g : LongLayoutFits l) where
         (sym (long-plan-is l g (s ∷ []) placed)))
 
   pub long-read : (w : List ℕ) (i v : ℕ) → IndexRead (longOf (figuresOf l)) w i → v ≡ written (longOf (figuresOf l)) w i
-      → codingIn l .codec .decode w ≡ readPart (longOf (figuresOf l)) w (before i) v
+      → blocksCoding l .codec .decode w ≡ readPart (longOf (figuresOf l)) w (before i) v
   unfolding read
   long-read w i v h e = ap (λ (d : Coding). d .codec .decode w) long-coding ∙ rw (h .pattern, h .whole, e)
 

@@ -18,7 +18,7 @@ use Rattle.construction_a.specs.Reading.{written}
 use Rattle.construction_b.specs.DemandTwo as B
 use Rattle.construction_b.specs.Reading as B′
 use Rattle.params.specs.declared.Layout.{Layout}
-use Rattle.params.specs.Given.{figuresOf, longOf, frameOf, codingIn, LayoutFits, LongLayoutFits, Serves}
+use Rattle.params.specs.Given.{figuresOf, longOf, frameOf, blocksCoding, LayoutFits, LongLayoutFits, BlocksServe}
 use Rattle.placements.specs.declared.Placement.{Placement}
 use Rattle.placements.specs.Bridge.{heldAs, startsIn, PlacesBursts}
 use Rattle.heads.specs.Given.{CompleteWord}
@@ -33,7 +33,7 @@ readMessage l w ss =
 
 -- a layout of figures that fit; a complete word without values above q, whether all of it could be read, and a buffer of k symbols
 pub record WordLent (l : Layout) (whole : Bool) (w out : List ℕ) : Type 0 where
-  pub fitting : Serves l
+  pub fitting : BlocksServe l
   pub finding : CompleteWord l w
   pub found : allBelow (foundBound (l .q)) w ≡ true
   pub scanned : whole ≡ allBelow (l .q) w
@@ -60,7 +60,7 @@ pub record Located (l : Layout) (at : Placement) (v : ℕ) (whole : Bool) (w out
   pub placing : PlacesBursts l at
   pub is-held : heldAs at ≡ held (startsIn at)
   pub ranked : v ≡ rankOf (l .b) (startsIn at)
-  pub read-as : codingIn l .codec .decode w ≡ readMessage l w (startsIn at)
+  pub read-as : blocksCoding l .codec .decode w ≡ readMessage l w (startsIn at)
 
 -- two bytes for each start of an accepted word
 abbrev pub StartsFit : Decoded → List ℕ → Type 0

@@ -7,6 +7,7 @@ ghost use Rattle.cells.specs.Erasures.{foundBound};
 ghost use Rattle.params.specs.Given.{figuresOf, HeadsOf};
 ghost use Rattle.heads.specs.Written.{firstSymbolsIn, OpenHeads};
 use params::Layout;
+use params::found::found_bound;
 use placements::Placement;
 
 // Whether no value is above q: otherwise refusal 4.
@@ -17,7 +18,7 @@ pub fn can_be_found(layout: Layout, whole: bool, word: &[u8]) -> bool
     if whole {
         return true;
     }
-    symbols::all_below(word, layout.found_bound())
+    symbols::all_below(word, found_bound(layout.q))
 }
 
 // Whether the first r + 1 symbols of every index block could be read: otherwise refusal 19.

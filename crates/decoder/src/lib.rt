@@ -5,7 +5,7 @@ ghost use Prim.Native.Nat.{ℕ};
 ghost use lib.ListN.{take};
 ghost use Rattle.cells.specs.Outcomes.{unread as unreadAs, decodedFrom, decodeUnder};
 ghost use Rattle.construction_a.specs.Reading.{written, readRank};
-ghost use Rattle.params.specs.Given.{figuresOf, codingIn, Serves, HeadsOf};
+ghost use Rattle.params.specs.Given.{figuresOf, blocksCoding, BlocksServe, HeadsOf};
 ghost use Rattle.placements.specs.Bridge.{startsIn};
 ghost use Rattle.stretches.specs.ByBlock.{Tables};
 ghost use Rattle.decoder.specs.Answer.{decodedAs};
@@ -38,8 +38,8 @@ pub struct Decoded {
 // Word read for figures that fit: the rank and the placement of a found word of n symbols, and its message in a buffer of k, which keeps its contents where
 // the word is refused. Refusals: 3 4 7 19 8 9 19.
 pub fn decode_fitting(layout: Layout, word: &[u8], message: &mut [u8]) -> Decoded
-    requires { ⌜ Serves layout ⌝ }
-    ensures { λ r. ⌜ decodedAs r (now (message .exit)) ≡ decodeUnder (codingIn layout) (now (word .entry)) (now (message .entry)) ⌝ }
+    requires { ⌜ BlocksServe layout ⌝ }
+    ensures { λ r. ⌜ decodedAs r (now (message .exit)) ≡ decodeUnder (blocksCoding layout) (now (word .entry)) (now (message .entry)) ⌝ }
 {
     if word.len() != layout.n {
         return unread(Refusal::LENGTH);
@@ -65,7 +65,7 @@ fn decode_found(
     message: &mut [u8],
 ) -> Decoded
     requires { ⌜ WordLent layout whole (now word) (now message) × HeadsOf (figuresOf layout) (now heads) ⌝ }
-    ensures { λ r. ⌜ decodedAs r (now (message .exit)) ≡ decodedFrom (layout .b) (now (message .entry)) (codingIn layout .codec .decode (now (word .entry))) ⌝ }
+    ensures { λ r. ⌜ decodedAs r (now (message .exit)) ≡ decodedFrom (layout .b) (now (message .entry)) (blocksCoding layout .codec .decode (now (word .entry))) ⌝ }
 {
     let shown = heads::pattern::index_read(layout, heads, word);
     if !shown.found {

@@ -8,9 +8,6 @@ use lib.Dec.{eqb}
 use lib.ListN.{length}
 use Rattle.refusals.specs.Refusals.{must, served, invalid, wrongLength, badRecord}
 use Rattle.combinatorics.specs.Lists.{all, any}
-use Rattle.cells.specs.Figures.{Params, inRange}
-use Rattle.construction_a.specs.Figures.{fits}
-use Rattle.construction_a.specs.Outcomes.{coding}
 use Rattle.cells.specs.Outcomes.{Coding, Held, held, unwritten, coverUnder}
 use Rattle.cells.specs.Outcomes.{WordAnswer, rankIs, refusal, answerNumber, decodeUnder}
 use Rattle.jobs.specs.Jobs.{Kind, opening, cancelling, finishing, reinstating, holding, releasing}
@@ -24,8 +21,7 @@ use Rattle.lent.specs.Covering.{CoverLent, coverBytesUnder}
 use Rattle.lent.specs.Jobs.{jobWriteBytesUnder, jobReadBytesUnder}
 use Rattle.lent.specs.Words.{encodeBytesUnder}
 use Rattle.lent.specs.Table.{tableLen, statesKnown, tableIn}
-use Rattle.verifier.specs.Verify.{verifyOut}
-use Rattle.exports.specs.Words.{verifyBytesOut}
+use Rattle.lent.specs.Check.{verifyBytesUnder}
 use Rattle.exports.specs.Jobs.{CallLent, called, calledAs, callBytesOut}
 use Rattle.demands.specs.Orders.{wordWrite, covering, jobWrite, call}
 use Rattle.demands.specs.Orders.{callOnBytes}
@@ -44,13 +40,13 @@ word-write-bytes d starts ms out =
     (tested P (eqb (length starts) (2 * d .bursts)) (keep refl refl)
     (word-write d _ ms out)))
 
-pub verify-bytes : (f : Params) (starts ms w : List ℕ) → ChecksBy (verifyBytesOut f starts ms w)
-unfolding verifyBytesOut verifyOut any
-verify-bytes f starts ms w =
-    tested ChecksBy (inRange f) (turned-away 0 refl refl)
-    (tested ChecksBy (fits f) (turned-away 1 refl refl)
-    (tested ChecksBy (eqb (length starts) (2 * f .m)) (turned-away 2 refl refl)
-    (verify (coding f) _ ms w)))
+pub verify-bytes : (d : Coding) (starts ms w : List ℕ) → ChecksBy (verifyBytesUnder d starts ms w)
+unfolding verifyBytesUnder any
+verify-bytes d starts ms w =
+    tested ChecksBy (d .inRange) (turned-away 0 refl refl)
+    (tested ChecksBy (d .fits) (turned-away 1 refl refl)
+    (tested ChecksBy (eqb (length starts) (2 * d .bursts)) (turned-away 2 refl refl)
+    (verify d _ ms w)))
 
 module _ (starts : List ℕ) where
   abbrev CoversIn : CoverLent → Type 0

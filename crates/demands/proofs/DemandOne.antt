@@ -11,17 +11,15 @@ use Rattle.codes.specs.declared.Figures.{Figures}
 use Rattle.codes.specs.declared.Figures.the-variants.{Ranked, Long, Larsson}
 use Rattle.params.specs.Bridge.{given, givenLong}
 use Rattle.codes.specs.Bridge.{codingOf}
-use Rattle.construction_a.proofs.DemandTwo.{demand-two}
-use Rattle.construction_b.proofs.DemandTwo.{demand-two as demand-two-b}
+use Rattle.codes.proofs.Exact.{demand-two}
 use Rattle.construction_a.proofs.Ranking.{faithful}
 use Rattle.construction_b.proofs.Ranking.{faithful as faithful-b}
-use Rattle.larsson.proofs.Exact.{larsson-exact}
 use Rattle.larsson.proofs.Figures.{serve}
 use Rattle.larsson.proofs.Ranking.{covers-least}
 use Rattle.ledger.proofs.Simulates.{simulation}
-use Rattle.demands.specs.Orders.{mannerOf, wordRead, jobRead, prescriptionRead}
-use Rattle.demands.proofs.Answering.{owns, word-order, job-order, prescription-order}
-use Rattle.demands.proofs.Moves.{move-to-a, move-to-larsson, move-to-a-bytes, move-to-larsson-bytes}
+use Rattle.demands.specs.Orders.{ownOf, wordRead, jobRead, prescriptionRead}
+use Rattle.demands.proofs.Answering.{owns, orders}
+use Rattle.demands.proofs.Moves.{move, move-bytes}
 use Rattle.demands.proofs.Prescriptions.{transpose, spherical-equivalent, read-text, write-text, prescription-write, prescription-read}
 use Rattle.demands.proofs.Prescriptions.{transpose-lent, equivalent-lent, prescription-write-bytes, prescription-read-bytes}
 use Rattle.demands.proofs.Words.{figures-alone, word-write, cover, word-read, ReadsBehind, behind, verify}
@@ -38,10 +36,8 @@ cover-conditions (Long p) i h map = faithful-b (givenLong p) i h .covers (defect
 cover-conditions (Larsson p) i h map = covers-least (given p) (serve (given p) i h) (defectAt map)
 
 -- each code's reading, behind the tests of its lengths and symbols
-reads-behind : (f : Figures) → ReadsBehind (wordRead (mannerOf f)) (codingOf f)
-reads-behind f =
-    let o = word-order (mannerOf f) in
-    behind (wordRead (mannerOf f)) (o .0 .numbers) (codingOf f) (owns f (wordRead (mannerOf f)) (o .1))
+reads-behind : (f : Figures) → ReadsBehind (wordRead (ownOf f)) (codingOf f)
+reads-behind f = behind (wordRead (ownOf f)) (orders f .word .numbers) (codingOf f) (owns f (wordRead (ownOf f)) (orders f .word-own))
 
 pub demand-one : DemandOne
 demand-one =
@@ -49,7 +45,7 @@ demand-one =
       figures-alone = λ f. figures-alone (codingOf f);
       word-write = λ f. word-write (codingOf f);
       cover = λ f. cover (codingOf f);
-      word-read = λ f. word-read (wordRead (mannerOf f)) (word-order (mannerOf f) .0) (codingOf f) (reads-behind f);
+      word-read = λ f. word-read (wordRead (ownOf f)) (orders f .word) (codingOf f) (reads-behind f);
       interleave = λ f. interleave (codingOf f);
       deinterleave = λ f. deinterleave (codingOf f);
       verify = λ f. verify (codingOf f);
@@ -62,38 +58,34 @@ demand-one =
       call-by = λ k es n. call-by es k n;
       replay = replay;
       job-write = λ f. job-write (codingOf f);
-      job-read = λ f. job-read (jobRead (mannerOf f)) (job-order (mannerOf f) .0) (codingOf f) (owns f _ (job-order (mannerOf f) .1));
-      list-and-read = λ f. list-and-read (jobRead (mannerOf f)) (job-order (mannerOf f) .0) (codingOf f) (owns f _ (job-order (mannerOf f) .1));
-      move-to-a = move-to-a;
-      move-to-larsson = move-to-larsson;
+      job-read = λ f. job-read (jobRead (ownOf f)) (orders f .job) (codingOf f) (owns f _ (orders f .job-own));
+      list-and-read = λ f. list-and-read (jobRead (ownOf f)) (orders f .job) (codingOf f) (owns f _ (orders f .job-own));
+      move = move;
       transpose = transpose;
       spherical-equivalent = spherical-equivalent;
       read-text = read-text;
       write-text = λ p text. write-text text p;
       prescription-write = λ f es at n p out. prescription-write (codingOf f) es at n out p;
       prescription-read = λ f.
-          let o = prescription-order (mannerOf f) in
-          prescription-read (prescriptionRead (mannerOf f)) (o .0) (o .2) (codingOf f) (owns f _ (o .1));
+          let o = orders f in
+          prescription-read (prescriptionRead (ownOf f)) (o .prescription) (o .sixteen) (codingOf f) (owns f _ (o .prescription-own));
       word-read-bytes = λ f w out starts.
-          word-read-bytes out starts (wordRead (mannerOf f)) (word-order (mannerOf f) .0) (codingOf f) (reads-behind f) w;
+          word-read-bytes out starts (wordRead (ownOf f)) (orders f .word) (codingOf f) (reads-behind f) w;
       word-write-bytes = λ f. word-write-bytes (codingOf f);
-      verify-bytes = verify-bytes;
+      verify-bytes = λ f. verify-bytes (codingOf f);
       cover-bytes = λ f map starts. cover-bytes starts (codingOf f) map;
       call-bytes = call-bytes;
       job-write-bytes = λ f. job-write-bytes (codingOf f);
-      job-read-bytes = λ f. job-read-bytes (jobRead (mannerOf f)) (job-order (mannerOf f) .0) (codingOf f) (owns f _ (job-order (mannerOf f) .1));
-      move-to-a-bytes = move-to-a-bytes;
-      move-to-larsson-bytes = move-to-larsson-bytes;
+      job-read-bytes = λ f. job-read-bytes (jobRead (ownOf f)) (orders f .job) (codingOf f) (owns f _ (orders f .job-own));
+      move-bytes = move-bytes;
       transpose-lent = λ e marks powers. transpose-lent marks powers e;
       equivalent-lent = λ e power. equivalent-lent power e;
       prescription-write-bytes = λ f. prescription-write-bytes (codingOf f);
       prescription-read-bytes = λ f table w marks powers.
-          let o = prescription-order (mannerOf f) in
-          prescription-read-bytes marks powers (prescriptionRead (mannerOf f)) (o .0) (o .2) (codingOf f) (owns f _ (o .1)) table w;
+          let o = orders f in
+          prescription-read-bytes marks powers (prescriptionRead (ownOf f)) (o .prescription) (o .sixteen) (codingOf f) (owns f _ (o .prescription-own)) table w;
       step = step;
       table-conditions = simulation;
       cover-conditions = cover-conditions;
       read-conditions = demand-two;
-      long-read-conditions = demand-two-b;
-      larsson-read-conditions = larsson-exact;
     }

@@ -33,7 +33,7 @@ use Rattle.exports.proofs.Follows.{bytes-left, bytes-follow}
 use Rattle.lent.proofs.JobLaws.{read-whole}
 use Rattle.records.specs.Session.{Session, atStart, maxRecords, nextSession}
 use Rattle.lines.specs.Lines.{refusalLine, letterS, letterL, letterR}
-use Rattle.records.specs.Records.{recordHeadLen, isMarked, letterOf, current, payloadLenOf, recordLen, readable, figuresIn, longFiguresIn}
+use Rattle.records.specs.Records.{recordHeadLen, isMarked, letterOf, current, payloadLenOf, recordLen, readable}
 use Rattle.transfer.specs.Steps.{Step, figuresStep, callStep, readStep, readOut, stepOut}
 use Rattle.transfer.proofs.Serving.{step-serves, serve-S, serve-L, serve-R, serve-call-is}
 use Rattle.demands.specs.DemandThree.{BytesClaimed, sessionAfter, linesOf, isRecord, isCall, figuresCarried, callsIn, answerLines, IsSession}

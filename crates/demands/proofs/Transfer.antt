@@ -9,6 +9,7 @@ use lib.Dec.{eqb, ltb}
 use lib.ListN.{take, drop, replicate}
 use Rattle.refusals.specs.Refusals.{must, served, invalid, unfit}
 use Rattle.combinatorics.specs.Lists.{any}
+use Rattle.combinatorics.proofs.Lists.{in-all}
 use Rattle.combinatorics.proofs.Cases.{by-eq, eqb-true, eqb-other}
 use Rattle.cells.specs.Figures.{inRange}
 use Rattle.construction_a.specs.Figures.{fits, messageLen}
@@ -26,8 +27,8 @@ use Rattle.records.specs.Session.{Session, maxRecords, nextSession}
 use Rattle.lines.specs.Lines.{refusalLine, servedLine, letterS, letterL, letterW, letterR}
 use Rattle.records.specs.Records.{recordHeadLen, letterOf, isEmpty, current, payloadLenOf, figuresIn, longFiguresIn, recordStarts, payloadOf, readable}
 use Rattle.transfer.specs.Steps.{Step, stopped, ended, goesOn, figuresStep, callStep, jobStep, writeOut, readOut, serveOut, stepOut}
-use Rattle.demands.specs.Orders.{mannerOf, jobWrite, jobRead, callByLetter}
-use Rattle.demands.proofs.Answering.{tested, in-all, owns, job-order}
+use Rattle.demands.specs.Orders.{ownOf, jobWrite, jobRead, callByLetter}
+use Rattle.demands.proofs.Answering.{tested, owns, orders}
 use Rattle.demands.proofs.Jobs.{call-by, job-write, job-read}
 use Rattle.demands.specs.DemandOne.{AnswersBy, StepAnswers, at-end, stops, refuses, serves}
 
@@ -77,9 +78,9 @@ module _ (s : Session) (letter : ℕ) (bytes : List ℕ) where
       let d = codingOf f in
       let zeros : List ℕ = replicate (payloadLenOf f) 0 in
       let o = jobReadUnder d (s .table) (drop recordHeadLen bytes) zeros in
-      let m = mannerOf f in
-      rw (← e) (job-step (jobRead m) (o .answer) (hex (take 4 (o .payload)) ∷ hex (drop 4 (o .payload)) ∷ [])
-      (job-read (jobRead m) (job-order m .0) d (owns f (jobRead m) (job-order m .1)) (s .table) (drop recordHeadLen bytes) zeros))
+      let own = ownOf f in
+      rw (← e) (job-step (jobRead own) (o .answer) (hex (take 4 (o .payload)) ∷ hex (drop 4 (o .payload)) ∷ [])
+      (job-read (jobRead own) (orders f .job) d (owns f (jobRead own) (orders f .job-own)) (s .table) (drop recordHeadLen bytes) zeros))
 
   served-step : Answers (serveOut s letter bytes)
   unfolding serveOut

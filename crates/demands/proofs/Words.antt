@@ -6,21 +6,19 @@ use Prim.Native.Nat.{ℕ, suc, _*_}
 use native.Mathlib.Omega.{arith}
 use lib.Dec.{eqb, ltb}
 use lib.ListN.{length}
-use Rattle.refusals.specs.Refusals.{served, invalid, unfit, wrongLength, badSymbol}
+use Rattle.refusals.specs.Refusals.{served}
 use Rattle.combinatorics.specs.Lists.{all, any, allBelow}
 use Rattle.combinatorics.specs.Bursts.{apart, coverRank}
 use Rattle.cells.specs.Erasures.{foundBound}
-use Rattle.cells.specs.Figures.{Params, inRange}
+use Rattle.cells.specs.Figures.{inRange}
 use Rattle.construction_a.specs.Figures.{fits, messageLen}
 use Rattle.cells.specs.Outcomes.{Coding, Held, held, inUse, FiguresOut, figuresNumber, figuresUnder, encodeUnder, defectAt, Covered, coverUnder}
 use Rattle.cells.specs.Outcomes.{refusal, answerNumber, Decoded, decodedFrom, decodeUnder}
-use Rattle.construction_a.specs.DemandTwo.{constructionA}
-use Rattle.larsson.specs.Outcomes.{coding as larssonCoding}
 use Rattle.jobcodec.specs.DemandThree.{isRefusal}
 use Rattle.lanes.specs.Interleaving.{inDepth, interleaved, deinterleaved}
 use Rattle.lanes.specs.Outcomes.{Rearranged, rearranged, interleaveUnder, deinterleaveUnder}
 use Rattle.verifier.specs.Verify.{agreesOutside, agreeing, differing, unchecked, verifyUnder}
-use Rattle.exports.specs.Words.{differs}
+use Rattle.lent.specs.Check.{differs}
 use Rattle.demands.specs.Orders.{figuresAlone, wordWrite, covering, rearrangement}
 use Rattle.demands.proofs.Answering.{keep, done, tested, Owns, by-own, Begins}
 use Rattle.demands.proofs.Answering.{Writes}

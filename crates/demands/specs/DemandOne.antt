@@ -14,12 +14,9 @@ use Rattle.refusals.specs.Refusals.{served}
 use Rattle.combinatorics.specs.Lists.{all, any}
 use Rattle.cells.specs.Outcomes.{Held, held, figuresNumber, figuresUnder, encodeUnder, defectAt, coverUnder, answerNumber, decodeUnder}
 use Rattle.cells.specs.Ranking.{CoversLeast}
-use Rattle.cells.specs.Figures.{Params}
-use Rattle.construction_a.specs.DemandTwo.{DemandTwo}
-use Rattle.construction_b.specs.DemandTwo as B
-use Rattle.larsson.specs.Codec.{LarssonExact}
 use Rattle.codes.specs.declared.Figures.{Figures}
 use Rattle.codes.specs.Bridge.{codingOf}
+use Rattle.codes.specs.DemandTwo.{DemandTwo}
 use Rattle.jobs.specs.declared.Entry.{Entry}
 use Rattle.jobs.specs.Jobs.{Kind, opening, cancelling, finishing, reinstating, holding, releasing}
 use Rattle.jobs.specs.Letters.{listKind, callBy}
@@ -36,22 +33,22 @@ use Rattle.prescription.specs.declared.texts.Prescription.{Prescription}
 use Rattle.prescription.specs.Outcomes.{transposeOut, equivalentOut, readTextOut, writeTextOut}
 use Rattle.prescriptioncodec.specs.PrescriptionWrite.{prescriptionWriteUnder}
 use Rattle.prescriptioncodec.specs.PrescriptionRead.{prescriptionReadUnder}
-use Rattle.moving.specs.Move.{toConstructionA, toLarsson}
+use Rattle.moving.specs.Move.{moveUnder}
 use Rattle.lanes.specs.Outcomes.{interleaveUnder, deinterleaveUnder}
 use Rattle.verifier.specs.Verify.{Verdict, agreeing, verdictRefusal, verifyUnder}
+use Rattle.lent.specs.Check.{differs, verdictNumber, verifyBytesUnder}
 use Rattle.lent.specs.Covering.{coverBytesUnder}
 use Rattle.lent.specs.Jobs.{jobWriteBytesUnder, jobReadBytesUnder}
 use Rattle.lent.specs.Words.{encodeBytesUnder}
-use Rattle.lent_moving.specs.Moves.{toConstructionABytes, toLarssonBytes}
+use Rattle.lent_moving.specs.Moves.{moveBytesUnder}
 use Rattle.lent_prescriptions.specs.Eyes.{PowersLent, transposeLent, equivalentLent}
 use Rattle.lent_prescriptions.specs.Prescriptions.{prescriptionWriteBytesUnder, prescriptionReadBytesUnder}
-use Rattle.exports.specs.Words.{differs, verdictNumber, verifyBytesOut}
 use Rattle.exports.specs.Jobs.{callBytesOut}
 use Rattle.records.specs.Session.{Session, nextSession}
 use Rattle.lines.specs.Lines.{refusalLine, servedLine}
 use Rattle.records.specs.Records.{letterOf}
 use Rattle.transfer.specs.Steps.{Step, stopped, ended, goesOn, stepOut}
-use Rattle.demands.specs.Orders.{mannerOf, figuresAlone, wordWrite, covering, wordRead, rearrangement, jobWrite, jobRead, moveToA, moveToLarsson}
+use Rattle.demands.specs.Orders.{ownOf, figuresAlone, wordWrite, covering, wordRead, rearrangement, jobWrite, jobRead, moving}
 use Rattle.demands.specs.Orders.{prescriptionAlone, prescriptionWrite, prescriptionRead, prescriptionLent, call, callByLetter, callOnBytes}
 use Rattle.demands.specs.Orders.{listOfCalls}
 
@@ -100,7 +97,7 @@ pub record DemandOne : Type 0 where
   pub cover : (f : Figures) (map : List ℕ)
       → AnswersBy covering (coverUnder (codingOf f) map .answer) (held []) (coverUnder (codingOf f) map .placement)
   pub word-read : (f : Figures) (w out : List ℕ)
-      → AnswersBy {A = Held × List ℕ} (wordRead (mannerOf f)) (answerNumber (decodeUnder (codingOf f) w out .answer)) (held [], out)
+      → AnswersBy {A = Held × List ℕ} (wordRead (ownOf f)) (answerNumber (decodeUnder (codingOf f) w out .answer)) (held [], out)
       (decodeUnder (codingOf f) w out .placement, decodeUnder (codingOf f) w out .message)
   -- words side by side; the functions for other languages have these outcomes too
   pub interleave : (f : Figures) (d : ℕ) (words out : List ℕ)
@@ -124,14 +121,12 @@ pub record DemandOne : Type 0 where
   pub job-write : (f : Figures) (es : List Entry) (at : Held) (payload out : List ℕ)
       → AnswersBy jobWrite (jobWriteUnder (codingOf f) es at payload out .answer) out (jobWriteUnder (codingOf f) es at payload out .word)
   pub job-read : (f : Figures) (es : List Entry) (w out : List ℕ)
-      → AnswersBy (jobRead (mannerOf f)) (jobReadUnder (codingOf f) es w out .answer) out (jobReadUnder (codingOf f) es w out .payload)
+      → AnswersBy (jobRead (ownOf f)) (jobReadUnder (codingOf f) es w out .answer) out (jobReadUnder (codingOf f) es w out .payload)
   pub list-and-read : (f : Figures) (es : List Entry) (letters numbers answers w out : List ℕ)
-      → ListAnswers (jobRead (mannerOf f)) (listOut (codingOf f) es letters numbers answers w out .answer) answers out (listOut (codingOf f) es letters numbers answers w out)
-  -- ---- Moving a job between the Larsson code and Construction A; "Only the output strip changes."
-  pub move-to-a : (f : Params) (es : List Entry) (w out : List ℕ)
-      → AnswersBy moveToA (toConstructionA f es w out .answer) out (toConstructionA f es w out .word)
-  pub move-to-larsson : (f : Params) (es : List Entry) (w out : List ℕ)
-      → AnswersBy moveToLarsson (toLarsson f es w out .answer) out (toLarsson f es w out .word)
+      → ListAnswers (jobRead (ownOf f)) (listOut (codingOf f) es letters numbers answers w out .answer) answers out (listOut (codingOf f) es letters numbers answers w out)
+  -- ---- Moving a job from one code to another; "Only the output strip changes."
+  pub move : (f g : Figures) (es : List Entry) (w out : List ℕ)
+      → AnswersBy (moving (ownOf f)) (moveUnder (codingOf f) (codingOf g) es w out .answer) out (moveUnder (codingOf f) (codingOf g) es w out .word)
   -- ---- Prescriptions. A refusal has no value beside it.
   pub transpose : (e : Eye) → AnswersBy prescriptionAlone (transposeOut e .number) none (transposeOut e .value)
   pub spherical-equivalent : (e : Eye) → AnswersBy prescriptionAlone (equivalentOut e .number) none (equivalentOut e .value)
@@ -140,14 +135,14 @@ pub record DemandOne : Type 0 where
   pub prescription-write : (f : Figures) (es : List Entry) (at : Held) (n : ℕ) (p : Prescription) (out : List ℕ)
       → AnswersBy prescriptionWrite (prescriptionWriteUnder (codingOf f) es at n p out .answer) out (prescriptionWriteUnder (codingOf f) es at n p out .word)
   pub prescription-read : (f : Figures) (es : List Entry) (w : List ℕ)
-      → AnswersBy (prescriptionRead (mannerOf f)) (prescriptionReadUnder (codingOf f) es w .number) none (prescriptionReadUnder (codingOf f) es w .value)
+      → AnswersBy (prescriptionRead (ownOf f)) (prescriptionReadUnder (codingOf f) es w .number) none (prescriptionReadUnder (codingOf f) es w .value)
   -- ---- For other languages
   pub word-read-bytes : (f : Figures) (w out starts : List ℕ)
-      → AnswersBy {A = List ℕ × List ℕ} (wordRead (mannerOf f)) (exportedUnder (codingOf f) w out starts .answer) (out, starts)
+      → AnswersBy {A = List ℕ × List ℕ} (wordRead (ownOf f)) (exportedUnder (codingOf f) w out starts .answer) (out, starts)
       (exportedUnder (codingOf f) w out starts .message, exportedUnder (codingOf f) w out starts .starts)
   pub word-write-bytes : (f : Figures) (starts ms out : List ℕ)
       → AnswersBy wordWrite (encodeBytesUnder (codingOf f) starts ms out .answer) out (encodeBytesUnder (codingOf f) starts ms out .word)
-  pub verify-bytes : (f : Params) (starts ms w : List ℕ) → ChecksBy (verifyBytesOut f starts ms w)
+  pub verify-bytes : (f : Figures) (starts ms w : List ℕ) → ChecksBy (verifyBytesUnder (codingOf f) starts ms w)
   pub cover-bytes : (f : Figures) (map starts : List ℕ)
       → AnswersBy covering (coverBytesUnder (codingOf f) map starts .answer) starts (coverBytesUnder (codingOf f) map starts .starts)
   pub call-bytes : (table : List ℕ) (letter number : ℕ)
@@ -156,11 +151,10 @@ pub record DemandOne : Type 0 where
       → AnswersBy jobWrite (jobWriteBytesUnder (codingOf f) table starts payload out .answer) out
       (jobWriteBytesUnder (codingOf f) table starts payload out .word)
   pub job-read-bytes : (f : Figures) (table w out : List ℕ)
-      → AnswersBy (jobRead (mannerOf f)) (jobReadBytesUnder (codingOf f) table w out .answer) out (jobReadBytesUnder (codingOf f) table w out .payload)
-  pub move-to-a-bytes : (f : Params) (table w out : List ℕ)
-      → AnswersBy moveToA (toConstructionABytes f table w out .answer) out (toConstructionABytes f table w out .word)
-  pub move-to-larsson-bytes : (f : Params) (table w out : List ℕ)
-      → AnswersBy moveToLarsson (toLarssonBytes f table w out .answer) out (toLarssonBytes f table w out .word)
+      → AnswersBy (jobRead (ownOf f)) (jobReadBytesUnder (codingOf f) table w out .answer) out (jobReadBytesUnder (codingOf f) table w out .payload)
+  pub move-bytes : (f g : Figures) (table w out : List ℕ)
+      → AnswersBy (moving (ownOf f)) (moveBytesUnder (codingOf f) (codingOf g) table w out .answer) out
+      (moveBytesUnder (codingOf f) (codingOf g) table w out .word)
   pub transpose-lent : (e : Eye) (marks : List ℕ) (powers : List Float) → AnswersLent prescriptionLent marks powers (transposeLent e marks powers)
   pub equivalent-lent : (e : Eye) (power : List Float)
       → AnswersBy prescriptionLent (equivalentLent e power .answer) power (equivalentLent e power .power)
@@ -168,7 +162,7 @@ pub record DemandOne : Type 0 where
       → AnswersBy prescriptionWrite (prescriptionWriteBytesUnder (codingOf f) table starts n p out .answer) out
       (prescriptionWriteBytesUnder (codingOf f) table starts n p out .word)
   pub prescription-read-bytes : (f : Figures) (table w marks : List ℕ) (powers : List Float)
-      → AnswersLent (prescriptionRead (mannerOf f)) marks powers (prescriptionReadBytesUnder (codingOf f) table w marks powers)
+      → AnswersLent (prescriptionRead (ownOf f)) marks powers (prescriptionReadBytesUnder (codingOf f) table w marks powers)
   -- ---- The transfer program
   pub step : (s : Session) (bytes : List ℕ) → StepAnswers s (letterOf bytes) (stepOut s bytes)
   -- ---- "Each number comes under its condition and under no other": those of the table as the ledger has them, 6 where no placement covers the map,
@@ -176,5 +170,3 @@ pub record DemandOne : Type 0 where
   pub table-conditions : Simulation
   pub cover-conditions : (f : Figures) → codingOf f .inRange ≡ true → codingOf f .fits ≡ true → (map : List ℕ) → CoversLeast (codingOf f) (defectAt map)
   pub read-conditions : DemandTwo
-  pub long-read-conditions : B.DemandTwo
-  pub larsson-read-conditions : LarssonExact

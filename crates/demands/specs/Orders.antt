@@ -2,14 +2,13 @@
 -- others"; ticket 7: 20, "after 1"; ticket 10: 23, "after 12 and before 14", and 24, "after 12"; ticket 5: 18; ticket 6: 19;
 -- ticket 8: 21; ticket 2: 16; ticket 9: 22. Where lent bytes add a refusal, it stands at its place. Which of them comes first is seen in the outcomes.
 -- Assumes nothing.
-use mathlib.Core.List.{List, [], _∷_}
+use mathlib.Core.List.{List, [], _∷_, _++_}
 use mathlib.Core.Option.{Option, none, some}
 use Prim.Native.Nat.{ℕ}
-use Rattle.refusals.specs.Refusals.{invalid, unfit, wrongLength, badSymbol, badStarts, uncovered, noPattern, valueTooLarge, disagrees, erased, noMajority}
-use Rattle.refusals.specs.Refusals.{badPayload, badRecord, badPrescription, badDepth, surplusBytes, jobCancelled, alreadyOpen, notOpen, tableFull}
+use Rattle.refusals.specs.Refusals.{invalid, unfit, wrongLength, badSymbol, badStarts, uncovered, badPayload, badRecord, badPrescription, badDepth, surplusBytes, jobCancelled, alreadyOpen, notOpen, tableFull}
 use Rattle.refusals.specs.Refusals.{numberZero, notCancelled, jobHeld, notHeld}
 use Rattle.codes.specs.declared.Figures.{Figures}
-use Rattle.codes.specs.declared.Figures.the-variants.{Ranked, Long, Larsson}
+use Rattle.codes.specs.Bridge.{codingOf}
 use Rattle.jobs.specs.Jobs.{Kind, opening, cancelling, finishing, reinstating, holding, releasing}
 
 -- "figures alone 1 2"
@@ -24,20 +23,13 @@ wordWrite = invalid ∷ unfit ∷ wrongLength ∷ badStarts ∷ badSymbol ∷ []
 abbrev pub covering : List ℕ
 covering = invalid ∷ unfit ∷ wrongLength ∷ badSymbol ∷ uncovered ∷ []
 
--- how a code's reader comes to the placement: by the pattern of the blocks, as both constructions have it, or by the majority of the sub-blocks
-pub data Manner : Type 0 where
-  byPattern byMajority : Manner
+-- what a code's reader refuses a found word with: 7 19 8 9 19, or 21 8 9 19
+abbrev pub ownOf : Figures → List ℕ
+ownOf f = codingOf f .codec .wordRefusals
 
-abbrev pub mannerOf : Figures → Manner
-mannerOf (Ranked p) = byPattern
-mannerOf (Long p) = byPattern
-mannerOf (Larsson p) = byMajority
-
--- "word read 1 2 3 4 7 8 9", with 19 "between 7 and 8" and "after 9"; document 02, "The older trays": 21 "in the place of 7", and "a silent cell in the
--- message is 19"
-abbrev pub wordRead : Manner → List ℕ
-wordRead byPattern = invalid ∷ unfit ∷ wrongLength ∷ badSymbol ∷ noPattern ∷ erased ∷ valueTooLarge ∷ disagrees ∷ erased ∷ []
-wordRead byMajority = invalid ∷ unfit ∷ wrongLength ∷ badSymbol ∷ noMajority ∷ valueTooLarge ∷ disagrees ∷ erased ∷ []
+-- "word read 1 2 3 4 7 8 9", with the code's own in the place of 7 8 9
+abbrev pub wordRead : List ℕ → List ℕ
+wordRead own = invalid ∷ unfit ∷ wrongLength ∷ badSymbol ∷ own
 
 -- document 02, "Strips side by side": 18 "right after 2 and before 3 and 4"
 abbrev pub rearrangement : List ℕ
@@ -47,28 +39,18 @@ rearrangement = invalid ∷ unfit ∷ badDepth ∷ wrongLength ∷ badSymbol ∷
 abbrev pub jobWrite : List ℕ
 jobWrite = invalid ∷ unfit ∷ badPayload ∷ wrongLength ∷ badStarts ∷ numberZero ∷ jobCancelled ∷ jobHeld ∷ notOpen ∷ []
 
--- "job read 1 2, 10 for K, 3 4 7 8 9, 10, 12 14", with 19 and 21 as in word read and 23 before 14
-abbrev pub jobRead : Manner → List ℕ
-jobRead byPattern =
-    invalid ∷ unfit ∷ badPayload ∷ wrongLength ∷ badSymbol ∷ noPattern ∷ erased ∷ valueTooLarge ∷ disagrees ∷ erased ∷ badPayload
-    ∷ jobCancelled ∷ jobHeld ∷ notOpen ∷ []
-jobRead byMajority =
-    invalid ∷ unfit ∷ badPayload ∷ wrongLength ∷ badSymbol ∷ noMajority ∷ valueTooLarge ∷ disagrees ∷ erased ∷ badPayload
-    ∷ jobCancelled ∷ jobHeld ∷ notOpen ∷ []
+-- "job read 1 2, 10 for K, 3 4 7 8 9, 10, 12 14", likewise, and 23 before 14
+abbrev pub jobRead : List ℕ → List ℕ
+jobRead own = invalid ∷ unfit ∷ badPayload ∷ wrongLength ∷ badSymbol ∷ (own ++ badPayload ∷ jobCancelled ∷ jobHeld ∷ notOpen ∷ [])
 
 -- document 02, "Moving the racks over", once a word is accepted: the reader's "10, 12 14" with 23 before 14, then "22, after the reader's refusals and before
 -- the writer's 17"
 abbrev pub moveAccepted : List ℕ
 moveAccepted = badPayload ∷ jobCancelled ∷ jobHeld ∷ notOpen ∷ surplusBytes ∷ numberZero ∷ []
 
--- 1 2 10 3 4 and the Larsson code's reading before
-abbrev pub moveToA : List ℕ
-moveToA = invalid ∷ unfit ∷ badPayload ∷ wrongLength ∷ badSymbol ∷ noMajority ∷ valueTooLarge ∷ disagrees ∷ erased ∷ moveAccepted
-
--- and Construction A's, for the way back
-abbrev pub moveToLarsson : List ℕ
-moveToLarsson =
-    invalid ∷ unfit ∷ badPayload ∷ wrongLength ∷ badSymbol ∷ noPattern ∷ erased ∷ valueTooLarge ∷ disagrees ∷ erased ∷ moveAccepted
+-- 1 2 10 3 4 and the reader's own before
+abbrev pub moving : List ℕ → List ℕ
+moving own = invalid ∷ unfit ∷ badPayload ∷ wrongLength ∷ badSymbol ∷ (own ++ moveAccepted)
 
 -- document 02, "The prescription on the tray": 16 "after all other input refusals"; alone where a value in memory or a text is all that is given
 abbrev pub prescriptionAlone : List ℕ
@@ -78,13 +60,9 @@ abbrev pub prescriptionWrite : List ℕ
 prescriptionWrite =
     invalid ∷ unfit ∷ badPayload ∷ wrongLength ∷ badStarts ∷ badPrescription ∷ numberZero ∷ jobCancelled ∷ jobHeld ∷ notOpen ∷ []
 
-abbrev pub prescriptionRead : Manner → List ℕ
-prescriptionRead byPattern =
-    invalid ∷ unfit ∷ badPayload ∷ wrongLength ∷ badSymbol ∷ noPattern ∷ erased ∷ valueTooLarge ∷ disagrees ∷ erased ∷ badPayload ∷ badPrescription
-    ∷ jobCancelled ∷ jobHeld ∷ notOpen ∷ []
-prescriptionRead byMajority =
-    invalid ∷ unfit ∷ badPayload ∷ wrongLength ∷ badSymbol ∷ noMajority ∷ valueTooLarge ∷ disagrees ∷ erased ∷ badPayload ∷ badPrescription
-    ∷ jobCancelled ∷ jobHeld ∷ notOpen ∷ []
+abbrev pub prescriptionRead : List ℕ → List ℕ
+prescriptionRead own =
+    invalid ∷ unfit ∷ badPayload ∷ wrongLength ∷ badSymbol ∷ (own ++ badPayload ∷ badPrescription ∷ jobCancelled ∷ jobHeld ∷ notOpen ∷ [])
 
 -- transposing and the spherical equivalent into lent buffers: 3 for their lengths before
 abbrev pub prescriptionLent : List ℕ

@@ -24,7 +24,7 @@ use Rattle.construction_b.specs.Writing as B′
 use Rattle.construction_b.specs.Writing.{startIn, burstPart}
 use Rattle.construction_b.proofs.Figures as BFigures
 use Rattle.construction_b.proofs.Plan.{burst-lt, offset-lt}
-use Rattle.params.specs.Given.{figuresOf, longOf, frameOf, LongLayoutFits, LayoutFitsWith, codingWith, codingIn, Serves, spelledWith, spelledIn}
+use Rattle.params.specs.Given.{figuresOf, longOf, frameOf, LayoutFitsWith, codingWith, blocksCoding, BlocksServe, spelledWith, spelledIn}
 use Rattle.params.specs.declared.Layout.{Layout}
 use Rattle.params.specs.declared.Spells.{Spells}
 use Rattle.params.specs.declared.Spells.the-variants.{Rank, EndOffset}
@@ -93,10 +93,10 @@ module _ (l : Layout) where
         omega (arith, g .laid .m-is),
       )
 
-  pub count-most : Serves l → l .m * suc (l .«index_tail») ≤ maxDigits
+  pub count-most : BlocksServe l → l .m * suc (l .«index_tail») ≤ maxDigits
   count-most g = room-with (l .spells) g .0
 
-  tail-few : Serves l → l .«index_tail» < maxDigits
+  tail-few : BlocksServe l → l .«index_tail» < maxDigits
   tail-few g =
       omega (arith, count-most g, le-mul-of-pos-right {m = l .m} (suc (l .«index_tail»)) (room-with (l .spells) g .1), mul-comm (l .m) (suc (l .«index_tail»)))
 
@@ -123,7 +123,7 @@ module _ (l : Layout) where
             )),
       )
 
-  pub spellable : Serves l → (ss : List ℕ) (v : ℕ) → isPlacement (figuresOf l) ss ≡ true → v ≡ spelledIn l ss → SpellableRank (l .q) (l .m) (l .«index_tail») v
+  pub spellable : BlocksServe l → (ss : List ℕ) (v : ℕ) → isPlacement (figuresOf l) ss ≡ true → v ≡ spelledIn l ss → SpellableRank (l .q) (l .m) (l .«index_tail») v
   spellable g ss v placed e =
       let b = below-with (l .spells) g ss placed in
       record { alphabet = b .0; bytes = b .1; room = count-most g; tail = tail-few g; below = omega (arith, b .2, e) }
@@ -142,9 +142,9 @@ module _ (l : Layout) where
       (g .laid .m-is) (g .laid .tail-is)
 
   -- the word that these digits give
-  pub word-of : Serves l → (ss ds ms out : List ℕ) (v : ℕ) → isPlacement (figuresOf l) ss ≡ true → v ≡ spelledIn l ss
+  pub word-of : BlocksServe l → (ss ds ms out : List ℕ) (v : ℕ) → isPlacement (figuresOf l) ss ≡ true → v ≡ spelledIn l ss
       → take (l .m * suc (l .«index_tail»)) ds ≡ spell (l .q) (places (l .m) (l .«index_tail»)) v
-      → out ≡ weave (planIn (frameOf l ss)) (take (l .m * (l .«index_tail» + 1)) ds) ms → out ≡ codingIn l .codec .encode ss ms
+      → out ≡ weave (planIn (frameOf l ss)) (take (l .m * (l .«index_tail» + 1)) ds) ms → out ≡ blocksCoding l .codec .encode ss ms
   word-of g ss ds ms out v placed e d o =
       o ∙ ap (λ (y : List ℕ). weave (planIn (frameOf l ss)) y ms)
       (ap (λ (r : ℕ). take (l .m * r) ds) (add-one (l .«index_tail»)) ∙ d ∙ ap (spell (l .q) (places (l .m) (l .«index_tail»))) e)

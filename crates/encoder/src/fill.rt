@@ -1,7 +1,7 @@
 // Filling a word: what its blocks' kinds and the digits of its index blocks are, and then the walk over its cells. Assumes nothing.
 ghost use mathlib.Core.Path.{_≡_};
 ghost use Rattle.placements.specs.Bridge.{startsIn};
-ghost use Rattle.params.specs.Given.{codingIn, Serves};
+ghost use Rattle.params.specs.Given.{blocksCoding, BlocksServe};
 ghost use Rattle.encoder.specs.Fill.{PlacedMessage};
 use crate::digits;
 use crate::value;
@@ -11,8 +11,8 @@ use placements::Placement;
 
 // The word of a placement and a message.
 pub fn fill(layout: Layout, at: Placement, message: &[u8], word: &mut [u8])
-    requires { ⌜ Serves layout × PlacedMessage layout at (now message) (now word) ⌝ }
-    ensures { λ _. ⌜ now (word .exit) ≡ codingIn layout .codec .encode (startsIn at) (now (message .entry)) ⌝ }
+    requires { ⌜ BlocksServe layout × PlacedMessage layout at (now message) (now word) ⌝ }
+    ensures { λ _. ⌜ now (word .exit) ≡ blocksCoding layout .codec .encode (startsIn at) (now (message .entry)) ⌝ }
 {
     let mut heads = [0u16; Layout::MAX_HEADS];
     put_heads(&mut heads, layout);

@@ -1,7 +1,7 @@
 // What the index blocks spell of a placement: its rank, or how far into its part the one burst of Construction B ends. Assumes nothing.
 ghost use mathlib.Core.Path.{_≡_};
 ghost use Rattle.construction_b.specs.Writing.{startIn, endOffset};
-ghost use Rattle.params.specs.Given.{figuresOf, longOf, LongLayoutFits, Serves, spelledIn};
+ghost use Rattle.params.specs.Given.{figuresOf, longOf, LongLayoutFits, BlocksServe, spelledIn};
 ghost use Rattle.placements.specs.Bridge.{startsIn, PlacesBursts};
 use params::Layout;
 use params::Spells;
@@ -9,7 +9,7 @@ use params::cut;
 use placements::Placement;
 
 pub fn index_value(layout: Layout, at: Placement) -> u64
-    requires { ⌜ Serves layout × PlacesBursts layout at ⌝ }
+    requires { ⌜ BlocksServe layout × PlacesBursts layout at ⌝ }
     ensures { λ r. ⌜ r ≡ spelledIn layout (startsIn at) ⌝ }
 {
     let spells = layout.spells;

@@ -69,15 +69,20 @@ pub extern "C" fn burgzemi_prescription_write(
         (prescriptionFrom (eyeFrom «right_kind» «right_sphere» «right_cylinder» «right_axis»)
         (eyeFrom «left_kind» «left_sphere» «left_cylinder» «left_axis») distance) (now (word .entry)) ⌝ }
 {
-    let right = eyes::eye_from(right_kind, right_sphere, right_cylinder, right_axis);
-    let left = eyes::eye_from(left_kind, left_sphere, left_cylinder, left_axis);
-    let prescription = prescriptions::of_eyes(right, left, distance);
-    prescriptions::write(
+    prescriptions::write_values(
         Figures::Ranked(Params { n, q, m, b }),
         table,
         starts,
         number,
-        prescription,
+        right_kind,
+        right_sphere,
+        right_cylinder,
+        right_axis,
+        left_kind,
+        left_sphere,
+        left_cylinder,
+        left_axis,
+        distance,
         word,
     )
 }

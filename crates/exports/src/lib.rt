@@ -2,31 +2,28 @@
 // every lent buffer as it was; the check of a word has 255 for "no" besides. Assumes nothing.
 ghost use mathlib.Core.Path.{_≡_};
 ghost use Rattle.cells.specs.Figures.{params};
-ghost use Rattle.construction_a.specs.Outcomes.{unwritten};
+ghost use Rattle.construction_a.specs.Outcomes.{unwritten, coding};
 ghost use Rattle.decoder.specs.Exported.{lentAs, exportedOut, messageLenOut};
 ghost use Rattle.jobcodec.specs.Given.{seen};
 ghost use Rattle.lanes.specs.Outcomes.{unfilled, interleaveOut, deinterleaveOut};
+ghost use Rattle.lent.specs.Check.{verifyBytesUnder, verdictNumber};
 ghost use Rattle.lent.specs.Covering.{coverLent, coverBytesOut};
 ghost use Rattle.lent.specs.Jobs.{jobWriteBytesOut, jobReadBytesOut};
 ghost use Rattle.lent.specs.Words.{encodeBytesOut, payloadLenOut};
-ghost use Rattle.exports.specs.Words.{verifyBytesOut, verdictNumber};
 ghost use Rattle.exports.specs.Jobs.{called, callBytesOut};
 use codes::Figures;
+use lent::check;
 use lent::job;
 use lent::starts;
 use lent::table;
 use lent::words;
 use params::Params;
 use refusals::Refusal;
-use verifier::VerifyAnswer;
 
 pub mod eye_calls;
 pub mod larsson_code;
 pub mod long;
 pub mod moves;
-
-// What the check of a word answers for "no".
-const DIFFERS: u8 = 255;
 
 // Word read: the message, and the starts of the bursts, 2 bytes each and the high byte first. Refusals: 1 2 3 4 7 19 8 9 19.
 #[no_mangle]
@@ -87,7 +84,7 @@ pub extern "C" fn burgzemi_encode(
     )
 }
 
-// The check of a word against a placement and a message: 0 where it agrees outside the bursts with the word that they give, DIFFERS where it doesn't.
+// The check of a word against a placement and a message: 0 where it agrees outside the bursts with the word that they give, 255 where it doesn't.
 // Refusals: 1 2 3 5 4.
 #[no_mangle]
 pub extern "C" fn burgzemi_verify(
@@ -99,16 +96,14 @@ pub extern "C" fn burgzemi_verify(
     message: &[u8],
     word: &[u8],
 ) -> u8
-    ensures { λ r. ⌜ r ≡ verdictNumber (verifyBytesOut (params n q m b) (now (starts .entry)) (now (message .entry)) (now (word .entry))) ⌝ }
+    ensures { λ r. ⌜ r ≡ verdictNumber (verifyBytesUnder (coding (params n q m b)) (now (starts .entry)) (now (message .entry)) (now (word .entry))) ⌝ }
 {
-    let figures = Figures::Ranked(Params { n, q, m, b });
-    let at = starts::placement_from(starts, m);
-    let answer = verifier::verify(figures, at, message, word);
-    match answer {
-        VerifyAnswer::Agrees => Refusal::NONE,
-        VerifyAnswer::Differs => DIFFERS,
-        VerifyAnswer::Refused(number) => number,
-    }
+    check::verify(
+        Figures::Ranked(Params { n, q, m, b }),
+        starts,
+        message,
+        word,
+    )
 }
 
 // Covering: the starts of the placement of least rank that covers the defect map. Refusals: 1 2 3 4 6.

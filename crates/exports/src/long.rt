@@ -1,5 +1,5 @@
-// The entry points of strips with one long burst (Construction B) for programs in other languages: those of short bursts, with the figures n, q and b, but
-// for the check of a word. Assumes nothing.
+// The entry points of strips with one long burst (Construction B) for programs in other languages: the calls of Construction A, with n, q and b.
+// Assumes nothing.
 ghost use mathlib.Core.Path.{_≡_};
 ghost use Rattle.cells.specs.Outcomes.{unwritten};
 ghost use Rattle.construction_b.specs.Figures.{longParams};
@@ -7,16 +7,17 @@ ghost use Rattle.construction_b.specs.Outcomes.{coding};
 ghost use Rattle.decoder.specs.Exported.{lentAs, exportedUnder};
 ghost use Rattle.jobcodec.specs.Given.{seen};
 ghost use Rattle.lanes.specs.Outcomes.{unfilled, interleaveUnder, deinterleaveUnder};
+ghost use Rattle.lent.specs.Check.{verifyBytesUnder, verdictNumber};
 ghost use Rattle.lent.specs.Covering.{coverLent, coverBytesUnder};
 ghost use Rattle.lent.specs.Jobs.{jobWriteBytesUnder, jobReadBytesUnder};
 ghost use Rattle.lent.specs.Words.{encodeBytesUnder, messageLenUnder, payloadLenUnder};
 ghost use Rattle.lent_prescriptions.specs.Eyes.{eyeFrom, powersLent};
 ghost use Rattle.lent_prescriptions.specs.Prescriptions.{prescriptionFrom, prescriptionWriteBytesUnder, prescriptionReadBytesUnder};
 use codes::Figures;
+use lent::check;
 use lent::job;
 use lent::starts;
 use lent::words;
-use lent_prescriptions::eyes;
 use lent_prescriptions::prescriptions;
 use params::long::LongParams;
 
@@ -66,6 +67,21 @@ pub extern "C" fn burgzemi_long_decode(
         ≡ exportedUnder (coding (longParams n q b)) (now (word .entry)) (now (message .entry)) (now (start .entry)) ⌝ }
 {
     words::decode(Figures::Long(LongParams { n, q, b }), word, message, start)
+}
+
+// The check of a word against a placement and a message: 0 where it agrees, 255 where it doesn't. Refusals: 1 2 3 5 4.
+#[no_mangle]
+pub extern "C" fn burgzemi_long_verify(
+    n: u32,
+    q: u32,
+    b: u32,
+    start: &[u8],
+    message: &[u8],
+    word: &[u8],
+) -> u8
+    ensures { λ r. ⌜ r ≡ verdictNumber (verifyBytesUnder (coding (longParams n q b)) (now (start .entry)) (now (message .entry)) (now (word .entry))) ⌝ }
+{
+    check::verify(Figures::Long(LongParams { n, q, b }), start, message, word)
 }
 
 // Covering: the start of the placement of least rank that covers the defect map. Refusals: 1 2 3 4 6.
@@ -171,15 +187,20 @@ pub extern "C" fn burgzemi_long_prescription_write(
         (prescriptionFrom (eyeFrom «right_kind» «right_sphere» «right_cylinder» «right_axis»)
         (eyeFrom «left_kind» «left_sphere» «left_cylinder» «left_axis») distance) (now (word .entry)) ⌝ }
 {
-    let right = eyes::eye_from(right_kind, right_sphere, right_cylinder, right_axis);
-    let left = eyes::eye_from(left_kind, left_sphere, left_cylinder, left_axis);
-    let prescription = prescriptions::of_eyes(right, left, distance);
-    prescriptions::write(
+    prescriptions::write_values(
         Figures::Long(LongParams { n, q, b }),
         table,
         start,
         number,
-        prescription,
+        right_kind,
+        right_sphere,
+        right_cylinder,
+        right_axis,
+        left_kind,
+        left_sphere,
+        left_cylinder,
+        left_axis,
+        distance,
         word,
     )
 }

@@ -1,4 +1,4 @@
--- Demand 3 holds: for every exact codec, and so for Construction A, Construction B and the Larsson code. Assumes nothing.
+-- Demand 3 holds: for every exact codec, and so under the figures of each code. Assumes nothing.
 use mathlib.Core.Path.{_≡_, refl, sym, ap, _∙_}
 use mathlib.Core.Bool.{Bool, true, false, true≢false}
 use mathlib.Core.List.{List, []}
@@ -8,30 +8,19 @@ use lib.Dec.{eqb}
 use lib.ListN.{length}
 use Rattle.refusals.specs.Refusals.{invalid, unfit, wrongLength, badSymbol, badPayload}
 use Rattle.combinatorics.specs.Bursts.{apart}
-use Rattle.combinatorics.specs.Lists.{any, allBelow}
+use Rattle.combinatorics.specs.Lists.{all, any, allBelow}
 use Rattle.combinatorics.proofs.Cases.{by-bool, eqb-same, eqb-true}
+use Rattle.combinatorics.proofs.Lists.{in-all}
 use Rattle.cells.specs.Bytes.{payloadLen}
-use Rattle.cells.specs.Codec.{Reading, accepted, refused, Codec, Word, Exact}
-use Rattle.cells.specs.Figures.{maxBursts, Params, isPlacement}
+use Rattle.cells.specs.Codec.{Reading, accepted, refused, Codec, Word, Exact, OwnRefusals}
+use Rattle.cells.specs.Figures.{maxBursts}
 use Rattle.cells.specs.Outcomes.{Coding}
-use Rattle.construction_a.specs.Outcomes.{coding}
-use Rattle.construction_a.specs.DemandTwo.{constructionA, Listed, no-pattern, erased-index, too-large, disagreeing, erased-message}
-use Rattle.cells.proofs.Figures.{ranged}
-use Rattle.construction_a.proofs.DemandTwo.{demand-two}
-use Rattle.construction_b.specs.Figures.{LongParams, isPlacement as isPlacementB}
-use Rattle.construction_b.specs.Outcomes.{coding as codingB}
-use Rattle.construction_b.specs.DemandTwo.{Listed as ListedB, no-pattern as no-pattern-b, erased-index as erased-index-b, too-large as too-large-b}
-use Rattle.construction_b.specs.DemandTwo.{before-word, erased-message as erased-message-b}
-use Rattle.construction_b.proofs.Figures.{ranged as ranged-b}
-use Rattle.construction_b.proofs.DemandTwo.{demand-two as demand-two-b}
-use Rattle.larsson.specs.Codec.{Listed as ListedLarsson, no-majority, too-large as too-large-larsson, disagreeing as disagreeing-larsson}
-use Rattle.larsson.specs.Codec.{erased-message as erased-message-larsson}
-use Rattle.larsson.specs.Outcomes.{coding as codingLarsson}
-use Rattle.larsson.proofs.Exact.{larsson-exact}
-use Rattle.params.specs.Bridge.{given, givenLong}
+use Rattle.construction_a.specs.DemandTwo.{constructionA}
 use Rattle.codes.specs.Bridge.{codingOf}
 use Rattle.codes.specs.declared.Figures.{Figures}
 use Rattle.codes.specs.declared.Figures.the-variants.{Ranked, Long, Larsson}
+use Rattle.codes.proofs.Exact.{demand-two, placed-of}
+use Rattle.codes.proofs.Layouts.{small}
 use Rattle.jobs.specs.declared.Entry.{Entry}
 use Rattle.jobs.specs.Jobs.{Call, needsOpen}
 use Rattle.jobs.specs.Table.{emptyTable, twice}
@@ -43,16 +32,20 @@ use Rattle.ledger.proofs.Striking.{left-decides}
 use Rattle.payloads.specs.Payload.{carriesJob, jobNumber, messageOf, payloadIn, spellsPayload}
 use Rattle.jobcodec.specs.JobWrite.{whereOpen, unless}
 use Rattle.jobcodec.specs.JobRead.{handOut, withhold, jobIn, jobReading, jobReadUnder, jobReadOut}
-use Rattle.jobcodec.specs.DemandThree.{BothFacts, isRefusal, isWordRefusal, isCallRefusal, HandsOut, Presented, Claim, ClaimA}
-use Rattle.jobcodec.specs.DemandThree.{DemandThreeUnder, DemandThree, DemandThreeB, DemandThreeLarsson}
+use Rattle.jobcodec.specs.DemandThree.{BothFacts, isRefusal, isWordRefusal, isCallRefusal, HandsOut, Presented, Claim}
+use Rattle.jobcodec.specs.DemandThree.{DemandThreeUnder, DemandThree}
 use Rattle.jobcodec.proofs.Examples.{figures, wordWith, buffer, opened, computed}
 use Rattle.payloads.proofs.Payload.{payload-passes}
 use Rattle.jobcodec.proofs.Pairs.{read-pair, pair-read, only-pair, none-gives, handed, one-gives}
 
 -- ---- The job reading, under any exact codec whose refusals are document 01's
 
-module _ (c : Codec) (exact : Exact c) (two : 2 ≤ c .alphabet) (listed : (w : List ℕ) (a : ℕ) → c .decode w ≡ refused a
-    → (isRefusal a ≡ true) × (isWordRefusal a ≡ true))
+-- a number of the code's own is one of a word's
+own-word : (c : Codec) (a : ℕ) → any (eqb a) (c .wordRefusals) ≡ true → isWordRefusal c a ≡ true
+unfolding isWordRefusal any
+own-word c a h = by-bool (eqb a badPayload) (λ e. rw e) (λ e. rw e h)
+
+module _ (c : Codec) (exact : Exact c) (two : 2 ≤ c .alphabet) (own : OwnRefusals c) (numbers : all isRefusal (c .wordRefusals) ≡ true)
     (es : List Entry) (h : List Call) (g : Agrees es h) (w out : List ℕ) (found : Word c w) where
   -- "12 and 14 go by what is left"
   goes-by : (n : ℕ) → needsOpen (status h n) ≡ answerAfter (lastLeft h n)
@@ -86,7 +79,7 @@ module _ (c : Codec) (exact : Exact c) (two : 2 ≤ c .alphabet) (listed : (w : 
       let e′ = read-pair c exact two w found starts y u in
       let z : _≡_ {A = ℕ} 0 1 = cc in
       omega arith)
-      a (listed w a e .0) (listed w a e .1)
+      a (in-all isRefusal (c .wordRefusals) a numbers (own w a e)) (own-word c a (own w a e))
 
   pub reading-hands-out : carriesJob (c .alphabet) (c .messageLen) ≡ true → length out ≡ payloadLen (c .alphabet) (c .messageLen)
       → HandsOut c h w out (jobReading c es w out)
@@ -101,7 +94,8 @@ module _ (c : Codec) (exact : Exact c) (two : 2 ≤ c .alphabet) (listed : (w : 
 pub record Reads (d : Coding) : Type 0 where
   pub exactly : Exact (d .codec)
   pub two : 2 ≤ d .codec .alphabet
-  pub listed : (w : List ℕ) (a : ℕ) → d .codec .decode w ≡ refused a → (isRefusal a ≡ true) × (isWordRefusal a ≡ true)
+  pub own : OwnRefusals (d .codec)
+  pub numbers : all isRefusal (d .codec .wordRefusals) ≡ true
   pub few : d .bursts ≤ maxBursts
   pub placed : (ss : List ℕ) → length ss ≡ d .bursts → apart (d .burstLen) (d .codec .wordLen) 0 ss ≡ true → d .codec .placed ss ≡ true
 
@@ -148,7 +142,7 @@ follows-under d reads before calls answers es w out follows =
       reading = λ p.
           let s = reads (p .range) (p .fit) in
           rw (follows .judged, accepted-by before calls, p .range, p .fit, follows .agrees .once)
-          (reading-hands-out (d .codec) (s .exactly) (s .two) (s .listed) es (ledgerFrom before calls) (follows .agrees) w out (p .found) (p .carries)
+          (reading-hands-out (d .codec) (s .exactly) (s .two) (s .own) (s .numbers) es (ledgerFrom before calls) (follows .agrees) w out (p .found) (p .carries)
           (p .lent));
       turned-away = turn-away d es w out (follows .agrees .once);
     }
@@ -157,99 +151,38 @@ pub demand-three-under : (d : Coding) → ReadsWhereFit d → DemandThreeUnder d
 demand-three-under d reads es before s calls w out =
     follows-under d reads before calls (answersFrom es calls) (tableFrom es calls) w out (simulation-from-start es before s calls)
 
--- ---- Construction A
+-- ---- Each code
 
-listed-refusal : (f : Params) (w : List ℕ) (a : ℕ) → Listed f w a → (isRefusal a ≡ true) × (isWordRefusal a ≡ true)
-unfolding isRefusal isWordRefusal any
-listed-refusal f w a (no-pattern _) = (refl, refl)
-listed-refusal f w a (erased-index _ _ _) = (refl, refl)
-listed-refusal f w a (too-large _ _ _) = (refl, refl)
-listed-refusal f w a (disagreeing _ _ _ _) = (refl, refl)
-listed-refusal f w a (erased-message _ _ _ _) = (refl, refl)
-
-pub reads-a : (f : Params) → ReadsWhereFit (coding f)
-unfolding isPlacement
-reads-a f i h =
-    let two = demand-two f i h in
-    let r = ranged f i in
-    record {
-      exactly = two .exactly;
-      two = r .q-least;
-      listed = λ w a e. listed-refusal f w a (two .listed w a .0 e);
-      few = r .m-most;
-      placed = λ ss e p. rw (eqb-same (length ss) (f .m) e) p;
-    }
-
-pub follows-claim : (f : Params) (before calls : List Call) (answers : List ℕ) (es : List Entry) (w out : List ℕ) → Follows before calls answers es
-    → ClaimA f before calls w out answers (jobReadOut f es w out)
-unfolding jobReadOut
-follows-claim f = follows-under (coding f) (reads-a f)
-
-pub demand-three : DemandThree
-unfolding jobReadOut
-demand-three f = demand-three-under (coding f) (reads-a f)
-
--- ---- Construction B
-
-listed-refusal-b : (f : LongParams) (w : List ℕ) (a : ℕ) → ListedB f w a → (isRefusal a ≡ true) × (isWordRefusal a ≡ true)
-unfolding isRefusal isWordRefusal any
-listed-refusal-b f w a (no-pattern-b _) = (refl, refl)
-listed-refusal-b f w a (erased-index-b _ _ _) = (refl, refl)
-listed-refusal-b f w a (too-large-b _ _ _) = (refl, refl)
-listed-refusal-b f w a (before-word _ _ _ _) = (refl, refl)
-listed-refusal-b f w a (erased-message-b _ _ _ _) = (refl, refl)
-
-pub reads-b : (f : LongParams) → ReadsWhereFit (codingB f)
-unfolding isPlacementB
-reads-b f i h =
-    let two = demand-two-b f i h in
-    record {
-      exactly = two .exactly;
-      two = ranged-b f i .q-least;
-      listed = λ w a e. listed-refusal-b f w a (two .listed w a .0 e);
-      few = omega arith;
-      placed = λ ss e p. rw (eqb-same (length ss) 1 e) p;
-    }
-
-pub demand-three-b : DemandThreeB
-demand-three-b f = demand-three-under (codingB f) (reads-b f)
-
--- ---- The Larsson code
-
-listed-refusal-larsson : (f : Params) (w : List ℕ) (a : ℕ) → ListedLarsson f w a → (isRefusal a ≡ true) × (isWordRefusal a ≡ true)
-unfolding isRefusal isWordRefusal any
-listed-refusal-larsson f w a (no-majority _) = (refl, refl)
-listed-refusal-larsson f w a (too-large-larsson _ _ _) = (refl, refl)
-listed-refusal-larsson f w a (disagreeing-larsson _ _ _ _) = (refl, refl)
-listed-refusal-larsson f w a (erased-message-larsson _ _ _ _ _) = (refl, refl)
-
-pub reads-larsson : (f : Params) → ReadsWhereFit (codingLarsson f)
-unfolding isPlacement
-reads-larsson f i h =
-    let two = larsson-exact f i h in
-    let r = ranged f i in
-    record {
-      exactly = two .exactly;
-      two = r .q-least;
-      listed = λ w a e. listed-refusal-larsson f w a (two .listed w a .0 e);
-      few = r .m-most;
-      placed = λ ss e p. rw (eqb-same (length ss) (f .m) e) p;
-    }
-
-pub demand-three-larsson : DemandThreeLarsson
-demand-three-larsson f = demand-three-under (codingLarsson f) (reads-larsson f)
-
--- ---- Any of them, as a caller passes its figures
+own-numbers : (f : Figures) → all isRefusal (codingOf f .codec .wordRefusals) ≡ true
+unfolding isRefusal all any
+own-numbers (Ranked p) = refl
+own-numbers (Long p) = refl
+own-numbers (Larsson p) = refl
 
 pub reads-in : (f : Figures) → ReadsWhereFit (codingOf f)
-reads-in (Ranked p) = reads-a (given p)
-reads-in (Long p) = reads-b (givenLong p)
-reads-in (Larsson p) = reads-larsson (given p)
+reads-in f i h =
+    let two = demand-two f i h in
+    let few = small f i in
+    record {
+      exactly = two .exactly;
+      two = few .alphabet-least;
+      own = two .own;
+      numbers = own-numbers f;
+      few = few .bursts-most;
+      placed = placed-of f;
+    }
+
+pub demand-three : DemandThree
+demand-three f = demand-three-under (codingOf f) (reads-in f)
 
 pub follows-figures : (f : Figures) (before calls : List Call) (answers : List ℕ) (es : List Entry) (w out : List ℕ) → Follows before calls answers es
     → Claim (codingOf f) before calls w out answers (jobReadUnder (codingOf f) es w out)
 follows-figures f = follows-under (codingOf f) (reads-in f)
 
 -- it is not empty: both facts hold of the transfer example's word
-both-facts : (starts : List ℕ) × (y : List ℕ) × BothFacts (constructionA figures) (acceptedBy opened (answersFrom emptyTable opened) []) (wordWith 255) starts y
-both-facts = demand-three figures emptyTable [] empty opened (wordWith 255) buffer .reading (computed .presented) .exactly .0 (computed .handed)
+both-facts : (starts : List ℕ) × (y : List ℕ)
+    × BothFacts (constructionA figures) (acceptedBy opened (answersFrom emptyTable opened) []) (wordWith 255) starts y
+unfolding jobReadOut
+both-facts =
+    demand-three (Ranked (record { n = figures .n; q = figures .q; m = figures .m; b = figures .b })) emptyTable [] empty opened (wordWith 255) buffer
+    .reading (computed .presented) .exactly .0 (computed .handed)

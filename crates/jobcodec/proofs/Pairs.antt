@@ -50,7 +50,7 @@ not-served a r e = absurd (true≢false (sym r ∙ ap isRefusal e))
 
 module _ (c : Codec) (h : List Call) (w out : List ℕ) where
   -- no pair gives the word
-  pub none-gives : ((starts y : List ℕ) → Gives c w starts y → ⊥) → (a : ℕ) → isRefusal a ≡ true → isWordRefusal a ≡ true → HandsOut c h w out (withhold out a)
+  pub none-gives : ((starts y : List ℕ) → Gives c w starts y → ⊥) → (a : ℕ) → isRefusal a ≡ true → isWordRefusal c a ≡ true → HandsOut c h w out (withhold out a)
   none-gives no-pair a r s =
       record {
         exactly = (not-served a r, λ u. absurd (no-pair (u .0) (u .1) (u .2 .only .gives)));

@@ -1,5 +1,5 @@
 -- A job that was written reads back under the same table, however its word is spoilt inside the placement's bursts, under any figures that give an exact
--- codec; and so under Construction A, Construction B and the Larsson code. Assumes nothing.
+-- codec; and so under those of each code. Assumes nothing.
 use mathlib.Core.Path.{_≡_, refl, ap, _∙_}
 use mathlib.Core.Bool.{Bool, true, false, not, _&&_}
 use mathlib.Core.List.{List}
@@ -17,9 +17,8 @@ use Rattle.cells.specs.Bytes.{byteValues, payloadLen}
 use Rattle.cells.specs.Figures.{maxBursts, Params}
 use Rattle.cells.specs.Outcomes.{Coding, Held, inUse, Encoded, unwritten}
 use Rattle.construction_a.specs.Outcomes.{coding}
-use Rattle.construction_b.specs.Figures.{LongParams}
-use Rattle.construction_b.specs.Outcomes.{coding as codingB}
-use Rattle.larsson.specs.Outcomes.{coding as codingLarsson}
+use Rattle.codes.specs.Bridge.{codingOf}
+use Rattle.codes.specs.declared.Figures.{Figures}
 use Rattle.jobs.specs.declared.Entry.{Entry}
 use Rattle.jobs.specs.Jobs.{isJob, Status, unknown, opened, onHold, cancelled}
 use Rattle.jobs.specs.Table.{twice}
@@ -27,10 +26,10 @@ use Rattle.payloads.specs.Payload.{carriesJob, jobNumber, messageOf}
 use Rattle.jobcodec.specs.JobWrite.{jobStatus, whereOpen, jobWriteUnder, jobWriteOut}
 use Rattle.jobcodec.specs.DemandThree.{isRefusal, Gives}
 use Rattle.jobcodec.specs.Given.{ReadyUnder}
-use Rattle.jobcodec.specs.ReadBack.{JobsReadBack}
+use Rattle.jobcodec.specs.ReadBack.{JobsReadBackUnder, JobsReadBack}
 use Rattle.jobcodec.proofs.Outcomes.{read-decodes}
 use Rattle.jobcodec.proofs.Pairs.{not-served, read-pair}
-use Rattle.jobcodec.proofs.DemandThree.{ReadsWhereFit, reads-a, reads-b, reads-larsson}
+use Rattle.jobcodec.proofs.DemandThree.{ReadsWhereFit, reads-in}
 use Rattle.payloads.proofs.Payload.{length-message, message-symbols, payload-back, payload-passes}
 
 -- ---- What an accepted writing says of its input
@@ -135,7 +134,7 @@ module _ (d : Coding) (es : List Entry) (at : Held) (payload out : List ℕ) whe
           };
         }
 
-pub jobs-read-back : (d : Coding) → ReadsWhereFit d → JobsReadBack d
+pub jobs-read-back : (d : Coding) → ReadsWhereFit d → JobsReadBackUnder d
 jobs-read-back d reads es at payload out w buffer sized bytes e found outside lent =
     let q = d .codec .alphabet in
     let k = d .codec .messageLen in
@@ -161,15 +160,7 @@ pub written : (f : Params) (es : List Entry) (at : Held) (payload out : List ℕ
 unfolding jobWriteOut
 written f = written-under (coding f)
 
-pub reads-back-a : (f : Params) → JobsReadBack (coding f)
-reads-back-a f = jobs-read-back (coding f) (reads-a f)
+-- ---- Each code
 
--- ---- Construction B
-
-pub reads-back-b : (f : LongParams) → JobsReadBack (codingB f)
-reads-back-b f = jobs-read-back (codingB f) (reads-b f)
-
--- ---- The Larsson code
-
-pub reads-back-larsson : (f : Params) → JobsReadBack (codingLarsson f)
-reads-back-larsson f = jobs-read-back (codingLarsson f) (reads-larsson f)
+pub reads-back : JobsReadBack
+reads-back f = jobs-read-back (codingOf f) (reads-in f)

@@ -9,17 +9,13 @@ use mathlib.Core.Option.{none, some}
 use Prim.Native.Nat.{ℕ}
 use lib.Dec.{eqb}
 use lib.ListN.{length}
-use Rattle.refusals.specs.Refusals.{served, invalid, unfit, wrongLength, badSymbol, noPattern, valueTooLarge, disagrees, erased, badPayload, jobCancelled}
-use Rattle.refusals.specs.Refusals.{notOpen, jobHeld, noMajority, refusals}
+use Rattle.refusals.specs.Refusals.{served, invalid, unfit, wrongLength, badSymbol, badPayload, jobCancelled, notOpen, jobHeld, refusals}
 use Rattle.combinatorics.specs.Lists.{any}
 use Rattle.cells.specs.Bytes.{payloadLen}
 use Rattle.cells.specs.Codec.{Codec, Word, LeadsTo}
 use Rattle.cells.specs.Outcomes.{Coding}
-use Rattle.cells.specs.Figures.{Params}
-use Rattle.construction_a.specs.Outcomes.{coding}
-use Rattle.construction_b.specs.Figures.{LongParams}
-use Rattle.construction_b.specs.Outcomes.{coding as codingB}
-use Rattle.larsson.specs.Outcomes.{coding as codingLarsson}
+use Rattle.codes.specs.Bridge.{codingOf}
+use Rattle.codes.specs.declared.Figures.{Figures}
 use Rattle.jobs.specs.declared.Entry.{Entry}
 use Rattle.jobs.specs.Jobs.{opening, cancelling, finishing, holding, Call}
 use Rattle.ledger.specs.Calls.{answersFrom, tableFrom}
@@ -27,7 +23,7 @@ use Rattle.ledger.specs.Ledger.{lastLeft, answerAfter, verdictsFrom, acceptedBy
 use Rattle.ledger.specs.Simulation.{Start}
 use Rattle.payloads.specs.Payload.{IsPayload, carriesJob, jobNumber, messageOf}
 use Rattle.jobcodec.specs.JobWrite.{unless}
-use Rattle.jobcodec.specs.JobRead.{JobRead, handOut, withhold, jobReadUnder, jobReadOut}
+use Rattle.jobcodec.specs.JobRead.{JobRead, handOut, withhold, jobReadUnder}
 
 -- ---- The first fact, under any codec
 
@@ -55,9 +51,9 @@ pub record BothFacts (c : Codec) (ledger : List Call) (w starts payload : List �
 unfoldable pub isRefusal : ℕ → Bool
 isRefusal a = any (eqb a) refusals
 
--- 7, 19, 8, 9 or 10, by the Larsson code 21, 8, 9, 19 or 10: what a word is refused with that no pair gives
-unfoldable pub isWordRefusal : ℕ → Bool
-isWordRefusal a = any (eqb a) (noPattern ∷ noMajority ∷ erased ∷ valueTooLarge ∷ disagrees ∷ badPayload ∷ [])
+-- what a word is refused with that no pair gives: 10, or one of the code's own numbers
+unfoldable pub isWordRefusal : Codec → ℕ → Bool
+isWordRefusal c a = any (eqb a) (badPayload ∷ c .wordRefusals)
 
 -- 1, 2, 3, 4 or 10: what is refused before a word is read
 unfoldable pub isCallRefusal : ℕ → Bool
@@ -71,8 +67,9 @@ pub record HandsOut (c : Codec) (ledger : List Call) (w out : List ℕ) (r : Job
   pub hands : (starts payload : List ℕ) → BothFacts c ledger w starts payload → r ≡ handOut payload
   -- otherwise it is refused, and the lent buffer keeps what it held; the fields below say with which number
   pub otherwise : ((starts payload : List ℕ) → BothFacts c ledger w starts payload → ⊥) → (a : ℕ) × (isRefusal a ≡ true) × (r ≡ withhold out a)
-  -- where the first fact fails, with 7, 19, 8, 9 or 10, by the Larsson code 21, 8, 9, 19 or 10; which of them, the word alone says (`jobReadUnder`)
-  pub no-pair : ((starts payload : List ℕ) → Gives c w starts payload → ⊥) → (a : ℕ) × (isWordRefusal a ≡ true) × (r ≡ withhold out a)
+  -- where the first fact fails, with 7, 19, 8 or 9, by the Larsson code with 21, 8, 9 or 19, and by each with 10; which of them, the word alone says
+  -- (`jobReadUnder`)
+  pub no-pair : ((starts payload : List ℕ) → Gives c w starts payload → ⊥) → (a : ℕ) × (isWordRefusal c a ≡ true) × (r ≡ withhold out a)
   -- "Where only the second fact fails, the refusal is 12 after a cancellation, 14 after a finishing or no accepted call."
   pub after-cancelling : (starts payload : List ℕ) → OnlyPair c w starts payload → lastLeft ledger (jobNumber payload) ≡ some cancelling
       → r ≡ withhold out jobCancelled
@@ -114,22 +111,8 @@ DemandThreeUnder d =
     (es : List Entry) (before : List Call) → Start es before → (calls : List Call) (w out : List ℕ)
     → Claim d before calls w out (answersFrom es calls) (jobReadUnder d (tableFrom es calls) w out)
 
--- ---- For all figures of Construction A
-
-abbrev pub ClaimA : Params → List Call → List Call → List ℕ → List ℕ → List ℕ → JobRead → Type 0
-ClaimA f = Claim (coding f)
+-- ---- For all figures of each code: "Demands 2 and 3 hold for these strips under their own figures, with construction B's word"; and a job on an older tray,
+-- under the same table
 
 abbrev pub DemandThree : Type 0
-DemandThree =
-    (f : Params) (es : List Entry) (before : List Call) → Start es before → (calls : List Call) (w out : List ℕ)
-    → ClaimA f before calls w out (answersFrom es calls) (jobReadOut f (tableFrom es calls) w out)
-
--- ---- And of Construction B: "Demands 2 and 3 hold for these strips under their own figures, with construction B's word."
-
-abbrev pub DemandThreeB : Type 0
-DemandThreeB = (f : LongParams) → DemandThreeUnder (codingB f)
-
--- ---- And of the Larsson code: a job on an older tray, under the same table
-
-abbrev pub DemandThreeLarsson : Type 0
-DemandThreeLarsson = (f : Params) → DemandThreeUnder (codingLarsson f)
+DemandThree = (f : Figures) → DemandThreeUnder (codingOf f)

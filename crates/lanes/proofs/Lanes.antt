@@ -1,6 +1,6 @@
 -- The law of words side by side holds. Assumes nothing.
 use mathlib.Core.Path.{_≡_, refl, sym, ap, _∙_}
-use mathlib.Core.Bool.{Bool, true, false, _&&_, true≢false, false≢true}
+use mathlib.Core.Bool.{Bool, true, false, true≢false}
 use mathlib.Core.List.{List, [], _∷_, flatMap}
 use Prim.Native.Nat.{ℕ, suc, _+_, _-_, _*_, _≤_, _<_}
 use native.Mathlib.Nat.{add-mul, mul-comm, lt-of-mul-lt-mul-right}
@@ -8,8 +8,8 @@ use native.Mathlib.Omega.{arith}
 use lib.Arith.{digits-lt}
 use lib.Dec.{leb, ltb, eqb}
 use lib.ListN.{length, getD}
-use Rattle.combinatorics.specs.Bursts.{apart, inBurst, placements, startsOf, coverRank}
-use Rattle.combinatorics.specs.Lists.{all, any, allBelow}
+use Rattle.combinatorics.specs.Bursts.{placements, coverRank}
+use Rattle.combinatorics.specs.Lists.{all, allBelow}
 use Rattle.combinatorics.specs.Stretch.{bit, consecutive}
 use Rattle.combinatorics.proofs.Bursts.{of-placed}
 use Rattle.combinatorics.proofs.Cases.{by-bool, eqb-same, leb-holds, le-of}
@@ -31,16 +31,16 @@ use Rattle.construction_b.specs.DemandTwo.{constructionB}
 use Rattle.construction_b.specs.Outcomes.{coding as codingB}
 use Rattle.construction_b.proofs.Figures.{Served as ServedB, serve as serve-b, count-is}
 use Rattle.construction_b.proofs.DemandTwo.{demand-two as demand-two-b}
-use Rattle.larsson.specs.Codec.{larsson}
+use Rattle.larsson.specs.DemandTwo.{larsson}
 use Rattle.larsson.specs.Outcomes.{coding as codingLarsson}
 use Rattle.larsson.proofs.Figures.{Served as ServedLarsson, serve as serve-larsson}
-use Rattle.larsson.proofs.Exact.{larsson-exact}
+use Rattle.larsson.proofs.DemandTwo.{demand-two as demand-two-larsson}
 use Rattle.codes.specs.declared.Figures.the-variants.{Ranked, Long, Larsson}
 use Rattle.params.specs.Bridge.{given, givenLong}
 use Rattle.lanes.specs.Interleaving.{interleaved, deinterleaved, lane}
 use Rattle.lanes.specs.Lanes.{Wear, wearHas, isWorn, isShort, Worn, stripMap, wordMap, HasBursts, coverOf, Messages, coverAt, writtenWords}
 use Rattle.lanes.specs.Lanes.{FoundStrip, LanesHold, LawOfLanes, LanesReadUnder, LanesRead}
-use Rattle.lanes.proofs.Interleaving.{length-transposed, transposed-below, lane-at, length-lane, lane-below, words-at, length-words, words-below}
+use Rattle.lanes.proofs.Interleaving.{length-transposed, transposed-below, length-lane, lane-below, words-at, length-words, words-below}
 use Rattle.lanes.proofs.Interleaving.{strip-cell, word-cell}
 use Rattle.lanes.proofs.Outcomes.{Passes, passes}
 
@@ -263,5 +263,5 @@ lanes-read (Long p) d ss i h wear =
     read-under (codingB f) i h (count-is f (omega (arith, ok .short))) (bursts-b f ok) (two .written) (two .exactly) d ss wear
 lanes-read (Larsson p) d ss i h wear =
     let f = given p in
-    let two = larsson-exact f i h in
+    let two = demand-two-larsson f i h in
     read-under (codingLarsson f) i h refl (bursts-larsson f (serve-larsson f i h)) (two .written) (two .exactly) d ss wear

@@ -1,17 +1,17 @@
 -- What the calls answer, test by test; what was laid side by side is taken apart again by them, and the other way round. Assumes nothing.
 use mathlib.Core.Path.{_≡_, sym, ap, ap₂, _∙_}
 use mathlib.Core.Logic.{_≢_}
-use mathlib.Core.Bool.{Bool, true, false, _&&_}
-use mathlib.Core.List.{List, [], _∷_}
+use mathlib.Core.Bool.{true, false, _&&_}
+use mathlib.Core.List.{List}
 use Prim.Native.Nat.{ℕ, suc, _*_, _≤_, _<_}
 use native.Mathlib.Nat.{mul-comm}
 use native.Mathlib.Omega.{arith}
-use lib.Dec.{ltb, eqb}
+use lib.Dec.{eqb}
 use lib.ListN.{length}
-use Rattle.refusals.specs.Refusals.{must, served, invalid, unfit, wrongLength, badSymbol, badDepth}
-use Rattle.combinatorics.specs.Lists.{all, allBelow}
+use Rattle.refusals.specs.Refusals.{must, served, wrongLength, badSymbol, badDepth}
+use Rattle.combinatorics.specs.Lists.{allBelow}
 use Rattle.combinatorics.proofs.Cases.{by-bool, eqb-same, eqb-other, eqb-true, leb-holds, leb-fails}
-use Rattle.combinatorics.proofs.Lists.{both, below-more}
+use Rattle.combinatorics.proofs.Lists.{below-more}
 use Rattle.cells.specs.Erasures.{foundBound}
 use Rattle.cells.specs.Outcomes.{Coding, unserved, figuresUnder}
 use Rattle.cells.proofs.Outcomes.{refused-alike}

@@ -10,7 +10,7 @@ use Rattle.refusals.specs.Refusals.{served}
 use Rattle.combinatorics.specs.Bursts.{apart, inBurst, placements, startsOf, coverRank}
 use Rattle.combinatorics.specs.Lists.{all, any, allBelow}
 use Rattle.combinatorics.specs.Stretch.{bit, tabulate, consecutive}
-use Rattle.cells.specs.Codec.{Codec, accepted, Word, WritesWords, Exact}
+use Rattle.cells.specs.Codec.{Codec, accepted, WritesWords, Exact}
 use Rattle.cells.specs.Outcomes.{Coding, held, defectAt, coverUnder, decodedFrom, decodeUnder}
 use Rattle.codes.specs.declared.Figures.{Figures}
 use Rattle.codes.specs.Bridge.{codingOf}

@@ -9,6 +9,7 @@ ghost use Rattle.lanes.specs.Outcomes.{unfilled, rearranged, interleaveU
 use codes::Figures;
 use codes::FiguresAnswer;
 use codes::WordLayout;
+use params::found::found_bound;
 use refusals::Refusal;
 
 mod tile;
@@ -59,7 +60,7 @@ fn deinterleave_fitting(layout: WordLayout, depth: u32, strip: &[u8], words: &mu
     requires { ⌜ Serves layout ⌝ }
     ensures { λ r. ⌜ unfilled (now (words .exit)) r ≡ deinterleaveUnder (codingIn layout) depth (now (strip .entry)) (now (words .entry)) ⌝ }
 {
-    let refusal = judged(layout, depth, layout.found_bound(), strip, words.len());
+    let refusal = judged(layout, depth, found_bound(layout.q), strip, words.len());
     if refusal != Refusal::NONE {
         return refusal;
     }

@@ -3,7 +3,7 @@
 use Rattle.cells.specs.Outcomes.{Coding, FiguresOut, figuresUnder}
 use Rattle.cells.specs.Figures.{Params, inRange, placementCount}
 use Rattle.larsson.specs.Figures.{subLen, fits}
-use Rattle.larsson.specs.Codec.{larsson}
+use Rattle.larsson.specs.DemandTwo.{larsson}
 
 -- R stands in the place of r
 abbrev pub coding : Params → Coding

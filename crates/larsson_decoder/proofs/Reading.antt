@@ -1,8 +1,8 @@
 -- Laws of the reader's calls: the word's values, its message, and figures with one placement. Assumes nothing.
-use mathlib.Core.Path.{_≡_, refl, sym, ap, _∙_}
+use mathlib.Core.Path.{_≡_, refl, sym, _∙_}
 use mathlib.Core.Bool.{true, false}
 use mathlib.Core.List.{List, [], _∷_}
-use Prim.Native.Nat.{ℕ, suc, _+_, _*_, _≤_, _<_}
+use Prim.Native.Nat.{ℕ, suc, _+_, _<_}
 use native.Mathlib.Numerals.{add-one}
 use native.Mathlib.Omega.{arith}
 use lib.ListN.{length, getD}
@@ -10,7 +10,7 @@ use Rattle.refusals.specs.Refusals.{erased}
 use Rattle.combinatorics.specs.Bursts.{covers, rankOf}
 use Rattle.combinatorics.specs.Lists.{allBelow}
 use Rattle.combinatorics.proofs.Cases.{by-le}
-use Rattle.combinatorics.proofs.Lists.{below-at, at-below}
+use Rattle.combinatorics.proofs.Lists.{at-below}
 use Rattle.cells.specs.Bytes.{byteValues}
 use Rattle.cells.specs.Cells.{message, pick}
 use Rattle.cells.specs.Codec.{accepted, refused}
@@ -19,22 +19,22 @@ use Rattle.cells.specs.Outcomes.{Held, held, rankIs, Decoded, decodedFrom}
 use Rattle.cells.proofs.Cells.{pick-below}
 use Rattle.cells.proofs.Erasures.{found-above, found-all, below-whole, erasure-is}
 use Rattle.cells.specs.Figures.{placementOf}
-use Rattle.larsson.specs.Codec.{larsson, Listed}
+use Rattle.larsson.specs.DemandTwo.{larsson, Listed}
 use Rattle.larsson.specs.Figures.{subLen, messageLen}
 use Rattle.larsson.specs.Reading.{read}
 use Rattle.larsson.specs.Writing.{kindAt, plan}
-use Rattle.larsson.proofs.Exact.{larsson-exact}
+use Rattle.larsson.proofs.DemandTwo.{demand-two as demand-two-larsson}
 use Rattle.larsson.proofs.Plan.{kind-burst}
 use Rattle.larsson.proofs.Walking.{none-spelled, every-word}
 use Rattle.decoder.proofs.Covered.{message-covered}
 use Rattle.placements.specs.declared.Placement.{Placement}
-use Rattle.placements.specs.Bridge.{heldAs, startsIn}
+use Rattle.placements.specs.Bridge.{startsIn}
 use Rattle.larsson_params.specs.declared.LarssonLayout.{LarssonLayout}
 use Rattle.larsson_params.specs.Given.{larssonFiguresOf, LarssonLayoutFits}
 use Rattle.larsson_params.proofs.Shape.{served, bound}
 use Rattle.sub_blocks.specs.Found.{FoundWord}
 use Rattle.sub_blocks.proofs.Voting.{small}
-use Rattle.larsson_decoder.specs.Located.{readLarssonMessage, LocatedAt}
+use Rattle.larsson_decoder.specs.Located.{LocatedAt}
 
 -- bytes have no value above q where q is larger than all of them
 pub found-by : (q : ℕ) (w : List ℕ) → ((x : ℕ) → getD w x 0 < byteValues) → allBelow (q + 1) w ≡ allBelow (foundBound q) w
@@ -51,7 +51,7 @@ module _ (l : LarssonLayout) (w : List ℕ) (g : FoundWord l w) (v : ℕ) (at : 
   whole-is =
       let f = larssonFiguresOf l in
       let ss = startsIn at in
-      message-covered (larsson f) (Listed f) (larsson-exact f (g .layout .range) (g .layout .fit)) (omega (arith, bound l (g .layout) .q-least)) (l .b)
+      message-covered (larsson f) (Listed f) (demand-two-larsson f (g .layout .range) (g .layout .fit)) (omega (arith, bound l (g .layout) .q-least)) (l .b)
       (kindAt f ss) w ss
       (record { complete = g .complete; symbols = g .symbols }) (kind-burst f ss) (λ x. refl)
       (λ e. h .read-as ∙ rw (below-whole (l .q) (pick message (plan f ss) w) e))

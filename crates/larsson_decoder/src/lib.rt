@@ -1,7 +1,6 @@
 // The Larsson code's word reader: from a found word to its rank, its placement and its message, or the refusal. Assumes nothing.
 ghost use mathlib.Core.Path.{_≡_};
-ghost use mathlib.Core.List.{List, []};
-ghost use Prim.Native.Nat.{ℕ};
+ghost use mathlib.Core.List.{[]};
 ghost use Rattle.cells.specs.Codec.{accepted};
 ghost use Rattle.cells.specs.Outcomes.{decodedFrom, decodeUnder};
 ghost use Rattle.cells.specs.Figures.{placementOf};

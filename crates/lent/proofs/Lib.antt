@@ -4,4 +4,5 @@ pub mod TableLaws
 pub mod TableBack
 pub mod WithTable
 pub mod WordLaws
+pub mod CheckLaws
 pub mod JobLaws

@@ -48,7 +48,8 @@ jobWriteBytesUnder d table starts payload out =
     withTable d table (eqb (length starts) (2 * d .bursts)) (unwritten out)
     (jobWriteUnder d (tableIn table) (held (startsFrom starts)) payload out)
 
--- "job read 1 2, 10 for K, 3 4 7 8 9, 10, 12 14", with 19 as in word read and 23 before 14, where 3 stands for the bytes of the table too
+-- "job read 1 2, 10 for K, 3 4 7 8 9, 10, 12 14", with 19 and 21 as in word read and 23 before 14, where 3 stands for the bytes of the table
+-- too
 unfoldable pub jobReadBytesUnder : Coding → List ℕ → List ℕ → List ℕ → JobRead
 jobReadBytesUnder d table w out = withTable d table true (withhold out) (jobReadUnder d (tableIn table) w out)
 

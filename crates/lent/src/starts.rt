@@ -31,11 +31,7 @@ pub fn placement_from(bytes: &[u8], m: u32) -> Placement
 pub fn placement_under(figures: Figures, bytes: &[u8]) -> Placement
     ensures { λ r. ⌜ heldAs r ≡ placementFrom (codingOf figures .bursts) (now (bytes .entry)) ⌝ }
 {
-    match figures {
-        Figures::Ranked(p) => placement_from(bytes, p.m),
-        Figures::Long(_) => placement_from(bytes, 1),
-        Figures::Larsson(p) => placement_from(bytes, p.m),
-    }
+    placement_from(bytes, figures.bursts())
 }
 
 // Covering, with the placement as bytes. Refusals: 1 2 3 4 6.

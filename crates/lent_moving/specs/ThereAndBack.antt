@@ -4,15 +4,18 @@ use mathlib.Core.Path.{_≡_}
 use mathlib.Core.List.{List}
 use Prim.Native.Nat.{ℕ}
 use Rattle.refusals.specs.Refusals.{served}
-use Rattle.cells.specs.Figures.{Params}
-use Rattle.construction_a.specs.DemandTwo.{constructionA}
-use Rattle.larsson.specs.Codec.{larsson}
+use Rattle.cells.specs.Outcomes.{Coding}
+use Rattle.codes.specs.Bridge.{codingOf}
+use Rattle.codes.specs.declared.Figures.{Figures}
 use Rattle.moving.specs.ThereAndBack.{Returned}
-use Rattle.lent_moving.specs.Moves.{toConstructionABytes, toLarssonBytes}
+use Rattle.lent_moving.specs.Moves.{moveBytesUnder}
 
--- for both directions, and whatever the bytes of the table are
-pub record ThereAndBackBytes (f : Params) (table w out : List ℕ) : Type 0 where
-  pub from-larsson : toConstructionABytes f table w out .answer ≡ served
-      → Returned (larsson f) (constructionA f) w (toConstructionABytes f table w out .word) (toLarssonBytes f table)
-  pub from-a : toLarssonBytes f table w out .answer ≡ served
-      → Returned (constructionA f) (larsson f) w (toLarssonBytes f table w out .word) (toConstructionABytes f table)
+-- whatever the bytes of the table are
+abbrev pub ThereAndBackBytesUnder : Coding → Coding → Type 0
+ThereAndBackBytesUnder d e =
+    (table w out : List ℕ) → moveBytesUnder d e table w out .answer ≡ served
+    → Returned (d .codec) (e .codec) w (moveBytesUnder d e table w out .word) (moveBytesUnder e d table)
+
+-- from any code to any other, with whatever figures
+abbrev pub ThereAndBackBytes : Type 0
+ThereAndBackBytes = (from to : Figures) → ThereAndBackBytesUnder (codingOf from) (codingOf to)

@@ -57,7 +57,8 @@ handedPowers p = powersOf (p .right) ++ (powersOf (p .left) ++ (p .«pupil_dista
 abbrev pub haveRoom : List ℕ → List Float → Bool
 haveRoom marks powers = eqb (length marks) 8 && eqb (length powers) 5
 
--- under any figures: prescription read 1 2, 10 for K, 3 4 7 19 8 9 19, 10, 16, 12 23 14, where 3 stands for the marks and the powers too
+-- under any figures: prescription read 1 2, 10 for K, 3 4 7 19 8 9 19, by the Larsson code 3 4 21 8 9 19, 10, 16, 12 23 14, where 3 stands for the marks
+-- and the powers too
 unfoldable pub prescriptionReadLent : Coding → List Entry → List ℕ → List ℕ → List Float → PowersLent
 prescriptionReadLent d es w marks powers =
     must (d .inRange && not (twice es)) (powersLent marks powers invalid)
@@ -82,7 +83,7 @@ withoutRoom d es = cond (twice es) invalid (withoutTable d)
 
 -- ---- Together
 
--- under the figures of either construction, what was written is read back under the same table, from every found word that differs from the written one
+-- under the figures of each code, what was written is read back under the same table, from every found word that differs from the written one
 -- only inside the bursts: its job number, and the marks and powers of both eyes
 abbrev pub LentReadsBack : Type 0
 LentReadsBack =

@@ -5,7 +5,7 @@ ghost use lib.ListN.{length};
 ghost use Rattle.cells.specs.Outcomes.{unwritten};
 ghost use Rattle.jobs.specs.Slots.{entries};
 ghost use Rattle.codes.specs.Bridge.{codingOf};
-ghost use Rattle.lent_prescriptions.specs.Eyes.{powersLent};
+ghost use Rattle.lent_prescriptions.specs.Eyes.{eyeFrom, powersLent};
 ghost use Rattle.lent_prescriptions.specs.Prescriptions.{prescriptionFrom, prescriptionWriteBytesUnder, handedMarks, handedPowers};
 ghost use Rattle.lent_prescriptions.specs.Prescriptions.{prescriptionReadLent, prescriptionReadBytesUnder, withoutRoom};
 use crate::eyes;
@@ -26,8 +26,37 @@ const MARKS_LEN: usize = 8;
 // Sphere and cylinder of both eyes, and the pupil distance.
 const POWERS_LEN: usize = 5;
 
+// Writes a job's number and the prescription of both eyes, four values each, and of the pupil distance into a word, with the table and the starts as bytes.
+// Refusals: 1 2 10 3 5 16 17 12 23 14.
+pub fn write_values(
+    figures: Figures,
+    table: &[u8],
+    starts: &[u8],
+    number: u32,
+    right_kind: u8,
+    right_sphere: f64,
+    right_cylinder: f64,
+    right_axis: u8,
+    left_kind: u8,
+    left_sphere: f64,
+    left_cylinder: f64,
+    left_axis: u8,
+    distance: f64,
+    word: &mut [u8],
+) -> u8
+    ensures { λ r. ⌜ unwritten (now (word .exit)) r
+        ≡ prescriptionWriteBytesUnder (codingOf figures) (now (table .entry)) (now (starts .entry)) number
+        (prescriptionFrom (eyeFrom «right_kind» «right_sphere» «right_cylinder» «right_axis»)
+        (eyeFrom «left_kind» «left_sphere» «left_cylinder» «left_axis») distance) (now (word .entry)) ⌝ }
+{
+    let right = eyes::eye_from(right_kind, right_sphere, right_cylinder, right_axis);
+    let left = eyes::eye_from(left_kind, left_sphere, left_cylinder, left_axis);
+    let prescription = of_eyes(right, left, distance);
+    write(figures, table, starts, number, prescription, word)
+}
+
 // The prescription of both eyes and the pupil distance.
-pub fn of_eyes(right: Eye, left: Eye, distance: f64) -> Prescription
+fn of_eyes(right: Eye, left: Eye, distance: f64) -> Prescription
     ensures { λ r. ⌜ r ≡ prescriptionFrom right left distance ⌝ }
 {
     Prescription {
@@ -37,8 +66,8 @@ pub fn of_eyes(right: Eye, left: Eye, distance: f64) -> Prescription
     }
 }
 
-// Writes a job's number and its prescription into a word, with the table and the starts as bytes. Refusals: 1 2 10 3 5 16 17 12 23 14.
-pub fn write(
+// The same for a prescription. Refusals: 1 2 10 3 5 16 17 12 23 14.
+fn write(
     figures: Figures,
     table: &[u8],
     starts: &[u8],
@@ -61,7 +90,7 @@ pub fn write(
 }
 
 // Reads a found word with the table as bytes, and puts its job number and its prescription into `marks` and `powers`. Refusals: 1 2, 10 for too few
-// bytes, 3 4 7 19 8 9 19, 10, 16, 12 23 14.
+// bytes, 3 4 7 19 8 9 19, by the Larsson code 3 4 21 8 9 19, 10, 16, 12 23 14.
 pub fn read(figures: Figures, table: &[u8], word: &[u8], marks: &mut [u8], powers: &mut [f64]) -> u8
     ensures { λ r. ⌜ powersLent (now (marks .exit)) (now (powers .exit)) r
         ≡ prescriptionReadBytesUnder (codingOf figures) (now (table .entry)) (now (word .entry)) (now (marks .entry)) (now (powers .entry)) ⌝ }

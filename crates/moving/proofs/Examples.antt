@@ -21,13 +21,16 @@ use Rattle.construction_a.specs.Writing.{becomes, withBurst, withBursts, isBurs
 use Rattle.construction_a.specs.Writing.{isIndex, indexBlocks, isFixed, kindAt as kindAtA, plan as planA, word as wordA}
 use Rattle.construction_a.specs.Reading.{looksFixed, bareParts, openBlocks, indexInPart, collect, indexFound, firstSymbols, written}
 use Rattle.construction_a.specs.Reading.{agrees as agreesA, readRank, read as readA}
+use Rattle.construction_b.specs.Figures.{inRange as inRangeB, fits as fitsB, partMin, partMost, indexTail as indexTailB, messageLen as messageLenB}
+use Rattle.construction_b.specs.Writing.{burstPart, indexPart, endOffset, plan as planB, wordFrom}
+use Rattle.construction_b.specs.Reading.{looksFixed as looksFixedB, indexFound as indexFoundB, before, written as writtenB, endAt, readPart, read as readB}
 use Rattle.larsson.specs.Figures.{subLen, gapTotal, gapLen, subStart, fits, messageLen}
 use Rattle.larsson.specs.Writing.{untouched, bears, bearers, inSub, isBorne, kindAt, plan, rankDigits, digits, word}
 use Rattle.larsson.specs.Reading.{subSymbols, subValue, found, agrees, readValue, read}
 use Rattle.jobs.specs.Table.{firstEntry, twice}
 use Rattle.payloads.specs.Payload.{carriesJob, jobNumber, messageOf, payloadIn, spellsPayload}
 use Rattle.moving.specs.Resize.{resized, hasRoom}
-use Rattle.moving.specs.Move.{jobWord, moveJob, moveMessage, move, moveOut}
+use Rattle.moving.specs.Move.{jobWord, moveJob, moveMessage, move, sameFigures, moveUnder}
 use Rattle.moving.specs.Examples.{examples, ExamplesHold}
 
 pub examples-hold : ExamplesHold
@@ -37,5 +40,6 @@ unfolding all any sameList sum firsts has first members tabulate top common majo
     isIndex indexBlocks isFixed cellOf kindAtA planA wordA looksFixed later bareParts openBlocks indexInPart collect indexFound firstSymbols written agreesA
     readRank readA subLen gapTotal gapLen subStart fits messageLen untouched bears bearers inSub isBorne kindAt plan rankDigits digits word
     foundBound hasErasure subSymbols subValue found agrees readValue read firstEntry twice carriesJob jobNumber messageOf payloadIn spellsPayload
-    resized hasRoom jobWord moveJob moveMessage move moveOut comesTrue examples flatMap
+    inRangeB fitsB partMin partMost indexTailB messageLenB burstPart indexPart endOffset planB wordFrom looksFixedB indexFoundB before writtenB endAt
+    readPart readB resized hasRoom jobWord moveJob moveMessage move sameFigures moveUnder comesTrue examples flatMap
 examples-hold = refl

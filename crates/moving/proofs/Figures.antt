@@ -1,6 +1,5 @@
--- Moving between the Larsson code and Construction A, both ways, as instances of moving between any two exact codecs. Assumes nothing.
-use mathlib.Core.Path.{_≡_, refl}
-use mathlib.Core.Logic.{_≢_}
+-- Moving under any two codes' figures, as an instance of moving between any two exact codecs. Assumes nothing.
+use mathlib.Core.Path.{_≡_, sym, ap₂, _∙_}
 use mathlib.Core.Bool.{true, not, _&&_}
 use mathlib.Core.List.{List}
 use Prim.Native.Nat.{ℕ, _-_}
@@ -11,93 +10,40 @@ use lib.Seq.{take-append-seam}
 use Rattle.refusals.specs.Refusals.{must, served, invalid, unfit}
 use Rattle.combinatorics.specs.Bursts.{apart}
 use Rattle.combinatorics.proofs.Cases.{eqb-same, eqb-true}
-use Rattle.combinatorics.proofs.Lists.{both}
+use Rattle.combinatorics.proofs.Lists.{both, in-all}
 use Rattle.cells.specs.Bytes.{payloadLen}
-use Rattle.cells.specs.Codec.{Codec}
-use Rattle.cells.proofs.Erasures.{found-least}
-use Rattle.cells.specs.Figures.{Params, inRange, isPlacement, maxBursts}
-use Rattle.construction_a.specs.Figures.{fits as fitsA}
-use Rattle.cells.specs.Outcomes.{Coding, Held, Encoded, unwritten}
-use Rattle.construction_a.specs.DemandTwo.{constructionA}
-use Rattle.construction_a.specs.Outcomes.{coding as codingA}
-use Rattle.cells.proofs.Figures.{ranged}
-use Rattle.construction_a.proofs.DemandTwo.{demand-two}
-use Rattle.larsson.specs.Figures.{fits as fitsLarsson}
-use Rattle.larsson.specs.Codec.{larsson}
-use Rattle.larsson.specs.Outcomes.{coding as codingLarsson}
-use Rattle.larsson.proofs.Exact.{larsson-exact}
+use Rattle.cells.specs.Figures.{maxBursts}
+use Rattle.cells.specs.Outcomes.{Coding, unwritten}
 use Rattle.codes.specs.declared.Figures.{Figures}
 use Rattle.codes.specs.Bridge.{codingOf}
 use Rattle.codes.proofs.Layouts.{small}
-use Rattle.codes.proofs.Exact.{reads-exactly, more-found}
+use Rattle.codes.proofs.Exact.{demand-two, more-found, placed-of, placed-is}
 use Rattle.jobs.specs.declared.Entry.{Entry}
 use Rattle.jobs.specs.Table.{twice}
+use Rattle.jobcodec.specs.DemandThree.{isRefusal}
 use Rattle.jobcodec.specs.JobWrite.{jobWriteUnder}
 use Rattle.jobcodec.proofs.Pairs.{not-served}
 use Rattle.jobcodec.proofs.DemandThree.{reads-in}
-use Rattle.moving.specs.Move.{jobWord, move, moveOut}
-use Rattle.moving.specs.ThereAndBack.{Returned, ThereAndBack, SameJob, MovesJob}
-use Rattle.moving.proofs.Moving.{Movable, WritesJobs, passed, accepted-move, returned, same-job}
+use Rattle.moving.specs.Given.{Alike}
+use Rattle.moving.specs.Move.{jobWord, move, sameFigures, moveUnder}
+use Rattle.moving.specs.ThereAndBack.{ThereAndBack, MovesJob}
+use Rattle.moving.proofs.Moving.{Movable, Passed, WritesJobs, passed, accepted-move, returned, same-job}
+use Rattle.moving.proofs.Steps.{PlacedIn}
 
-listed-number : (f : Params) (w : List ℕ) (a : ℕ) → Rattle.construction_a.specs.DemandTwo.Listed f w a → a ≢ served
-listed-number f w a (Rattle.construction_a.specs.DemandTwo.no-pattern x) = λ e. omega arith
-listed-number f w a (Rattle.construction_a.specs.DemandTwo.too-large ks x y) = λ e. omega arith
-listed-number f w a (Rattle.construction_a.specs.DemandTwo.disagreeing ks x y z) = λ e. omega arith
-listed-number f w a (Rattle.construction_a.specs.DemandTwo.erased-index ks x y) = λ e. omega arith
-listed-number f w a (Rattle.construction_a.specs.DemandTwo.erased-message ks ss x y) = λ e. omega arith
-
-larsson-number : (f : Params) (w : List ℕ) (a : ℕ) → Rattle.larsson.specs.Codec.Listed f w a → a ≢ served
-larsson-number f w a (Rattle.larsson.specs.Codec.no-majority x) = λ e. omega arith
-larsson-number f w a (Rattle.larsson.specs.Codec.too-large v x y) = λ e. omega arith
-larsson-number f w a (Rattle.larsson.specs.Codec.disagreeing v x y z) = λ e. omega arith
-larsson-number f w a (Rattle.larsson.specs.Codec.erased-message v x y z t) = λ e. omega arith
-
-pub movable-a : (f : Params) → inRange f ≡ true → fitsA f ≡ true → Movable (constructionA f)
-movable-a f i h =
-    let d = demand-two f i h in
-    record {
-      exact = d .exactly;
-      writes = d .written;
-      two = ranged f i .q-least;
-      finds = found-least (f .q);
-      numbered = λ w a e. listed-number f w a (d .listed w a .0 e);
-    }
-
-pub movable-larsson : (f : Params) → inRange f ≡ true → fitsLarsson f ≡ true → Movable (larsson f)
-movable-larsson f i h =
-    let d = larsson-exact f i h in
-    record {
-      exact = d .exactly;
-      writes = d .written;
-      two = ranged f i .q-least;
-      finds = found-least (f .q);
-      numbered = λ w a e. larsson-number f w a (d .listed w a .0 e);
-    }
-
--- ---- Under any code's figures
+-- ---- Each code
 
 pub movable-of : (f : Figures) → codingOf f .inRange ≡ true → codingOf f .fits ≡ true → Movable (codingOf f .codec)
 movable-of f i h =
-    let d = reads-exactly f i h in
+    let d = demand-two f i h in
     record {
       exact = d .exactly;
       writes = d .written;
       two = small f i .alphabet-least;
       finds = more-found f;
-      numbered = λ w a e z. not-served a (reads-in f i h .listed w a e .0) z;
+      numbered = λ w a e z. not-served a (in-all isRefusal (codingOf f .codec .wordRefusals) a (reads-in f i h .numbers) (d .own w a e)) z;
     }
 
--- ---- Job writing
-
--- a placement has m starts, each run behind the one before
-pub placed-apart : (f : Params) (ss : List ℕ) → isPlacement f ss ≡ true → (length ss ≡ f .m) × (apart (f .b) (f .n) 0 ss ≡ true)
-unfolding isPlacement
-placed-apart f ss p =
-    let v = both (eqb (length ss) (f .m)) (apart (f .b) (f .n) 0 ss) p in
-    (eqb-true (length ss) (f .m) (v .0), v .1)
-
-writes-jobs : (d : Coding) (es : List Entry) → d .inRange ≡ true → not (twice es) ≡ true → d .fits ≡ true
-    → ((ss : List ℕ) → d .codec .placed ss ≡ true → (length ss ≡ d .bursts) × (apart (d .burstLen) (d .codec .wordLen) 0 ss ≡ true))
+writes-jobs : (d : Coding) (es : List Entry) → d .inRange ≡ true → not (twice es) ≡ true → d .fits ≡ true → PlacedIn d
     → WritesJobs (d .codec) es (jobWriteUnder d es)
 unfolding jobWord
 writes-jobs d es range once fit starts-are ss payload out placed carries is number is-open lent =
@@ -116,72 +62,127 @@ writes-jobs d es range once fit starts-are ss payload out placed carries is numb
       is-open,
     )
 
--- ---- Figures that fit both
+-- ---- The same figures
+
+module _ (d e : Coding) where
+  pub alike-same : Alike d e → sameFigures d e ≡ true
+  unfolding sameFigures
+  alike-same a =
+      rw (
+        eqb-same (d .codec .wordLen) (e .codec .wordLen) (a .word),
+        eqb-same (d .codec .alphabet) (e .codec .alphabet) (a .alphabet),
+        eqb-same (d .bursts) (e .bursts) (a .bursts),
+        eqb-same (d .burstLen) (e .burstLen) (a .burst),
+      )
+
+  pub same-alike : sameFigures d e ≡ true → Alike d e
+  unfolding sameFigures
+  same-alike h =
+      let n = eqb (d .codec .wordLen) (e .codec .wordLen) in
+      let q = eqb (d .codec .alphabet) (e .codec .alphabet) in
+      let m = eqb (d .bursts) (e .bursts) in
+      let b = eqb (d .burstLen) (e .burstLen) in
+      let v = both (n && q && m) b h in
+      let x = both (n && q) m (v .0) in
+      let y = both n q (x .0) in
+      record {
+        word = eqb-true (d .codec .wordLen) (e .codec .wordLen) (y .0);
+        alphabet = eqb-true (d .codec .alphabet) (e .codec .alphabet) (y .1);
+        bursts = eqb-true (d .bursts) (e .bursts) (x .1);
+        burst = eqb-true (d .burstLen) (e .burstLen) (v .1);
+      }
+
+  -- and the other way round
+  pub flipped : Alike d e → Alike e d
+  flipped a = record { word = sym (a .word); alphabet = sym (a .alphabet); bursts = sym (a .bursts); burst = sym (a .burst) }
+
+-- a placement of one is a placement of the other
+placed-alike : (from to : Figures) → Alike (codingOf from) (codingOf to) → (ss : List ℕ) → codingOf from .codec .placed ss ≡ true
+    → codingOf to .codec .placed ss ≡ true
+placed-alike from to a ss p =
+    let v = placed-is from ss p in
+    placed-of to ss (v .0 ∙ a .bursts) (sym (ap₂ (λ (b n : ℕ). apart b n 0 ss) (a .burst) (a .word)) ∙ v .1)
+
+-- ---- Figures that are accepted
 
 -- past "1 2"
-pub record Fitting (f : Params) (es : List Entry) : Type 0 where
-  pub range : inRange f ≡ true
+pub record Fitting (d e : Coding) (es : List Entry) : Type 0 where
+  pub range-from : d .inRange ≡ true
+  pub range-to : e .inRange ≡ true
   pub once : not (twice es) ≡ true
-  pub fit-a : fitsA f ≡ true
-  pub fit-larsson : fitsLarsson f ≡ true
+  pub alike : Alike d e
+  pub fit-from : d .fits ≡ true
+  pub fit-to : e .fits ≡ true
 
-module _ (f : Params) (es : List Entry) (from to : Codec) where
-  pub past-figures : Fitting f es → (w out : List ℕ) → moveOut f from to es w out ≡ move from to es w out
-  unfolding moveOut
-  past-figures g w out = rw (g .range, g .once, g .fit-a, g .fit-larsson)
-
-  pub fitting : (w out : List ℕ) → moveOut f from to es w out .answer ≡ served → Fitting f es × (move from to es w out .answer ≡ served)
-  unfolding moveOut
-  fitting w out e =
-      let rest = move from to es w out in
-      let p₁ = passed (inRange f && not (twice es)) out invalid (must (fitsA f && fitsLarsson f) (unwritten out unfit) rest) (λ z. omega arith) e in
-      let p₂ = passed (fitsA f && fitsLarsson f) out unfit rest (λ z. omega arith) (p₁ .1) in
-      let v = both (inRange f) (not (twice es)) (p₁ .0) in
-      let g = both (fitsA f) (fitsLarsson f) (p₂ .0) in
-      (record { range = v .0; once = v .1; fit-a = g .0; fit-larsson = g .1 }, p₂ .1)
-
--- ---- One direction
-
-module _ (f : Params) (es : List Entry) (from to : Codec) (from-ok : Fitting f es → Movable from) (to-ok : Fitting f es → Movable to)
-    (alike : (starts : List ℕ) → from .placed starts ≡ to .placed starts) (w out : List ℕ) (e : moveOut f from to es w out .answer ≡ served) where
-  there : Returned from to w (moveOut f from to es w out .word) (moveOut f to from es)
-  there =
-      let g = fitting f es from to w out e in
-      let p = accepted-move from to es w out (from-ok (g .0) .numbered w) (g .1) in
-      rw (past-figures f es from to (g .0) w out)
-      (returned from to (from-ok (g .0)) (to-ok (g .0)) alike es w out (p .0) (p .1) (p .2) (moveOut f to from es) (past-figures f es to from (g .0)))
-
-  job : (write : Held → List ℕ → List ℕ → Encoded) → (Fitting f es → WritesJobs to es write)
-      → SameJob from to write es w (moveOut f from to es w out .word)
-  job write writes =
-      let g = fitting f es from to w out e in
-      let p = accepted-move from to es w out (from-ok (g .0) .numbered w) (g .1) in
-      rw (past-figures f es from to (g .0) w out)
-      (same-job from to (from-ok (g .0)) (to-ok (g .0)) alike es w out (p .0) (p .1) (p .2) write (writes (g .0)))
-
--- ---- Both
-
-module _ (f : Params) (es : List Entry) (w out : List ℕ) where
-  older-ok : Fitting f es → Movable (larsson f)
-  older-ok g = movable-larsson f (g .range) (g .fit-larsson)
-
-  newer-ok : Fitting f es → Movable (constructionA f)
-  newer-ok g = movable-a f (g .range) (g .fit-a)
-
-  pub there-and-back : ThereAndBack f es w out
-  there-and-back =
+module _ (d e : Coding) (es : List Entry) where
+  pub fitting-back : Fitting d e es → Fitting e d es
+  fitting-back g =
       record {
-        from-larsson = there f es (larsson f) (constructionA f) older-ok newer-ok (λ _. refl) w out;
-        from-a = there f es (constructionA f) (larsson f) newer-ok older-ok (λ _. refl) w out;
+        range-from = g .range-to;
+        range-to = g .range-from;
+        once = g .once;
+        alike = flipped d e (g .alike);
+        fit-from = g .fit-to;
+        fit-to = g .fit-from;
       }
 
-  pub moves-job : MovesJob f es w out
-  moves-job =
-      record {
-        from-larsson = λ e.
-            job f es (larsson f) (constructionA f) older-ok newer-ok (λ _. refl) w out e (jobWriteUnder (codingA f) es)
-            (λ g. writes-jobs (codingA f) es (g .range) (g .once) (g .fit-a) (placed-apart f));
-        from-a = λ e.
-            job f es (constructionA f) (larsson f) newer-ok older-ok (λ _. refl) w out e (jobWriteUnder (codingLarsson f) es)
-            (λ g. writes-jobs (codingLarsson f) es (g .range) (g .once) (g .fit-larsson) (placed-apart f));
-      }
+  pub past-figures : Fitting d e es → (w out : List ℕ) → moveUnder d e es w out ≡ move (d .codec) (e .codec) es w out
+  unfolding moveUnder
+  past-figures g w out = rw (alike-same d e (g .alike), g .range-from, g .range-to, g .once, g .fit-from, g .fit-to)
+
+  pub fitting : (w out : List ℕ) → moveUnder d e es w out .answer ≡ served → Fitting d e es × (move (d .codec) (e .codec) es w out .answer ≡ served)
+  unfolding moveUnder
+  fitting w out s =
+      let rest = move (d .codec) (e .codec) es w out in
+      let range = d .inRange && e .inRange && not (twice es) in
+      let fit = sameFigures d e && d .fits && e .fits in
+      let p₁ = passed range out invalid (must fit (unwritten out unfit) rest) (λ z. omega arith) s in
+      let p₂ = passed fit out unfit rest (λ z. omega arith) (p₁ .1) in
+      let v = both (d .inRange && e .inRange) (not (twice es)) (p₁ .0) in
+      let u = both (d .inRange) (e .inRange) (v .0) in
+      let g = both (sameFigures d e && d .fits) (e .fits) (p₂ .0) in
+      let h = both (sameFigures d e) (d .fits) (g .0) in (
+        record { range-from = u .0; range-to = u .1; once = v .1; alike = same-alike d e (h .0); fit-from = h .1; fit-to = g .1 },
+        p₂ .1,
+      )
+
+-- ---- An accepted move, from any code to any other
+
+module _ (from to : Figures) (es : List Entry) (w out : List ℕ) (s : moveUnder (codingOf from) (codingOf to) es w out .answer ≡ served) where
+  abbrev d : Coding
+  d = codingOf from
+
+  abbrev e : Coding
+  e = codingOf to
+
+  own : Fitting d e es
+  own = fitting d e es w out s .0
+
+  from-ok : Movable (d .codec)
+  from-ok = movable-of from (own .range-from) (own .fit-from)
+
+  to-ok : Movable (e .codec)
+  to-ok = movable-of to (own .range-to) (own .fit-to)
+
+  past : (starts : List ℕ) × (message : List ℕ) × Passed (d .codec) (e .codec) es w out starts message
+  past = accepted-move (d .codec) (e .codec) es w out (from-ok .numbered w) (fitting d e es w out s .1)
+
+pub there-and-back : ThereAndBack
+there-and-back from to es w out s =
+    let d = codingOf from in
+    let e = codingOf to in
+    let g = own from to es w out s in
+    let p = past from to es w out s in
+    rw (past-figures d e es g w out)
+    (returned (d .codec) (e .codec) (from-ok from to es w out s) (to-ok from to es w out s) (placed-alike from to (g .alike)) es w out (p .0) (p .1) (p .2)
+    (moveUnder e d es) (past-figures e d es (fitting-back d e es g)))
+
+pub moves-job : MovesJob
+moves-job from to es w out s =
+    let d = codingOf from in
+    let e = codingOf to in
+    let g = own from to es w out s in
+    let p = past from to es w out s in
+    rw (past-figures d e es g w out)
+    (same-job (d .codec) (e .codec) (from-ok from to es w out s) (to-ok from to es w out s) (placed-alike from to (g .alike)) es w out (p .0) (p .1) (p .2)
+    (jobWriteUnder e es) (writes-jobs e es (g .range-to) (g .once) (g .fit-to) (placed-is to)))

@@ -1,4 +1,4 @@
--- Moving between any two exact codecs whose placements are the same: there and back returns the message. Assumes nothing.
+-- Moving between any two exact codecs, where the placements of one are placements of the other: there and back returns the message. Assumes nothing.
 use mathlib.Core.Path.{_≡_, refl, sym, ap, _∙_}
 use mathlib.Core.Logic.{_≢_}
 use mathlib.Core.Bool.{Bool, true, false, _&&_}
@@ -148,7 +148,7 @@ module _ (c : Codec) (ok : Movable c) (starts ms : List ℕ) (placed : c .placed
   pub reads-back : (w : List ℕ) → Word c w → SpoiltFrom c starts (c .encode starts ms) w → c .decode w ≡ accepted starts ms
   reads-back w found outside = ok .exact w starts ms found .1 (record { placement = placed; count = count; symbols = symbols; outside = outside })
 
-module _ (from to : Codec) (ok-from : Movable from) (ok-to : Movable to) (alike : (starts : List ℕ) → from .placed starts ≡ to .placed starts)
+module _ (from to : Codec) (ok-from : Movable from) (ok-to : Movable to) (alike : (starts : List ℕ) → from .placed starts ≡ true → to .placed starts ≡ true)
     (es : List Entry) (w out starts ms : List ℕ) (p : Passed from to es w out starts ms) where
   -- the payload that was read, at its length and at the other
   y : List ℕ
@@ -184,7 +184,7 @@ module _ (from to : Codec) (ok-from : Movable from) (ok-to : Movable to) (alike 
   moved-word = ap (λ (r : Encoded). r .word) (passed-move from to es w out starts ms p)
 
   placed : to .placed starts ≡ true
-  placed = sym (alike starts) ∙ leads .placement
+  placed = alike starts (leads .placement)
 
   moved-count : length moved ≡ to .messageLen
   unfolding moved

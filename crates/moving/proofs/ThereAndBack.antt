@@ -12,14 +12,11 @@ use Rattle.combinatorics.specs.Bursts.{inBurst}
 use Rattle.combinatorics.specs.Lists.{allBelow}
 use Rattle.combinatorics.proofs.Cases.{by-bool, eqb-other}
 use Rattle.cells.specs.Codec.{Codec, Reading, accepted, refused, Word}
-use Rattle.cells.specs.Outcomes.{Encoded, unwritten}
-use Rattle.cells.proofs.Erasures.{found-least}
-use Rattle.cells.specs.Figures.{Params, inRange}
-use Rattle.construction_a.specs.Figures.{fits as fitsA}
-use Rattle.construction_a.specs.DemandTwo.{constructionA}
-use Rattle.cells.proofs.Figures.{ranged}
-use Rattle.larsson.specs.Figures.{fits as fitsLarsson}
-use Rattle.larsson.specs.Codec.{larsson}
+use Rattle.cells.specs.Outcomes.{Coding, Encoded, unwritten}
+use Rattle.codes.specs.Bridge.{codingOf}
+use Rattle.codes.specs.declared.Figures.{Figures}
+use Rattle.codes.proofs.Exact.{more-found, spoilt-is}
+use Rattle.codes.proofs.Layouts.{small}
 use Rattle.jobs.specs.declared.Entry.{Entry}
 use Rattle.jobs.specs.Jobs.{isJob, needsOpen}
 use Rattle.jobs.specs.Table.{twice}
@@ -28,7 +25,7 @@ use Rattle.jobcodec.specs.JobWrite.{jobStatus, whereOpen}
 use Rattle.roundtrip.specs.Damage.{damaged}
 use Rattle.roundtrip.proofs.ReadBack.{damaged-length, sound, damaged-below}
 use Rattle.moving.specs.Resize.{resized, hasRoom}
-use Rattle.moving.specs.Move.{payloadBytes, servedWord, jobWord, moveJob, moveMessage, moveRead, move, moveOut, toConstructionA, toLarsson}
+use Rattle.moving.specs.Move.{payloadBytes, servedWord, jobWord, moveJob, moveMessage, moveRead, move, sameFigures, moveUnder}
 use Rattle.moving.specs.ThereAndBack.{SpoiltFrom, MovedBack, thereAndBackAs, thereAndBackOut, CameBack}
 use Rattle.moving.proofs.Figures.{fitting, there-and-back}
 
@@ -55,18 +52,24 @@ module _ (from to : Codec) (es : List Entry) (out : List ℕ) where
       (test-keeps (hasRoom (payloadBytes to) y) out surplusBytes zero
       (test-keeps (isJob (jobNumber y)) out numberZero last (λ n. absurd (n refl)))))
 
-  pub move-keeps : (f : Params) (w : List ℕ) → Kept out (moveOut f from to es w out)
-  unfolding moveOut move
-  move-keeps f w =
+  move-keeps : (w : List ℕ) → Kept out (move from to es w out)
+  unfolding move
+  move-keeps w =
       let reads = moveRead from to es out (from .decode w) in
       let symbols = must (allBelow (from .foundBound) w) (unwritten out badSymbol) reads in
       let long = eqb (length w) (from .wordLen) && eqb (length out) (to .wordLen) in
       let carry = carriesJob (from .alphabet) (from .messageLen) && carriesJob (to .alphabet) (to .messageLen) in
-      test-keeps (inRange f && not (twice es)) out invalid (must (fitsA f && fitsLarsson f) (unwritten out unfit) (move from to es w out))
-      (test-keeps (fitsA f && fitsLarsson f) out unfit (move from to es w out)
-      (test-keeps carry out badPayload (must long (unwritten out wrongLength) symbols)
+      test-keeps carry out badPayload (must long (unwritten out wrongLength) symbols)
       (test-keeps long out wrongLength symbols
-      (test-keeps (allBelow (from .foundBound) w) out badSymbol reads (read-keeps (from .decode w))))))
+      (test-keeps (allBelow (from .foundBound) w) out badSymbol reads (read-keeps (from .decode w))))
+
+under-keeps : (d e : Coding) (es : List Entry) (w out : List ℕ) → Kept out (moveUnder d e es w out)
+unfolding moveUnder
+under-keeps d e es w out =
+    let rest = move (d .codec) (e .codec) es w out in
+    let fit = sameFigures d e && d .fits && e .fits in
+    test-keeps (d .inRange && e .inRange && not (twice es)) out invalid (must fit (unwritten out unfit) rest)
+    (test-keeps fit out unfit rest (move-keeps (d .codec) (e .codec) es out w))
 
 -- ---- What comes back
 
@@ -78,69 +81,77 @@ abbrev messageRead : Reading → List ℕ
 messageRead (accepted starts ms) = ms
 messageRead (refused a) = []
 
-module _ (f : Params) (es : List Entry) (starts w ds between lent : List ℕ) where
+module _ (from to : Figures) (es : List Entry) (starts w ds between lent : List ℕ) where
+  abbrev d : Coding
+  d = codingOf from
+
+  abbrev e : Coding
+  e = codingOf to
+
   abbrev moved : List ℕ
-  moved = toConstructionA f es w between .word
+  moved = moveUnder d e es w between .word
 
   abbrev found : List ℕ
-  found = damaged (inBurst (f .b) starts) ds moved
+  found = damaged (inBurst (e .burstLen) starts) ds moved
 
-  module _ (a : toConstructionA f es w between .answer ≡ served) where
-    found-word : allBelow (constructionA f .foundBound) ds ≡ true → Word (constructionA f) found
+  module _ (a : moveUnder d e es w between .answer ≡ served) where
+    found-word : allBelow (e .codec .foundBound) ds ≡ true → Word (e .codec) found
     found-word h =
-        let own = there-and-back f es w between .from-larsson a .unspoilt in
-        let q-least = ranged f (fitting f es (larsson f) (constructionA f) w between a .0 .range) .q-least in
-        let bound = constructionA f .foundBound in
+        let own = there-and-back from to es w between a .unspoilt in
+        let q-least = small to (fitting d e es w between a .0 .range-to) .alphabet-least in
+        let bound = e .codec .foundBound in
         record {
-          complete = damaged-length (inBurst (f .b) starts) ds moved ∙ own .complete;
-          symbols = damaged-below (inBurst (f .b) starts) ds moved bound bound (omega (arith, found-least (f .q), q-least)) (omega arith) h (own .symbols);
+          complete = damaged-length (inBurst (e .burstLen) starts) ds moved ∙ own .complete;
+          symbols = damaged-below (inBurst (e .burstLen) starts) ds moved bound bound (omega (arith, more-found to, q-least)) (omega arith) h (own .symbols);
         }
 
-    found-spoilt : (placement : List ℕ) → ((x : ℕ) → inBurst (f .b) starts x ≡ true → inBurst (f .b) placement x ≡ true)
-        → SpoiltFrom (constructionA f) placement moved found
-    found-spoilt placement inside x l e =
-        let own = there-and-back f es w between .from-larsson a .unspoilt in
-        sound (inBurst (f .b) starts) ds moved x (omega (arith, own .complete))
-        (by-bool (inBurst (f .b) starts x) (λ h. absurd (true≢false (sym (inside x h) ∙ e))) (λ h. h))
+    found-spoilt : (placement : List ℕ) → ((x : ℕ) → inBurst (e .burstLen) starts x ≡ true → inBurst (e .burstLen) placement x ≡ true)
+        → SpoiltFrom (e .codec) placement moved found
+    found-spoilt placement inside x l clean =
+        let own = there-and-back from to es w between a .unspoilt in
+        let outside = sym (spoilt-is to placement x) ∙ clean in
+        sound (inBurst (e .burstLen) starts) ds moved x (omega (arith, own .complete))
+        (by-bool (inBurst (e .burstLen) starts x) (λ h. absurd (true≢false (sym (inside x h) ∙ outside))) (λ h. h))
 
-    moved-out : thereAndBackOut f es starts w ds between lent ≡ thereAndBackAs (toLarsson f es found lent .answer) found (toLarsson f es found lent .word)
+    moved-out : thereAndBackOut d e es starts w ds between lent
+        ≡ thereAndBackAs (moveUnder e d es found lent .answer) found (moveUnder e d es found lent .word)
     unfolding thereAndBackOut
     moved-out = rw a
 
-  pub came-back : CameBack f es starts w ds between lent (thereAndBackOut f es starts w ds between lent .answer)
-      (thereAndBackOut f es starts w ds between lent .back)
-  came-back placement message a e h inside long =
-      let own = there-and-back f es w between .from-larsson a in
-      let at : own .starts ≡ placement = ap startsRead (sym (own .read) ∙ e) in
-      let ms : own .message ≡ message = ap messageRead (sym (own .read) ∙ e) in
-      let whole : toLarsson f es found lent ≡ servedWord (larsson f .encode (own .starts) (own .message)) =
+  pub came-back : CameBack d e es starts w ds between lent (thereAndBackOut d e es starts w ds between lent .answer)
+      (thereAndBackOut d e es starts w ds between lent .back)
+  came-back placement message a reads h inside long =
+      let own = there-and-back from to es w between a in
+      let at : own .starts ≡ placement = ap startsRead (sym (own .read) ∙ reads) in
+      let ms : own .message ≡ message = ap messageRead (sym (own .read) ∙ reads) in
+      let whole : moveUnder e d es found lent ≡ servedWord (d .codec .encode (own .starts) (own .message)) =
       own .returns found lent (found-word a h) (rw at (found-spoilt a placement inside)) long in
       rw (moved-out a, whole, ← at, ← ms) (record { accepts = refl; strip = refl; reads = own .again })
 
   -- ---- As the code goes about it
 
   -- the outcome, and with it what came back
-  pub with-strip : (r : ℕ) (x back : List ℕ) → thereAndBackAs r x back ≡ thereAndBackOut f es starts w ds between lent
-      → (thereAndBackAs r x back ≡ thereAndBackOut f es starts w ds between lent) × CameBack f es starts w ds between lent r back
-  with-strip r x back e = (e, subst (λ (o : MovedBack). CameBack f es starts w ds between lent (o .answer) (o .back)) (sym e) came-back)
+  pub with-strip : (r : ℕ) (x back : List ℕ) → thereAndBackAs r x back ≡ thereAndBackOut d e es starts w ds between lent
+      → (thereAndBackAs r x back ≡ thereAndBackOut d e es starts w ds between lent) × CameBack d e es starts w ds between lent r back
+  with-strip r x back is = (is, subst (λ (o : MovedBack). CameBack d e es starts w ds between lent (o .answer) (o .back)) (sym is) came-back)
 
-  module _ (r : ℕ) (x : List ℕ) (e : unwritten x r ≡ toConstructionA f es w between) where
-    answer-is : r ≡ toConstructionA f es w between .answer
-    answer-is = ap (λ (o : Encoded). o .answer) e
+  module _ (r : ℕ) (x : List ℕ) (is : unwritten x r ≡ moveUnder d e es w between) where
+    answer-is : r ≡ moveUnder d e es w between .answer
+    answer-is = ap (λ (o : Encoded). o .answer) is
 
     word-is : x ≡ moved
-    word-is = ap (λ (o : Encoded). o .word) e
+    word-is = ap (λ (o : Encoded). o .word) is
 
-    pub refused-there : r ≢ served → thereAndBackAs r x lent ≡ thereAndBackOut f es starts w ds between lent
+    pub refused-there : r ≢ served → thereAndBackAs r x lent ≡ thereAndBackOut d e es starts w ds between lent
     unfolding thereAndBackOut
     refused-there n =
-        let other : toConstructionA f es w between .answer ≢ served = λ z. n (answer-is ∙ z) in
-        rw (eqb-other (toConstructionA f es w between .answer) served other)
-        (ap₂ (λ (a : ℕ) (y : List ℕ). thereAndBackAs a y lent) answer-is (word-is ∙ move-keeps (larsson f) (constructionA f) es between f w other))
+        let other : moveUnder d e es w between .answer ≢ served = λ z. n (answer-is ∙ z) in
+        rw (eqb-other (moveUnder d e es w between .answer) served other)
+        (ap₂ (λ (a : ℕ) (y : List ℕ). thereAndBackAs a y lent) answer-is (word-is ∙ under-keeps d e es w between other))
 
-    pub moved-back : r ≡ served → (y : List ℕ) → y ≡ damaged (inBurst (f .b) starts) ds x → (r′ : ℕ) (back : List ℕ) → unwritten back r′ ≡ toLarsson f es y lent
-        → thereAndBackAs r′ y back ≡ thereAndBackOut f es starts w ds between lent
-    moved-back z y y-is r′ back e′ =
-        let spoilt : y ≡ found = y-is ∙ ap (damaged (inBurst (f .b) starts) ds) word-is in
-        let last : unwritten back r′ ≡ toLarsson f es found lent = e′ ∙ ap (λ (v : List ℕ). toLarsson f es v lent) spoilt in
+    pub moved-back : r ≡ served → (y : List ℕ) → y ≡ damaged (inBurst (e .burstLen) starts) ds x → (r′ : ℕ) (back : List ℕ)
+        → unwritten back r′ ≡ moveUnder e d es y lent → thereAndBackAs r′ y back ≡ thereAndBackOut d e es starts w ds between lent
+    moved-back z y y-is r′ back is′ =
+        let spoilt : y ≡ found = y-is ∙ ap (damaged (inBurst (e .burstLen) starts) ds) word-is in
+        let last : unwritten back r′ ≡ moveUnder e d es found lent = is′ ∙ ap (λ (v : List ℕ). moveUnder e d es v lent) spoilt in
         ap₂ (λ (v : List ℕ) (o : Encoded). thereAndBackAs (o .answer) v (o .word)) spoilt last ∙ sym (moved-out (sym answer-is ∙ z))

@@ -2,12 +2,13 @@
 use mathlib.Core.Path.{_≡_}
 use mathlib.Core.Bool.{_&&_}
 use Prim.Native.Nat.{ℕ}
-use lib.Dec.{eqb}
+use lib.Dec.{ltb, eqb}
 use Rattle.refusals.specs.Refusals.{must, invalid, unfit, wrongLength, badPayload}
-use Rattle.cells.specs.Outcomes.{Coding, Encoded}
+use Rattle.cells.specs.Outcomes.{Coding, FiguresOut, figured, unserved, Encoded}
 use Rattle.payloads.specs.Payload.{carriesJob}
 use Rattle.codes.specs.Given.{codingIn}
 use Rattle.moving.specs.Given.{BothReady}
+use Rattle.moving.specs.Move.{sameFigures}
 use Rattle.moving.specs.declared.both.BothAnswer.{BothAnswer}
 use Rattle.moving.specs.declared.both.BothAnswer.the-variants.{Fit, Refused}
 
@@ -21,9 +22,14 @@ afterFitting d e strip moved refuse rest =
 -- "1 2 10 3", and on
 abbrev pub fromFigures : Coding → Coding → ℕ → ℕ → (ℕ → Encoded) → Encoded → Encoded
 fromFigures d e strip moved refuse rest =
-    must (d .inRange) (refuse invalid)
-    (must (d .fits && e .fits) (refuse unfit)
+    must (d .inRange && e .inRange) (refuse invalid)
+    (must (sameFigures d e && d .fits && e .fits) (refuse unfit)
     (afterFitting d e strip moved refuse rest))
+
+-- "1 2": what two codes are refused with where one is refused with a, by the other's own answer
+abbrev pub firstRefusal : ℕ → FiguresOut → ℕ
+firstRefusal a (figured t r k) = a
+firstRefusal a (unserved b) = must (ltb b a) a b
 
 -- every order that begins so ends in the refusal, or is past all four
 abbrev pub BothIn : Coding → Coding → ℕ → ℕ → BothAnswer → Type 0

@@ -1,5 +1,5 @@
 -- Worked examples of moving as one table: n 11, q 256, m 2, b 1, where the Larsson code's payload has 6 bytes and Construction A's 5; and n 30, q 16, m 1,
--- b 3, where they have 11 and 12. The proof is `examples-hold` of proofs/Examples.antt. Assumes nothing.
+-- b 3, where they have 11 and 12, and Construction B's 12. The proof is `examples-hold` of proofs/Examples.antt. Assumes nothing.
 use mathlib.Core.Path.{_≡_}
 use mathlib.Core.Bool.{true}
 use mathlib.Core.List.{List, [], _∷_, _++_}
@@ -8,19 +8,28 @@ use lib.ListN.{replicate}
 use Rattle.combinatorics.specs.Examples.{Example, example, comesTrue}
 use Rattle.combinatorics.specs.Lists.{all}
 use Rattle.cells.specs.Figures.{Params, params}
-use Rattle.cells.specs.Outcomes.{Encoded}
+use Rattle.cells.specs.Outcomes.{Coding, Encoded}
 use Rattle.construction_a.specs.DemandTwo.{constructionA}
-use Rattle.larsson.specs.Codec.{larsson}
+use Rattle.construction_a.specs.Outcomes.{coding as codingA}
+use Rattle.construction_b.specs.Figures.{LongParams, longParams}
+use Rattle.construction_b.specs.DemandTwo.{constructionB}
+use Rattle.construction_b.specs.Outcomes.{coding as codingB}
+use Rattle.larsson.specs.DemandTwo.{larsson}
+use Rattle.larsson.specs.Outcomes.{coding as codingLarsson}
 use Rattle.jobs.specs.declared.Entry.{Entry}
 use Rattle.jobs.specs.declared.Entry.the-variants.{Free, Open, OnHold, Cancelled}
 use Rattle.jobs.specs.declared.Before.the-variants.{WasOpen}
-use Rattle.moving.specs.Move.{payloadBytes, toConstructionA, toLarsson}
+use Rattle.moving.specs.Move.{payloadBytes, moveUnder, toConstructionA, toLarsson}
 
 abbrev figures : Params
 figures = params 11 256 2 1
 
 abbrev hexFigures : Params
 hexFigures = params 30 16 1 3
+
+-- the same under Construction B
+abbrev longFigures : LongParams
+longFigures = longParams 30 16 3
 
 abbrev sampleTable : List Entry
 sampleTable = Open 7 ∷ Cancelled 9 WasOpen ∷ Open 0 ∷ OnHold 8 ∷ Free ∷ []
@@ -53,6 +62,12 @@ hexNewer spoilt index last =
     (0 ∷ 0 ∷ 0 ∷ 0 ∷ spoilt ∷ spoilt ∷ spoilt ∷ 0 ∷ 0 ∷ 0 ∷ []) ++ index
     ++ (7 ∷ 4 ∷ 1 ∷ 4 ∷ 2 ∷ 4 ∷ 3 ∷ 4 ∷ 0 ∷ 4 ∷ 4 ∷ 5 ∷ 4 ∷ 6 ∷ 4 ∷ 7 ∷ []) ++ last
 
+-- and in one of Construction B: the I part's head says that the run ends at 6, and a leftover is behind the last byte
+abbrev hexLong : ℕ → ℕ → List ℕ → List ℕ
+hexLong spoilt head last =
+    (0 ∷ 0 ∷ 0 ∷ 0 ∷ spoilt ∷ spoilt ∷ spoilt ∷ 0 ∷ 0 ∷ 0 ∷ head ∷ [])
+    ++ (7 ∷ 4 ∷ 1 ∷ 4 ∷ 2 ∷ 4 ∷ 3 ∷ 4 ∷ 4 ∷ 0 ∷ 4 ∷ 5 ∷ 4 ∷ 6 ∷ 4 ∷ 7 ∷ []) ++ last
+
 abbrev rank4 : List ℕ
 rank4 = 0 ∷ 4 ∷ []
 
@@ -67,6 +82,9 @@ toHexA w = shown (toConstructionA hexFigures sampleTable w (unchanged 30))
 
 abbrev toHexLarsson : List ℕ → List ℕ
 toHexLarsson w = shown (toLarsson hexFigures sampleTable w (unchanged 30))
+
+abbrev longTo : Coding → List ℕ → List ℕ
+longTo e w = shown (moveUnder (codingB longFigures) e sampleTable w (unchanged 30))
 
 unfoldable pub examples : List Example
 examples =
@@ -106,6 +124,21 @@ examples =
     ∷ example (toHexLarsson (hexNewer 0 (1 ∷ 16 ∷ []) (0 ∷ 0 ∷ []))) (19 ∷ unchanged 30)
     ∷ example (toHexLarsson (hexNewer 0 (15 ∷ 15 ∷ []) (0 ∷ 0 ∷ []))) (8 ∷ unchanged 30)
     ∷ example (toHexLarsson (hexNewer 0 (1 ∷ 15 ∷ []) (0 ∷ 0 ∷ []))) (9 ∷ unchanged 30)
+    -- from Construction B to A, and back
+    ∷ example (payloadBytes (constructionB longFigures) ∷ []) (12 ∷ [])
+    ∷ example (longTo (codingA hexFigures) (hexLong 16 7 (0 ∷ 0 ∷ 0 ∷ []))) (0 ∷ hexNewer 0 index4 (0 ∷ 0 ∷ []))
+    ∷ example (shown (moveUnder (codingA hexFigures) (codingB longFigures) sampleTable (hexNewer 16 index4 (4 ∷ 8 ∷ [])) (unchanged 30)))
+    (0 ∷ hexLong 0 7 (4 ∷ 8 ∷ 0 ∷ []))
+    -- and to the Larsson code, whose payload is the shorter; a value not below the B part's length
+    ∷ example (longTo (codingLarsson hexFigures) (hexLong 16 7 (0 ∷ 0 ∷ 0 ∷ []))) (0 ∷ hexOlder 0 rank4 rank4 ending)
+    ∷ example (longTo (codingLarsson hexFigures) (hexLong 16 7 (4 ∷ 8 ∷ 0 ∷ []))) (22 ∷ unchanged 30)
+    ∷ example (longTo (codingA hexFigures) (hexLong 16 11 (0 ∷ 0 ∷ 0 ∷ []))) (8 ∷ unchanged 30)
+    -- another b, another m; b 11 doesn't fit Construction B, and b 0 is out of range: 1 before 2
+    ∷ example (longTo (codingA (params 30 16 1 4)) (hexLong 16 7 (0 ∷ 0 ∷ 0 ∷ []))) (2 ∷ unchanged 30)
+    ∷ example (longTo (codingA (params 30 16 2 3)) (hexLong 16 7 (0 ∷ 0 ∷ 0 ∷ []))) (2 ∷ unchanged 30)
+    ∷ example (longTo (codingA (params 30 16 1 0)) (hexLong 16 7 (0 ∷ 0 ∷ 0 ∷ []))) (1 ∷ unchanged 30)
+    ∷ example (shown (moveUnder (codingB (longParams 30 16 11)) (codingA (params 30 16 1 0)) sampleTable (unchanged 30) (unchanged 30))) (1 ∷ unchanged 30)
+    ∷ example (shown (moveUnder (codingB (longParams 30 16 11)) (codingA (params 30 16 1 11)) sampleTable (unchanged 30) (unchanged 30))) (2 ∷ unchanged 30)
     ∷ []
 
 abbrev pub ExamplesHold : Type 0

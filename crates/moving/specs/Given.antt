@@ -65,7 +65,6 @@ pub record JobMessage (q : ℕ) (message other : List ℕ) : Type 0 where
 
 -- two codes of the same figures: words, alphabets and bursts are the same
 pub record Alike (d e : Coding) : Type 0 where
-  pub range : d .inRange ≡ e .inRange
   pub word : d .codec .wordLen ≡ e .codec .wordLen
   pub alphabet : d .codec .alphabet ≡ e .codec .alphabet
   pub bursts : d .bursts ≡ e .bursts

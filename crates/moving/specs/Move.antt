@@ -1,6 +1,6 @@
 -- Ticket 9 of document 02, "Moving the racks over": a job read under one codec and written under another, "with the same figures and placement".
 -- What a move answers, and what the lent word holds afterwards, for every input: "Only the output strip changes." Assumes nothing.
-use mathlib.Core.Bool.{not, _&&_}
+use mathlib.Core.Bool.{Bool, not, _&&_}
 use mathlib.Core.List.{List}
 use Prim.Native.Nat.{ℕ}
 use lib.Dec.{eqb}
@@ -9,12 +9,10 @@ use Rattle.refusals.specs.Refusals.{must, served, invalid, unfit, wrongLength, 
 use Rattle.combinatorics.specs.Lists.{allBelow}
 use Rattle.cells.specs.Bytes.{payloadLen}
 use Rattle.cells.specs.Codec.{Codec, Reading, accepted, refused}
-use Rattle.cells.specs.Figures.{Params, inRange}
-use Rattle.construction_a.specs.Figures.{fits as fitsA}
+use Rattle.cells.specs.Figures.{Params}
 use Rattle.cells.specs.Outcomes.{Coding, Encoded, unwritten}
-use Rattle.construction_a.specs.DemandTwo.{constructionA}
-use Rattle.larsson.specs.Figures.{fits as fitsLarsson}
-use Rattle.larsson.specs.Codec.{larsson}
+use Rattle.construction_a.specs.Outcomes.{coding as codingA}
+use Rattle.larsson.specs.Outcomes.{coding as codingLarsson}
 use Rattle.jobs.specs.declared.Entry.{Entry}
 use Rattle.jobs.specs.Jobs.{isJob}
 use Rattle.jobs.specs.Table.{twice}
@@ -62,27 +60,27 @@ move from to es w out =
     (must (allBelow (from .foundBound) w) (unwritten out badSymbol)
     (moveRead from to es out (from .decode w))))
 
--- ---- From figures to others, "with the same figures and placement": "Both layouts must fit, else 2"
+-- ---- From figures to others
 
+-- "with the same figures": n, q, m and b, where Construction B's m is 1
+unfoldable pub sameFigures : Coding → Coding → Bool
+sameFigures d e =
+    eqb (d .codec .wordLen) (e .codec .wordLen) && eqb (d .codec .alphabet) (e .codec .alphabet) && eqb (d .bursts) (e .bursts)
+    && eqb (d .burstLen) (e .burstLen)
+
+-- "Both layouts must fit, else 2", and figures that differ are 2 too: 1 2 10 3, the reader's from 4 on, 10, 12 23 14, 22, 17
 unfoldable pub moveUnder : Coding → Coding → List Entry → List ℕ → List ℕ → Encoded
 moveUnder d e es w out =
-    must (d .inRange && not (twice es)) (unwritten out invalid)
-    (must (d .fits && e .fits) (unwritten out unfit)
+    must (d .inRange && e .inRange && not (twice es)) (unwritten out invalid)
+    (must (sameFigures d e && d .fits && e .fits) (unwritten out unfit)
     (move (d .codec) (e .codec) es w out))
 
 -- ---- Between the Larsson code and Construction A
 
--- "Both layouts must fit, else 2"
-unfoldable pub moveOut : Params → Codec → Codec → List Entry → List ℕ → List ℕ → Encoded
-moveOut f from to es w out =
-    must (inRange f && not (twice es)) (unwritten out invalid)
-    (must (fitsA f && fitsLarsson f) (unwritten out unfit)
-    (move from to es w out))
-
 -- "A job read from an older strip should be written as a Construction A strip": 1 2 10 3 4 21 8 9 19 10, 12 23 14, 22, 17
 abbrev pub toConstructionA : Params → List Entry → List ℕ → List ℕ → Encoded
-toConstructionA f = moveOut f (larsson f) (constructionA f)
+toConstructionA f = moveUnder (codingLarsson f) (codingA f)
 
 -- "and moved back when an old edger needs it": 1 2 10 3 4 7 19 8 9 19 10, 12 23 14, 22, 17
 abbrev pub toLarsson : Params → List Entry → List ℕ → List ℕ → Encoded
-toLarsson f = moveOut f (constructionA f) (larsson f)
+toLarsson f = moveUnder (codingA f) (codingLarsson f)

@@ -10,19 +10,16 @@ use Rattle.refusals.specs.Refusals.{served}
 use Rattle.combinatorics.specs.Bursts.{inBurst}
 use Rattle.combinatorics.specs.Lists.{allBelow}
 use Rattle.cells.specs.Codec.{Codec, accepted, Word}
-use Rattle.cells.specs.Figures.{Params}
-use Rattle.construction_a.specs.DemandTwo.{constructionA}
-use Rattle.construction_a.specs.Outcomes.{coding as codingA}
-use Rattle.cells.specs.Outcomes.{Held, held, Encoded}
-use Rattle.larsson.specs.Codec.{larsson}
-use Rattle.larsson.specs.Outcomes.{coding as codingLarsson}
+use Rattle.cells.specs.Outcomes.{Coding, Held, held, Encoded}
+use Rattle.codes.specs.Bridge.{codingOf}
+use Rattle.codes.specs.declared.Figures.{Figures}
 use Rattle.jobs.specs.declared.Entry.{Entry}
 use Rattle.payloads.specs.Payload.{jobNumber}
 use Rattle.jobcodec.specs.JobWrite.{unless, jobWriteUnder}
 use Rattle.jobcodec.specs.JobRead.{handOut, jobReading}
 use Rattle.roundtrip.specs.Damage.{damaged}
 use Rattle.moving.specs.Resize.{resized, hasRoom}
-use Rattle.moving.specs.Move.{payloadBytes, servedWord, toConstructionA, toLarsson}
+use Rattle.moving.specs.Move.{payloadBytes, servedWord, moveUnder}
 
 -- w′ differs from a word only inside a placement's bursts
 abbrev pub SpoiltFrom : Codec → List ℕ → List ℕ → List ℕ → Type 0
@@ -39,12 +36,15 @@ pub record Returned (from to : Codec) (w moved : List ℕ) (back : List ℕ → 
   pub unspoilt : Word to moved
   pub again : from .decode (from .encode starts message) ≡ accepted starts message
 
--- for both directions
-pub record ThereAndBack (f : Params) (es : List Entry) (w out : List ℕ) : Type 0 where
-  pub from-larsson : toConstructionA f es w out .answer ≡ served
-      → Returned (larsson f) (constructionA f) w (toConstructionA f es w out .word) (toLarsson f es)
-  pub from-a : toLarsson f es w out .answer ≡ served
-      → Returned (constructionA f) (larsson f) w (toLarsson f es w out .word) (toConstructionA f es)
+-- "whenever the first move is accepted and the book is the same at the second"
+abbrev pub ThereAndBackUnder : Coding → Coding → Type 0
+ThereAndBackUnder d e =
+    (es : List Entry) (w out : List ℕ) → moveUnder d e es w out .answer ≡ served
+    → Returned (d .codec) (e .codec) w (moveUnder d e es w out .word) (moveUnder e d es)
+
+-- from any code to any other, with whatever figures: the first move is accepted only where they are the same
+abbrev pub ThereAndBack : Type 0
+ThereAndBack = (from to : Figures) → ThereAndBackUnder (codingOf from) (codingOf to)
 
 -- "A job read from an older strip should be written as a Construction A strip with the same figures and placement": what job reading hands out of the strip,
 -- and of the strip it was moved to; and what job writing, here `write`, leaves
@@ -61,13 +61,17 @@ pub record SameJob (from to : Codec) (write : Held → List ℕ → List ℕ →
   -- "with the same .. placement": the moved strip is what job writing leaves in any strip of the length, for the placement that was read
   pub as-written : (out : List ℕ) → length out ≡ to .wordLen → write (held starts) (resized (payloadBytes to) payload) out ≡ servedWord moved
 
-pub record MovesJob (f : Params) (es : List Entry) (w out : List ℕ) : Type 0 where
-  pub from-larsson : toConstructionA f es w out .answer ≡ served
-      → SameJob (larsson f) (constructionA f) (jobWriteUnder (codingA f) es) es w (toConstructionA f es w out .word)
-  pub from-a : toLarsson f es w out .answer ≡ served
-      → SameJob (constructionA f) (larsson f) (jobWriteUnder (codingLarsson f) es) es w (toLarsson f es w out .word)
+-- where a move is accepted
+abbrev pub MovesJobUnder : Coding → Coding → Type 0
+MovesJobUnder d e =
+    (es : List Entry) (w out : List ℕ) → moveUnder d e es w out .answer ≡ served
+    → SameJob (d .codec) (e .codec) (jobWriteUnder e es) es w (moveUnder d e es w out .word)
 
--- ---- One call that moves an older strip there and back, with damage in between
+-- from any code to any other
+abbrev pub MovesJob : Type 0
+MovesJob = (from to : Figures) → MovesJobUnder (codingOf from) (codingOf to)
+
+-- ---- One call that moves a strip there and back, with damage in between
 
 -- what it answers, and both lent strips afterwards
 pub record MovedBack : Type 0 where
@@ -80,11 +84,11 @@ thereAndBackAs a between back = record { answer = a; between = between; back = b
 
 -- the refusal of the first move, and both strips as they were lent; or what the second move makes of the strip that is found in between, with the values of
 -- ds in the bursts of a placement
-unfoldable pub thereAndBackOut : Params → List Entry → List ℕ → List ℕ → List ℕ → List ℕ → List ℕ → MovedBack
-thereAndBackOut f es starts w ds between lent =
-    let there = toConstructionA f es w between in
-    let found = damaged (inBurst (f .b) starts) ds (there .word) in
-    let back = toLarsson f es found lent in
+unfoldable pub thereAndBackOut : Coding → Coding → List Entry → List ℕ → List ℕ → List ℕ → List ℕ → List ℕ → MovedBack
+thereAndBackOut d e es starts w ds between lent =
+    let there = moveUnder d e es w between in
+    let found = damaged (inBurst (e .burstLen) starts) ds (there .word) in
+    let back = moveUnder e d es found lent in
     unless (there .answer) (λ a. thereAndBackAs a between lent)
     (thereAndBackAs (back .answer) found (back .word))
 
@@ -96,8 +100,8 @@ pub record Original (c : Codec) (starts message : List ℕ) (answer : ℕ) (back
 
 -- "returns the original message whenever the first move is accepted": where the damage is up to q and inside the bursts of the placement that was read, and
 -- the last strip has the length
-abbrev pub CameBack : Params → List Entry → List ℕ → List ℕ → List ℕ → List ℕ → List ℕ → ℕ → List ℕ → Type 0
-CameBack f es starts w ds between lent answer back =
-    (placement message : List ℕ) → toConstructionA f es w between .answer ≡ served → larsson f .decode w ≡ accepted placement message
-    → allBelow (constructionA f .foundBound) ds ≡ true → ((x : ℕ) → inBurst (f .b) starts x ≡ true → inBurst (f .b) placement x ≡ true) → length lent ≡ f .n
-    → Original (larsson f) placement message answer back
+abbrev pub CameBack : Coding → Coding → List Entry → List ℕ → List ℕ → List ℕ → List ℕ → List ℕ → ℕ → List ℕ → Type 0
+CameBack d e es starts w ds between lent answer back =
+    (placement message : List ℕ) → moveUnder d e es w between .answer ≡ served → d .codec .decode w ≡ accepted placement message
+    → allBelow (e .codec .foundBound) ds ≡ true → ((x : ℕ) → inBurst (e .burstLen) starts x ≡ true → inBurst (e .burstLen) placement x ≡ true)
+    → length lent ≡ d .codec .wordLen → Original (d .codec) placement message answer back

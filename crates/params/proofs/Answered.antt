@@ -6,16 +6,16 @@ use Rattle.construction_a.specs.Outcomes.{unserved, figuresNumber, figuresOut}
 use Rattle.params.specs.declared.Layout.{Layout}
 use Rattle.params.specs.declared.LayoutAnswer.{LayoutAnswer}
 use Rattle.params.specs.declared.LayoutAnswer.the-variants.{Fit, Refused}
-use Rattle.params.specs.Answer.{figuredAs, layoutNumber}
+use Rattle.params.specs.Answer.{blocksFigured, layoutNumber}
 
 -- an answer's number follows from its values
-pub number-is : (f : Params) (r : LayoutAnswer) → figuredAs r ≡ figuresOut f → layoutNumber r ≡ figuresNumber (figuresOut f)
+pub number-is : (f : Params) (r : LayoutAnswer) → blocksFigured r ≡ figuresOut f → layoutNumber r ≡ figuresNumber (figuresOut f)
 number-is f (Fit l) answer = ap figuresNumber answer
 number-is f (Refused a) answer = ap figuresNumber answer
 
 -- of an answer that was taken apart: a refusal is that of the figures alone
-pub refused-learnt : (f : Params) (r : LayoutAnswer) (a : ℕ) → r ≡ Refused a → figuredAs r ≡ figuresOut f → figuresOut f ≡ unserved a
-refused-learnt f r a e answer = sym answer ∙ ap figuredAs e
+pub refused-learnt : (f : Params) (r : LayoutAnswer) (a : ℕ) → r ≡ Refused a → blocksFigured r ≡ figuresOut f → figuresOut f ≡ unserved a
+refused-learnt f r a e answer = sym answer ∙ ap blocksFigured e
 
 -- the layout's numbers, as facts that arithmetic can use
 pub record Bounds (l : Layout) : Type 0 where

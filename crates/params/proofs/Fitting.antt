@@ -17,7 +17,7 @@ use Rattle.construction_a.proofs.Plan as Plan
 use Rattle.params.specs.declared.Layout.{Layout}
 use Rattle.params.specs.declared.LayoutAnswer.{LayoutAnswer}
 use Rattle.params.specs.declared.LayoutAnswer.the-variants.{Fit}
-use Rattle.params.specs.Answer.{figuredAs, LaidOut, LaidIn}
+use Rattle.params.specs.Answer.{blocksFigured, LaidOut, LaidIn}
 use Rattle.params.specs.Given.{figuresOf, LayoutFits, frameOf, Shaped}
 use Rattle.params.proofs.Answered.{Bounds}
 use Rattle.params.proofs.Shape as Shape
@@ -32,9 +32,9 @@ laid-fits f l range fit is =
     (same, record { range = ap inRange same ∙ range; fit = ap fits same ∙ fit; laid = subst (λ (g : Params). LaidOut g l) (sym same) is })
 
 -- of an answer that was taken apart: the layout's figures are the caller's, and they fit
-pub layout-fits : (f : Params) (r : LayoutAnswer) (l : Layout) → r ≡ Fit l → figuredAs r ≡ figuresOut f → LaidIn f r → (figuresOf l ≡ f) × LayoutFits l
+pub layout-fits : (f : Params) (r : LayoutAnswer) (l : Layout) → r ≡ Fit l → blocksFigured r ≡ figuresOut f → LaidIn f r → (figuresOf l ≡ f) × LayoutFits l
 layout-fits f r l e answer laid =
-    let fit = figured-fits f (l .«placement_count») (l .«index_tail») (l .«message_len») (sym answer ∙ ap figuredAs e) in
+    let fit = figured-fits f (l .«placement_count») (l .«index_tail») (l .«message_len») (sym answer ∙ ap blocksFigured e) in
     laid-fits f l (fit .0) (fit .1) (subst (LaidIn f) e laid)
 
 module _ (l : Layout) (g : LayoutFits l) where

@@ -22,15 +22,10 @@ range-same f = go (leb 3 (f .n) && leb (f .n) maxWord && leb 2 (f .q) && leb (f 
     go true = refl
     go false = refl
 
--- L and T, as they are worked out
-module _ (f : LongParams) where
-  pub min-is : f .n / parts ≡ partMin f
-  unfolding partMin
-  min-is = refl
-
-  pub count-is : f .n - f .b + 1 ≡ placementCount f
-  unfolding placementCount
-  count-is = refl
+-- T, as it is worked out
+pub count-is : (f : LongParams) → f .n - f .b + 1 ≡ placementCount f
+unfolding placementCount
+count-is f = refl
 
 module _ (f : LongParams) (range : inRange f ≡ true) where
   -- "It needs b at most L", which fails

@@ -4,7 +4,7 @@ use Prim.Native.Nat.{ℕ, _≤_}
 use Rattle.refusals.specs.Refusals.{served}
 use Rattle.cells.specs.Outcomes.{Coding}
 use Rattle.cells.specs.Figures.{Params, maxWord, maxAlphabet, maxBursts, placementCount}
-use Rattle.construction_a.specs.Figures.{parts, blockMin, indexTail, messageLen}
+use Rattle.construction_a.specs.Figures.{parts, indexTail, messageLen}
 use Rattle.construction_a.specs.Outcomes.{FiguresOut, figured, unserved}
 use Rattle.construction_b.specs.Figures.{LongParams}
 use Rattle.construction_b.specs.Figures as B
@@ -14,9 +14,9 @@ use Rattle.params.specs.declared.LayoutAnswer.the-variants.{Fit, Refused
 use Rattle.params.specs.declared.Spells.the-variants.{Rank, EndOffset}
 
 -- T, r and k of figures that fit, or the refusal's number
-abbrev pub figuredAs : LayoutAnswer → FiguresOut
-figuredAs (Fit l) = figured (l .«placement_count») (l .«index_tail») (l .«message_len»)
-figuredAs (Refused a) = unserved a
+abbrev pub blocksFigured : LayoutAnswer → FiguresOut
+blocksFigured (Fit l) = figured (l .«placement_count») (l .«index_tail») (l .«message_len»)
+blocksFigured (Refused a) = unserved a
 
 -- document 01's number for each case: 0, or the refusal
 abbrev pub layoutNumber : LayoutAnswer → ℕ
@@ -30,7 +30,6 @@ pub record LaidOut (f : Params) (l : Layout) : Type 0 where
   pub m-is : l .m ≡ f .m
   pub b-is : l .b ≡ f .b
   pub parts-is : l .parts ≡ parts f
-  pub min-is : l .«block_min» ≡ blockMin f
   pub count-is : l .«placement_count» ≡ placementCount f
   pub tail-is : l .«index_tail» ≡ indexTail f
   pub len-is : l .«message_len» ≡ messageLen f
@@ -50,7 +49,6 @@ pub record LongLaidOut (f : LongParams) (l : Layout) : Type 0 where
   pub m-is : l .m ≡ 1
   pub b-is : l .b ≡ f .b
   pub parts-is : l .parts ≡ B.parts
-  pub min-is : l .«block_min» ≡ B.partMin f
   pub count-is : l .«placement_count» ≡ B.placementCount f
   pub tail-is : l .«index_tail» ≡ B.indexTail f
   pub len-is : l .«message_len» ≡ B.messageLen f
@@ -61,10 +59,10 @@ abbrev pub LongLaidIn : LongParams → LayoutAnswer → Type 0
 LongLaidIn f (Fit l) = LongLaidOut f l
 LongLaidIn f (Refused a) = Unit {0}
 
--- ---- Either
+-- ---- Either construction
 
--- what every layout has of its figures' code, whatever the construction
-pub record HasNumbers (d : Coding) (l : Layout) : Type 0 where
+-- what every layout by blocks has of its figures' code
+pub record BlocksHaveNumbers (d : Coding) (l : Layout) : Type 0 where
   pub word-is : l .n ≡ d .codec .wordLen
   pub alphabet-is : l .q ≡ d .codec .alphabet
   pub bursts-is : l .m ≡ d .bursts

@@ -54,16 +54,16 @@ abbrev pub codingWith : Spells → Params → Coding
 codingWith Rank f = codingA f
 codingWith EndOffset f = codingB (longOf f)
 
-abbrev pub codingIn : Layout → Coding
-codingIn l = codingWith (l .spells) (figuresOf l)
+abbrev pub blocksCoding : Layout → Coding
+blocksCoding l = codingWith (l .spells) (figuresOf l)
 
 abbrev pub LayoutFitsWith : Spells → Layout → Type 0
 LayoutFitsWith Rank l = LayoutFits l
 LayoutFitsWith EndOffset l = LongLayoutFits l
 
 -- the figures of its construction fit, and the layout is theirs
-abbrev pub Serves : Layout → Type 0
-Serves l = LayoutFitsWith (l .spells) l
+abbrev pub BlocksServe : Layout → Type 0
+BlocksServe l = LayoutFitsWith (l .spells) l
 
 -- what the index blocks spell of a placement: its rank, or how far into its part the burst ends
 abbrev pub spelledWith : Spells → Params → List ℕ → ℕ

@@ -6,16 +6,15 @@ ghost use Rattle.cells.specs.Figures.{params, inRange, maxCount, placementCount
 ghost use Rattle.construction_a.specs.Figures.{parts as partsOf};
 ghost use Rattle.construction_a.specs.Outcomes.{figuresNumber, figuresOut};
 ghost use Rattle.cells.specs.Cut.{blockHead, blockWith};
-ghost use Rattle.cells.specs.Erasures.{foundBound};
 ghost use Rattle.params.specs.Bridge.{given};
-ghost use Rattle.params.specs.Answer.{figuredAs, layoutNumber, LaidIn};
+ghost use Rattle.params.specs.Answer.{blocksFigured, layoutNumber, LaidIn};
 ghost use Rattle.params.specs.Given.{figuresOf, Shaped, HeadsOf};
 use binomials::CountAnswer;
 use refusals::Refusal;
-use symbols::numbers::BYTE_VALUES;
 
 pub mod bytes;
 pub mod cut;
+pub mod found;
 pub mod heads;
 pub mod long;
 pub mod tail;
@@ -34,7 +33,7 @@ pub enum Spells {
     EndOffset,
 }
 
-// The figures of a word that can be laid out, and document 01's p, L, T, r and k, in this order, which follow from them; Construction B has one burst
+// The figures of a word that can be laid out, and document 01's p, T, r and k, in this order, which follow from them; Construction B has one burst
 // and three parts, which are its blocks. Positions and lengths are usize, values u64.
 pub struct Layout {
     pub n: usize,
@@ -42,7 +41,6 @@ pub struct Layout {
     pub m: usize,
     pub b: usize,
     pub parts: usize,
-    pub block_min: usize,
     pub placement_count: u64,
     pub index_tail: usize,
     pub message_len: usize,
@@ -77,7 +75,7 @@ impl Params {
 
     // The layout that the figures give, whatever numbers come. Refusals in order: 1 for a figure out of range, 2 for figures that don't fit.
     pub fn figures(n: u32, q: u32, m: u32, b: u32) -> LayoutAnswer
-        ensures answer { λ r. ⌜ figuredAs r ≡ figuresOut (params n q m b) ⌝ }
+        ensures answer { λ r. ⌜ blocksFigured r ≡ figuresOut (params n q m b) ⌝ }
         ensures layout { λ r. ⌜ LaidIn (params n q m b) r ⌝ }
         ensures number { λ r. ⌜ layoutNumber r ≡ figuresNumber (figuresOut (params n q m b)) ⌝ }
     {
@@ -122,7 +120,7 @@ impl Params {
     // The layout of figures in range whose bursts a word can hold. Refusal: 2.
     fn laid_out(self) -> LayoutAnswer
         requires { ⌜ (inRange (given self) ≡ true) × (self .m * self .b ≤ self .n) ⌝ }
-        ensures answer { λ r. ⌜ figuredAs r ≡ figuresOut (given self) ⌝ }
+        ensures answer { λ r. ⌜ blocksFigured r ≡ figuresOut (given self) ⌝ }
         ensures layout { λ r. ⌜ LaidIn (given self) r ⌝ }
     {
         let things = (self.n - self.m * self.b + self.m) as u64;
@@ -136,7 +134,7 @@ impl Params {
     // The same for figures whose placements are counted. Refusal: 2.
     fn counted(self, count: u64) -> LayoutAnswer
         requires { ⌜ (inRange (given self) ≡ true) × (self .m * self .b ≤ self .n) × (count ≡ placementCount (given self)) × (count ≤ maxCount) ⌝ }
-        ensures answer { λ r. ⌜ figuredAs r ≡ figuresOut (given self) ⌝ }
+        ensures answer { λ r. ⌜ blocksFigured r ≡ figuresOut (given self) ⌝ }
         ensures layout { λ r. ⌜ LaidIn (given self) r ⌝ }
     {
         let n = self.n as usize;
@@ -159,7 +157,6 @@ impl Params {
             m,
             b,
             parts,
-            block_min,
             placement_count: count,
             index_tail,
             message_len,
@@ -184,17 +181,6 @@ impl Layout {
 
     // Room for the first position of every block, and for the word's length behind them.
     pub const MAX_HEADS: usize = Layout::MAX_BLOCKS + 1;
-
-    // The bound of what can be found in a cell: q itself is a cell without a reading, where a byte has room for it.
-    pub fn found_bound(self) -> u64
-        ensures { λ r. ⌜ r ≡ foundBound (self .q) ⌝ }
-    {
-        if self.q < BYTE_VALUES {
-            self.q + 1
-        } else {
-            self.q
-        }
-    }
 
     // The first position of block k, counted through the word, from the array of all; the word's length for the number behind the last block's.
     pub fn block_head(self, heads: &[u16; Layout::MAX_HEADS], k: usize) -> usize

@@ -5,7 +5,7 @@ ghost use Rattle.construction_b.specs.Figures.{longParams, inRange};
 ghost use Rattle.cells.specs.Outcomes.{figuresUnder};
 ghost use Rattle.construction_b.specs.Outcomes.{coding};
 ghost use Rattle.params.specs.Bridge.{givenLong};
-ghost use Rattle.params.specs.Answer.{figuredAs, LongLaidIn};
+ghost use Rattle.params.specs.Answer.{blocksFigured, LongLaidIn};
 use crate::Layout;
 use crate::LayoutAnswer;
 use crate::Params;
@@ -25,7 +25,7 @@ const PARTS: usize = Params::MIN_PARTS as usize;
 impl LongParams {
     // The layout that the figures give, whatever numbers come. Refusals in order: 1 for a figure out of range, 2 for figures that don't fit.
     pub fn figures(n: u32, q: u32, b: u32) -> LayoutAnswer
-        ensures answer { λ r. ⌜ figuredAs r ≡ figuresUnder (coding (longParams n q b)) ⌝ }
+        ensures answer { λ r. ⌜ blocksFigured r ≡ figuresUnder (coding (longParams n q b)) ⌝ }
         ensures layout { λ r. ⌜ LongLaidIn (longParams n q b) r ⌝ }
     {
         let base = Params { n, q, m: 1, b };
@@ -39,7 +39,7 @@ impl LongParams {
     // The same for figures in range. Refusal: 2.
     fn laid_out(self) -> LayoutAnswer
         requires { ⌜ inRange (givenLong self) ≡ true ⌝ }
-        ensures answer { λ r. ⌜ figuredAs r ≡ figuresUnder (coding (givenLong self)) ⌝ }
+        ensures answer { λ r. ⌜ blocksFigured r ≡ figuresUnder (coding (givenLong self)) ⌝ }
         ensures layout { λ r. ⌜ LongLaidIn (givenLong self) r ⌝ }
     {
         let n = self.n as usize;
@@ -61,7 +61,6 @@ impl LongParams {
             m: 1,
             b,
             parts: PARTS,
-            block_min,
             placement_count: placements as u64,
             index_tail,
             message_len: n - b - index_tail - 2,

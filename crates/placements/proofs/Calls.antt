@@ -22,7 +22,7 @@ use Rattle.construction_b.proofs.Figures.{count-is}
 use Rattle.params.specs.declared.Spells.{Spells}
 use Rattle.params.specs.declared.Spells.the-variants.{Rank, EndOffset}
 use Rattle.params.specs.declared.Layout.{Layout}
-use Rattle.params.specs.Given.{figuresOf, longOf, codingWith, codingIn, LayoutFitsWith, Serves}
+use Rattle.params.specs.Given.{figuresOf, longOf, codingWith, blocksCoding, LayoutFitsWith, BlocksServe}
 use Rattle.params.proofs.Either.{in-shape, in-order, numbers-in}
 use Rattle.placements.specs.declared.Placement.{Placement}
 use Rattle.placements.specs.Bridge.{heldAs, startsIn, coverable, leastCover, coverWithin, Rankable, Room}
@@ -74,9 +74,9 @@ module _ (n m b : ℕ) (map : List ℕ) where
     pub cover-some : allBelow 2 map ≡ true → coverable n m b map ≡ true → coverWithin n m b map ≡ record { answer = served; placement = leastCover n m b map }
     cover-some bytes some = rw (eqb-same (length map) n size, bytes, some)
 
-module _ (l : Layout) (g : Serves l) where
+module _ (l : Layout) (g : BlocksServe l) where
   -- T counts all placements, whichever construction laid the figures out
-  counts-all : codingIn l .placementCount ≡ placements (l .n) (l .m) (l .b)
+  counts-all : blocksCoding l .placementCount ≡ placements (l .n) (l .m) (l .b)
   counts-all = go (l .spells) g
     where
       go : (s : Spells) → LayoutFitsWith s l → codingWith s (figuresOf l) .placementCount ≡ placements (l .n) (l .m) (l .b)
@@ -92,7 +92,7 @@ module _ (l : Layout) (g : Serves l) where
       record { short = r .n-most; few = r .m-most; some = r .b-least; within = h .total }
 
   -- behind 1 and 2 it is covering by the layout's own numbers
-  pub covers-within : (map : List ℕ) → coverWithin (l .n) (l .m) (l .b) map ≡ coverUnder (codingIn l) map
+  pub covers-within : (map : List ℕ) → coverWithin (l .n) (l .m) (l .b) map ≡ coverUnder (blocksCoding l) map
   covers-within map =
       let order = in-order l g in
       let is = numbers-in l g in

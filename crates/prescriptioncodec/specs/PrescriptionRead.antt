@@ -51,7 +51,7 @@ prescriptionReading c es w =
     (must (allBelow (c .foundBound) w) (refused badSymbol)
     (prescriptionIn (c .alphabet) (c .messageLen) es (c .decode w))))
 
--- ---- Under any figures: prescription read 1 2, 10 for K, 3 4 7 19 8 9 19, 10, 16, 12 23 14
+-- ---- Under any figures: prescription read 1 2, 10 for K, 3 4 7 19 8 9 19, by the Larsson code 3 4 21 8 9 19, 10, 16, 12 23 14
 
 abbrev pub prescriptionReadUnder : Coding → List Entry → List ℕ → Answered HandedOut
 prescriptionReadUnder d es w =

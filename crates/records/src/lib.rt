@@ -20,7 +20,6 @@ use params::bytes;
 use params::long::LongParams;
 use placements::Placement;
 use placements::starts;
-use refusals::Refusal;
 use symbols::numbers;
 use symbols::numbers::NUMBER_BYTES;
 

@@ -109,6 +109,18 @@ jobHeld = 23
 abbrev pub notHeld : ℕ
 notHeld = 24
 
+-- ---- What a reader refuses a found word with, in order, once its length and its values are right
+
+-- "word read .. 7 8 9"; document 02, ticket 6: 19 "between 7 and 8", and "after 9"
+abbrev pub patternRefusals : List ℕ
+patternRefusals = noPattern ∷ erased ∷ valueTooLarge ∷ disagrees ∷ erased ∷ []
+
+-- document 02, ticket 8: "21, in the place of 7"; "A value of T or more is 8; .. is 9; a silent cell in the message is 19."
+abbrev pub majorityRefusals : List ℕ
+majorityRefusals = noMajority ∷ valueTooLarge ∷ disagrees ∷ erased ∷ []
+
+-- ---- All
+
 -- both lists
 abbrev pub refusals : List ℕ
 refusals =

@@ -1,24 +1,23 @@
 -- A word that is damaged inside its bursts reads back. Assumes nothing.
-use mathlib.Core.Path.{_≡_, refl, sym, ap, _∙_}
+use mathlib.Core.Path.{_≡_, sym, ap, _∙_}
 use mathlib.Core.Bool.{Bool, true, false, cond}
 use mathlib.Core.List.{List}
 use Prim.Native.Nat.{ℕ, _≤_, _<_}
 use native.Mathlib.Nat.{zero-add}
 use native.Mathlib.Omega.{arith}
-use lib.Dec.{eqb}
 use lib.ListN.{length, getD}
-use Rattle.combinatorics.specs.Bursts.{apart, inBurst}
+use Rattle.combinatorics.specs.Bursts.{inBurst}
 use Rattle.combinatorics.specs.Lists.{allBelow}
 use Rattle.combinatorics.proofs.Cases.{by-bool}
-use Rattle.combinatorics.proofs.Lists.{both, below-at, at-below}
+use Rattle.combinatorics.proofs.Lists.{below-at, at-below}
 use Rattle.combinatorics.proofs.Members.{length-tabulate, tabulate-at}
-use Rattle.cells.specs.Codec.{LeadsTo, ReadsExactly}
+use Rattle.cells.specs.Codec.{LeadsTo}
 use Rattle.cells.specs.Figures.{maxBursts}
 use Rattle.cells.specs.Outcomes.{Coding, Held, inUse, Encoded, encodeUnder, decodedFrom, decodeUnder}
 use Rattle.codes.specs.Bridge.{codingOf}
 use Rattle.codes.specs.declared.Figures.{Figures}
 use Rattle.codes.proofs.Layouts.{small}
-use Rattle.codes.proofs.Exact.{reads-exactly, placed-is, more-found, spoilt-is}
+use Rattle.codes.proofs.Exact.{demand-two, placed-is, more-found, spoilt-is}
 use Rattle.encoder.proofs.Outcomes.{encode-served}
 use Rattle.decoder.proofs.Calls.{decode-read}
 use Rattle.roundtrip.specs.Damage.{damaged}
@@ -65,7 +64,7 @@ module _ (f : Figures) (at : Held) (ms ds w out : List ℕ) (h : Writable (codin
   few-bursts = omega (arith, h .count, small f (h .range) .bursts-most)
 
   pub written-len : length codeword ≡ codingOf f .codec .wordLen
-  written-len = reads-exactly f (h .range) (h .fit) .written (inUse at) ms (h .placed) (h .sent) (h .symbols) .0
+  written-len = demand-two f (h .range) (h .fit) .written (inUse at) ms (h .placed) (h .sent) (h .symbols) .0
 
   found-len : length found ≡ d .codec .wordLen
   found-len = damaged-length (inBurst (d .burstLen) (inUse at)) ds codeword ∙ written-len
@@ -75,7 +74,7 @@ module _ (f : Figures) (at : Held) (ms ds w out : List ℕ) (h : Writable (codin
       damaged-below (inBurst (d .burstLen) (inUse at)) ds codeword (d .codec .alphabet) (d .codec .foundBound)
       (omega (arith, small f (h .range) .alphabet-least)) (more-found f)
       (h .damage-symbols)
-      (reads-exactly f (h .range) (h .fit) .written (inUse at) ms (h .placed) (h .sent) (h .symbols) .1)
+      (demand-two f (h .range) (h .fit) .written (inUse at) ms (h .placed) (h .sent) (h .symbols) .1)
 
   leads : LeadsTo (d .codec) found (inUse at) ms
   leads =
@@ -89,5 +88,5 @@ module _ (f : Figures) (at : Held) (ms ds w out : List ℕ) (h : Writable (codin
   pub reads-back : decodeUnder (codingOf f) found out ≡ readBack (codingOf f) (inUse at) ms
   reads-back =
       decode-read d found out (h .range) (h .fit) found-len (h .read-len) found-below
-      ∙ ap (decodedFrom (d .burstLen) out) (reads-exactly f (h .range) (h .fit) .exactly found (inUse at) ms
+      ∙ ap (decodedFrom (d .burstLen) out) (demand-two f (h .range) (h .fit) .exactly found (inUse at) ms
       (record { complete = found-len; symbols = found-below }) .1 leads)

@@ -28,19 +28,8 @@ pub fn round_trip(
     ensures read { λ r. ⌜ decodedAs r (now (read .exit)) ≡ readBack (codingOf figures) (startsIn at) (now (message .entry)) ⌝ }
 {
     codes::encode(figures, at, message, word);
-    spoil(at, burst_len(figures), damage, word);
+    spoil(at, figures.burst_len(), damage, word);
     codes::decode(figures, word, read)
-}
-
-// b of any code's figures.
-fn burst_len(figures: Figures) -> u32
-    ensures { λ r. ⌜ r ≡ codingOf figures .burstLen ⌝ }
-{
-    match figures {
-        Figures::Ranked(given) => given.b,
-        Figures::Long(given) => given.b,
-        Figures::Larsson(given) => given.b,
-    }
 }
 
 // The symbols of `damage` stand in the word wherever a burst has its position.

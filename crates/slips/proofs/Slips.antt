@@ -2,44 +2,46 @@
 use mathlib.Core.Path.{_≡_, refl, sym, ap, ap₂, _∙_}
 use mathlib.Core.Bool.{Bool, true, false, not, true≢false}
 use mathlib.Core.List.{List, [], map}
-use Prim.Native.Nat.{ℕ, suc, _*_, _≤_, _<_}
+use Prim.Native.Nat.{ℕ, suc, _*_, _<_}
 use native.Mathlib.Omega.{arith}
 use lib.Dec.{eqb}
 use lib.ListN.{length, getD, length-map}
 use Rattle.combinatorics.specs.Bursts.{inBurst}
-use Rattle.combinatorics.specs.Lists.{allBelow}
 use Rattle.combinatorics.specs.Stretch.{count, members, tabulate}
-use Rattle.combinatorics.proofs.Cases.{by-bool, by-eq, eqb-same}
+use Rattle.combinatorics.proofs.Cases.{by-bool, eqb-same}
 use Rattle.combinatorics.proofs.Lists.{below-at, some-below, at-below}
-use Rattle.combinatorics.proofs.Members.{length-members}
 use Rattle.combinatorics.proofs.Stretch.{members-ext}
 use Rattle.cells.specs.Cells.{Cell, burst, fixed, digit, message, is, weave, pick}
-use Rattle.cells.specs.Codec.{Codec, accepted, Word, LeadsTo, Exact}
+use Rattle.cells.specs.Codec.{Codec, Word, LeadsTo, Exact}
 use Rattle.cells.specs.Digits.{spell, places}
 use Rattle.cells.proofs.Cells.{Clean, pick-at, pick-alike, pick-small, length-pick, no-burst, digits-woven, message-woven, woven-clean, clean-at, at-clean}
 use Rattle.cells.proofs.Cells.{clean-agrees, agree-at}
 use Rattle.cells.proofs.Digits.{length-spell, length-places}
 use Rattle.cells.proofs.Erasures.{found-least}
+use Rattle.cells.specs.Plan.{kindIn}
 use Rattle.cells.proofs.Plan.{kind-burst, digit-count as digits-in}
 use Rattle.construction_a.specs.DemandTwo.{constructionA}
 use Rattle.cells.specs.Figures.{Params, inRange, rank}
 use Rattle.construction_a.specs.Figures.{fits, indexTail}
 use Rattle.construction_a.specs.Writing.{frame, kindAt, plan, word}
-use Rattle.construction_a.proofs.DemandTwo.{demand-two}
 use Rattle.cells.proofs.Figures.{placed-starts}
 use Rattle.construction_a.proofs.Figures.{serve}
 use Rattle.construction_a.proofs.Plan.{digit-count, message-cells}
 use Rattle.construction_b.specs.DemandTwo.{constructionB}
 use Rattle.construction_b.specs.Figures.{LongParams, inRange as inRangeB, fits as fitsB, indexTail as indexTailB}
 use Rattle.construction_b.specs.Writing.{startIn, indexPart, endOffset, frame as frameB, plan as planB, wordFrom}
-use Rattle.construction_b.proofs.DemandTwo.{demand-two as demand-two-b}
 use Rattle.construction_b.proofs.Figures.{serve as serve-b, placed-start}
 use Rattle.construction_b.proofs.Plan.{count-one, index-lt, framed as framed-b, message-cells as message-cells-b}
-use Rattle.slips.specs.Slips.{differences, messagePositions, Planned, Slips, Stays, SlipsStay, SlipsStayA, kindB, SlipsStayB, SlipsStayLarsson}
-use Rattle.slips.proofs.Kept.{kept, kept-members, kept-places, at-map}
-use Rattle.larsson.specs.Codec.{larsson}
+use Rattle.params.specs.Bridge.{given, givenLong}
+use Rattle.codes.specs.Bridge.{codingOf}
+use Rattle.codes.specs.declared.Figures.{Figures}
+use Rattle.codes.specs.declared.Figures.the-variants.{Ranked, Long, Larsson}
+use Rattle.codes.proofs.Exact.{demand-two}
+use Rattle.slips.specs.Slips.{differences, messagePositions, Planned, Slips, Stays, SlipsStay, kindUnder, HasPlan, SlipsStayIn}
+use Rattle.slips.proofs.Kept.{kept-members, kept-places, at-map}
+use Rattle.larsson.specs.DemandTwo.{larsson}
+use Rattle.larsson.specs.Figures.{fits as fitsLarsson}
 use Rattle.larsson.specs.Writing.{kindAt as kindLarsson, plan as planLarsson, digits as digitsLarsson, word as wordLarsson}
-use Rattle.larsson.proofs.Exact.{larsson-exact}
 use Rattle.larsson.proofs.Figures.{serve as serve-larsson}
 use Rattle.larsson.proofs.Plan.{kind-burst as burst-larsson, digit-count as digits-larsson, message-cells as message-larsson}
 use Rattle.larsson.proofs.Complete.{length-digits}
@@ -183,13 +185,16 @@ pub slips-stay : SlipsStay
 slips-stay c kind digits planned exact starts ms w w′ d seen l s =
     (ms′ c kind digits planned exact starts ms w w′ d seen l s, stays c kind digits planned exact starts ms w w′ d seen l s)
 
--- ---- Construction A
+-- ---- Under the figures of each code
 
 -- the digits of a placement
-abbrev pub spelled : Params → List ℕ → List ℕ
-spelled f starts = spell (f .q) (places (f .m) (indexTail f)) (rank f starts)
+abbrev pub digitsOf : Figures → List ℕ → List ℕ
+digitsOf (Ranked p) = λ starts. spell (p .q) (places (p .m) (indexTail (given p))) (rank (given p) starts)
+digitsOf (Long p) = λ starts. spell (p .q) (places 1 (indexTailB (givenLong p))) (endOffset (givenLong p) (startIn starts))
+digitsOf (Larsson p) = digitsLarsson (given p)
 
-pub planned-a : (f : Params) → inRange f ≡ true → fits f ≡ true → Planned (constructionA f) (kindAt f) (spelled f)
+planned-a : (f : Params) → inRange f ≡ true → fits f ≡ true
+    → Planned (constructionA f) (kindAt f) (λ starts. spell (f .q) (places (f .m) (indexTail f)) (rank f starts))
 unfolding word plan kindAt
 planned-a f i h =
     let ok = serve f i h in
@@ -204,15 +209,8 @@ planned-a f i h =
       found = found-least (f .q);
     }
 
-pub slips-stay-a : SlipsStayA
-slips-stay-a f i h = slips-stay (constructionA f) (kindAt f) (spelled f) (planned-a f i h) (demand-two f i h .exactly)
-
--- ---- Construction B
-
-abbrev pub spelledB : LongParams → List ℕ → List ℕ
-spelledB f starts = spell (f .q) (places 1 (indexTailB f)) (endOffset f (startIn starts))
-
-pub planned-b : (f : LongParams) → inRangeB f ≡ true → fitsB f ≡ true → Planned (constructionB f) (kindB f) (spelledB f)
+planned-b : (f : LongParams) → inRangeB f ≡ true → fitsB f ≡ true
+    → Planned (constructionB f) (λ starts. kindIn (frameB f (startIn starts))) (λ starts. spell (f .q) (places 1 (indexTailB f)) (endOffset f (startIn starts)))
 unfolding wordFrom planB
 planned-b f i h =
     let ok = serve-b f i h in
@@ -228,22 +226,25 @@ planned-b f i h =
       found = found-least (f .q);
     }
 
-pub slips-stay-b : SlipsStayB
-slips-stay-b f i h = slips-stay (constructionB f) (kindB f) (spelledB f) (planned-b f i h) (demand-two-b f i h .exactly)
-
--- ---- The Larsson code
-
-pub slips-stay-larsson : SlipsStayLarsson
+planned-larsson : (f : Params) → inRange f ≡ true → fitsLarsson f ≡ true → Planned (larsson f) (kindLarsson f) (digitsLarsson f)
 unfolding wordLarsson planLarsson
-slips-stay-larsson f i h =
+planned-larsson f i h =
     let ok = serve-larsson f i h in
-    let two = larsson-exact f i h in
-    let planned : Planned (larsson f) (kindLarsson f) (digitsLarsson f) =
     record {
       woven = λ starts ms. refl;
       bursts = λ starts e x. burst-larsson f starts x;
       digit-cells = λ starts e. let p = placed-starts f starts e in digits-larsson f ok starts (p .0) (p .1) ∙ sym (length-digits f ok starts (p .0) (p .1));
       message-cells = λ starts e. let p = placed-starts f starts e in message-larsson f ok starts (p .0) (p .1);
       found = found-least (f .q);
-    } in
-    slips-stay (larsson f) (kindLarsson f) (digitsLarsson f) planned (two .exactly)
+    }
+
+pub planned : (f : Figures) → codingOf f .inRange ≡ true → codingOf f .fits ≡ true → Planned (codingOf f .codec) (kindUnder f) (digitsOf f)
+planned (Ranked p) = planned-a (given p)
+planned (Long p) = planned-b (givenLong p)
+planned (Larsson p) = planned-larsson (given p)
+
+pub has-plan : HasPlan
+has-plan f i h = (digitsOf f, planned f i h)
+
+pub slips-stay-in : SlipsStayIn
+slips-stay-in f i h = slips-stay (codingOf f .codec) (kindUnder f) (digitsOf f) (planned f i h) (demand-two f i h .exactly)

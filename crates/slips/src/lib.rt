@@ -1,13 +1,12 @@
 // Reading a strip, and the same strip with symbols of its message altered (document 02, "What a slip can spoil"), as one function on lent buffers.
 // Assumes nothing.
 ghost use mathlib.Core.Path.{_≡_};
-ghost use Rattle.construction_a.specs.Outcomes.{decodeOut};
-ghost use Rattle.params.specs.Bridge.{given};
+ghost use Rattle.cells.specs.Outcomes.{decodeUnder};
+ghost use Rattle.codes.specs.Bridge.{codingOf};
 ghost use Rattle.decoder.specs.Answer.{decodedAs};
 ghost use Rattle.slips.specs.Reading.{ReadsSlipped};
 use codes::Figures;
 use decoder::Decoded;
-use params::Params;
 
 // What two found words are answered with.
 pub struct BothDecoded {
@@ -18,18 +17,18 @@ pub struct BothDecoded {
 // Reads a strip and an altered one, each into a buffer of its own. Where the first is a strip spoilt inside its bursts, and the second is the first
 // with d symbols altered at message positions, the clause `claim` says what is read.
 pub fn decode_both(
-    figures: Params,
+    figures: Figures,
     strip: &[u8],
     altered: &[u8],
     message: &mut [u8],
     changed: &mut [u8],
 ) -> BothDecoded
-    ensures first { λ r. ⌜ decodedAs (r .first) (now (message .exit)) ≡ decodeOut (given figures) (now (strip .entry)) (now (message .entry)) ⌝ }
-    ensures second { λ r. ⌜ decodedAs (r .second) (now (changed .exit)) ≡ decodeOut (given figures) (now (altered .entry)) (now (changed .entry)) ⌝ }
-    ensures claim { λ r. ⌜ ReadsSlipped (given figures) (now (strip .entry)) (now (altered .entry)) (now (message .entry)) (now (changed .entry))
+    ensures first { λ r. ⌜ decodedAs (r .first) (now (message .exit)) ≡ decodeUnder (codingOf figures) (now (strip .entry)) (now (message .entry)) ⌝ }
+    ensures second { λ r. ⌜ decodedAs (r .second) (now (changed .exit)) ≡ decodeUnder (codingOf figures) (now (altered .entry)) (now (changed .entry)) ⌝ }
+    ensures claim { λ r. ⌜ ReadsSlipped figures (now (strip .entry)) (now (altered .entry)) (now (message .entry)) (now (changed .entry))
         (decodedAs (r .first) (now (message .exit))) (decodedAs (r .second) (now (changed .exit))) ⌝ }
 {
-    let first = codes::decode(Figures::Ranked(figures), strip, message);
-    let second = codes::decode(Figures::Ranked(figures), altered, changed);
+    let first = codes::decode(figures, strip, message);
+    let second = codes::decode(figures, altered, changed);
     BothDecoded { first, second }
 }

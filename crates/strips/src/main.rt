@@ -50,8 +50,8 @@ fn figures_row(p: Params) {
     match answer {
         FiguresAnswer::Refused(number) => put(b": refused ", number as u64),
         FiguresAnswer::Fit(layout) => {
-            put(b": T ", layout.placement_count);
-            put(b", r ", layout.index_tail as u64);
+            put(b": T ", layout.placement_count());
+            put(b", r ", layout.index_tail() as u64);
             put(b", k ", layout.message_len as u64);
         }
     }

@@ -4,7 +4,7 @@ use mathlib.Core.List.{List, [], _∷_}
 use mathlib.Core.Option.{Option, none, some}
 use Prim.Native.Nat.{ℕ}
 use lib.Dec.{ltb, eqb}
-use lib.ListN.{length, take, drop, replicate}
+use lib.ListN.{take, drop, replicate}
 use Rattle.refusals.specs.Refusals.{must, served}
 use Rattle.cells.specs.Outcomes.{Encoded, FiguresOut, figured, unserved, figuresUnder}
 use Rattle.codes.specs.Bridge.{codingOf}

@@ -18,7 +18,6 @@ use codes::Figures;
 use codes::FiguresAnswer;
 use jobs::JobTable;
 use params::Params;
-use params::bytes;
 use records::HEAD_LEN;
 use records::Known;
 use records::LastFigures;
@@ -133,8 +132,8 @@ fn serve_figures(session: Session, letter: u8, figures: Figures, line: &mut [u8]
             let len = lines::put_figures(
                 line,
                 letter,
-                layout.placement_count,
-                layout.index_tail as u64,
+                layout.placement_count(),
+                layout.index_tail() as u64,
                 layout.message_len as u64,
             );
             let table = session.table;

@@ -1,25 +1,23 @@
 -- What the check of a word answers. Assumes nothing.
 use mathlib.Core.Path.{_≡_, refl, sym, ap, _∙_}
 use mathlib.Core.Logic.{_↔_}
-use mathlib.Core.Bool.{Bool, true, false, not, cond, _&&_, true≢false}
+use mathlib.Core.Bool.{Bool, true, false, not, cond, true≢false}
 use mathlib.Core.List.{List}
-use Prim.Native.Nat.{ℕ, suc, _<_}
+use Prim.Native.Nat.{ℕ, _<_}
 use native.Mathlib.Omega.{arith}
-use lib.Dec.{eqb}
 use lib.ListN.{length, getD}
 use lib.Seq.{length-take-le}
 use Rattle.combinatorics.specs.Lists.{allBelow}
-use Rattle.combinatorics.specs.Stretch.{has}
-use Rattle.combinatorics.proofs.Cases.{by-bool, by-eq, eqb-same, eqb-other, eqb-true}
+use Rattle.combinatorics.proofs.Cases.{by-bool, by-eq, eqb-same, eqb-other}
 use Rattle.combinatorics.proofs.Lists.{below-at}
 use Rattle.combinatorics.proofs.Stretch.{has-none, has-some, has-ext}
-use Rattle.cells.specs.Codec.{Codec, accepted, Word, LeadsTo, Exact}
+use Rattle.cells.specs.Codec.{Codec, accepted, Word, Exact}
 use Rattle.cells.specs.Outcomes.{Coding, Held, inUse}
 use Rattle.codes.specs.declared.Figures.{Figures}
 use Rattle.codes.specs.Bridge.{codingOf}
 use Rattle.codes.proofs.Layouts.{small}
-use Rattle.codes.proofs.Exact.{reads-exactly, placed-of}
-use Rattle.verifier.specs.Verify.{differsAt, agreesOutside, Verdict, agreeing, differing, verifyUnder, Checkable, SameOutside, Verifies, VerifiesWords}
+use Rattle.codes.proofs.Exact.{demand-two, placed-of}
+use Rattle.verifier.specs.Verify.{differsAt, agreesOutside, agreeing, differing, verifyUnder, Checkable, SameOutside, Verifies, VerifiesWords}
 
 -- ---- The test, under any codec
 
@@ -106,7 +104,7 @@ module _ (f : Figures) (at : Held) (ms w : List ℕ) (ok : Checkable (codingOf f
   pub reads : (verifyUnder (codingOf f) at ms w ≡ agreeing) ↔ (codingOf f .codec .decode w ≡ accepted (inUse at) ms)
   reads =
       let c = codingOf f .codec in
-      let two = reads-exactly f (ok .range) (ok .fit) in
+      let two = demand-two f (ok .range) (ok .fit) in
       let seen : Word c w = record { complete = ok .complete; symbols = ok .found } in
       let a = agrees-reads c w (inUse at) ms (two .exactly) seen placed (ok .message) (ok .symbols) in
       let y = yes-exactly (codingOf f) at ms w ok in
@@ -116,7 +114,7 @@ module _ (f : Figures) (at : Held) (ms w : List ℕ) (ok : Checkable (codingOf f
       → verifyUnder (codingOf f) at ms w ≡ differing
   erasure-differs x lx out e =
       let c = codingOf f .codec in
-      let two = reads-exactly f (ok .range) (ok .fit) in
+      let two = demand-two f (ok .range) (ok .fit) in
       let below = below-at (c .alphabet) (c .encode (inUse at) ms) (omega (arith, small f (ok .range) .alphabet-least))
       (two .written (inUse at) ms placed (ok .message) (ok .symbols) .1) x in
       else-no (codingOf f) at ms w ok (λ y. let same = exactly (codingOf f) at ms w ok .0 y x lx out in omega (arith, same, below))

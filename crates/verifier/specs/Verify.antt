@@ -13,8 +13,7 @@ use Rattle.combinatorics.specs.Lists.{allBelow}
 use Rattle.combinatorics.specs.Stretch.{has}
 use Rattle.cells.specs.Codec.{Codec, accepted}
 use Rattle.cells.specs.Outcomes.{Coding, Held, inUse}
-use Rattle.cells.specs.Figures.{Params, maxBursts}
-use Rattle.construction_a.specs.Outcomes.{coding}
+use Rattle.cells.specs.Figures.{maxBursts}
 use Rattle.codes.specs.declared.Figures.{Figures}
 use Rattle.codes.specs.Bridge.{codingOf}
 
@@ -46,10 +45,6 @@ verifyUnder d at ms w =
     (must (apart (d .burstLen) (c .wordLen) 0 (inUse at)) (unchecked badStarts)
     (must (allBelow (c .alphabet) ms && allBelow (c .foundBound) w) (unchecked badSymbol)
     (cond (agreesOutside c w (inUse at) ms) agreeing differing)))))
-
--- under Construction A
-unfoldable pub verifyOut : Params → Held → List ℕ → List ℕ → Verdict
-verifyOut f = verifyUnder (coding f)
 
 -- ---- What the answer means where nothing is refused
 

@@ -10,6 +10,7 @@ use codes::Figures;
 use codes::FiguresAnswer;
 use codes::WordLayout;
 use params::Params;
+use params::found::found_bound;
 use placements::Placement;
 use placements::bursts::cover_differences;
 use refusals::Refusal;
@@ -33,7 +34,12 @@ pub fn verify(figures: Figures, at: Placement, message: &[u8], word: &[u8]) -> V
 }
 
 // The same for figures that fit. Refusals: 3 5 4. The word that would be written stands in a local array.
-fn verify_fitting(layout: WordLayout, at: Placement, message: &[u8], word: &[u8]) -> VerifyAnswer
+pub fn verify_fitting(
+    layout: WordLayout,
+    at: Placement,
+    message: &[u8],
+    word: &[u8],
+) -> VerifyAnswer
     requires { ⌜ Serves layout ⌝ }
     ensures { λ r. ⌜ verdictAs r ≡ verifyUnder (codingIn layout) (heldAs at) (now (message .entry)) (now (word .entry)) ⌝ }
 {
@@ -60,7 +66,7 @@ fn verify_against(
     if refusal != Refusal::NONE {
         return VerifyAnswer::Refused(refusal);
     }
-    if !symbols::all_below(word, layout.found_bound()) {
+    if !symbols::all_below(word, found_bound(layout.q)) {
         return VerifyAnswer::Refused(Refusal::SYMBOL);
     }
     if cover_differences(at, layout.b as u32, word, expected) {

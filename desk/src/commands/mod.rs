@@ -61,7 +61,7 @@ pub const COMMANDS: [Command; 27] = [
     command!("equivalent", "equivalent EYE", "shows the spherical equivalent", "equivalent -1.25 +0.50 x 90", prescriptions::equivalent),
     command!("encode", "encode HEX at START.. | on POSITION..", "writes a message that is no job, two digits a symbol", "encode 0102030405060708090A0B at 6",
         strips::encode),
-    command!("decode", "decode HEX", "reads a strip's message, whatever it is, of any code", "decode 000000000741FFFF42430744454647", strips::decode),
+    command!("decode", "decode HEX", "reads a strip's message, whatever it is", "decode 000000000741FFFF42430744454647", strips::decode),
     command!("check", "check HEX at START.. job NUMBER \"TEXT\" | message HEX", "says whether a strip from elsewhere holds this, whatever its bursts hold",
         "check 000000000741FFFF42430744454647 at 6 job 7 \"ABCDEFG\"", strips::check),
     command!("move", "move HEX", "moves a job's strip from an older tray to Construction A, or back", "move 060000000741FFFF42434445464706",

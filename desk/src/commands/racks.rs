@@ -7,7 +7,7 @@ use burgzemi::Table;
 
 use crate::desk::{Answer, Desk, Outcome};
 use crate::eyes;
-use crate::figures::{CodeName, Figures};
+use crate::figures::Figures;
 use crate::hex;
 use crate::job_text;
 use crate::place::listed;
@@ -37,7 +37,7 @@ struct Tally {
 pub fn rack(desk: &mut Desk, words: &mut Words) -> Outcome {
     let figures = desk.figures()?;
     let path = words.next("the rack's file")?.to_owned();
-    let sought = sought(&figures, words)?;
+    let sought = sought(words)?;
     words.end()?;
     let text = fs::read_to_string(&path)
         .map_err(|error| Trouble::wrong(&path, format!("this file can't be read: {error}")))?;
@@ -49,7 +49,7 @@ pub fn rack(desk: &mut Desk, words: &mut Words) -> Outcome {
         if desk.progress && done % RENEWED == 0 {
             eprint!("\r{done} of {} strips", lines.len());
         }
-        tally.count(*line, read(&figures, &table, sought, strip))?;
+        tally.count(*line, read(&figures, &table, sought, strip));
     }
     if desk.progress {
         eprint!("\r\x1b[K");
@@ -57,11 +57,9 @@ pub fn rack(desk: &mut Desk, words: &mut Words) -> Outcome {
     Ok(tally.answer())
 }
 
-fn sought(figures: &Figures, words: &mut Words) -> Result<Sought, Trouble> {
-    match words.peek() {
-        None if figures.code() == CodeName::Larsson => return Ok(Sought::Messages),
-        None => return Ok(Sought::Jobs),
-        Some(_) => {}
+fn sought(words: &mut Words) -> Result<Sought, Trouble> {
+    if words.peek().is_none() {
+        return Ok(Sought::Jobs);
     }
     match words.next("what is read")? {
         "jobs" => Ok(Sought::Jobs),
@@ -103,8 +101,8 @@ fn read(figures: &Figures, table: &Table, sought: Sought, strip: &str) -> Result
 }
 
 impl Tally {
-    /// What isn't served for one strip is served for none.
-    fn count(&mut self, line: usize, outcome: Result<String, Trouble>) -> Result<(), Trouble> {
+    /// Whatever is no refusal is a word that is no strip.
+    fn count(&mut self, line: usize, outcome: Result<String, Trouble>) {
         let said = match outcome {
             Ok(said) => {
                 self.read += 1;
@@ -115,14 +113,12 @@ impl Tally {
                 *self.refused.entry(number).or_default() += 1;
                 format!("refused {number}: {}", refusals::said(number).0)
             }
-            Err(trouble @ Trouble::Wrong(_)) => {
+            Err(trouble) => {
                 self.wrong += 1;
                 trouble.to_string()
             }
-            Err(trouble) => return Err(trouble),
         };
         self.lines.push(format!("{line}: {said}"));
-        Ok(())
     }
 
     fn answer(mut self) -> Answer {

@@ -78,18 +78,16 @@ pub fn decode(desk: &mut Desk, words: &mut Words) -> Outcome {
 /// The frame maker's check: the list has a message, or a job whose message the library makes. The desk's own table is not asked.
 pub fn check(desk: &mut Desk, words: &mut Words) -> Outcome {
     let figures = desk.figures()?;
-    let checked = figures.checked()?;
     let strip = desk.strip(words)?;
     words.expect("at")?;
     let starts = place::starts(words, &["job", "message"])?;
     let message = listed_message(&figures, &starts, words)?;
-    let agrees =
-        burgzemi::verify(checked, &starts, &message, &strip).hinted(
-            |refusal| match about_strip(&figures, &strip, refusal) {
-                said if said.is_empty() => about_lists(&figures, &starts, &message, refusal),
-                said => said,
-            },
-        )?;
+    let agrees = figures
+        .verify(&starts, &message, &strip)
+        .hinted(|refusal| match about_strip(&figures, &strip, refusal) {
+            said if said.is_empty() => about_lists(&figures, &starts, &message, refusal),
+            said => said,
+        })?;
     let text = match agrees {
         true => "yes: the strip holds what the list says",
         false => "no: the strip differs from the list outside its bursts",

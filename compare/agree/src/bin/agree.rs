@@ -5,19 +5,21 @@ use std::process::ExitCode;
 use std::time::Instant;
 
 use agree::judge::Judge;
-use agree::make::{figures, larsson_figures, long_figures, movable_figures};
+use agree::kinds::CODES;
+use agree::make::{figures, movable_figures};
 use agree::orders::Tray;
 use agree::rng::Rng;
 use agree::{
     calls, eyes, former, grid, jobs, lanes, larsson, lengths, long, moving, prescriptions, strips,
     torics, words,
 };
+use second::figures::Code;
 use second::lanes::MAX_DEPTH;
 
 const GATE_SEED: u64 = 1996;
 const GATE_ROUNDS: u64 = 30_000;
 const GATE_WORDS: u64 = 200_000;
-/// One round in so many is made with Construction B's figures and the Larsson code's too, and with moves between the latter and Construction A.
+/// One round in so many is made with the other codes' figures too, and with moves between the Larsson code and Construction A.
 const OTHERS: u64 = 6;
 
 fn main() -> ExitCode {
@@ -53,32 +55,30 @@ fn run(rounds: u64, seed: u64, long: bool) -> ExitCode {
     lengths::run(&mut judge);
     patterns(&mut judge, &mut rng, long);
     eyes::run(&mut judge);
-    torics::payload_lengths(&mut judge, &mut rng, false);
-    torics::payload_lengths(&mut judge, &mut rng, true);
+    for code in CODES {
+        torics::payload_lengths(&mut judge, &mut rng, code);
+    }
     torics::every_toric(&mut judge, &mut rng);
     long::run(&mut judge, &mut rng);
     larsson::run(&mut judge, &mut rng);
     moving::run(&mut judge, &mut rng);
     let powers = eyes::odd();
     for round in 0..rounds {
-        strip_round(&mut judge, &mut rng, false, &powers);
+        strip_round(&mut judge, &mut rng, Code::ConstructionA, &powers);
         if round % OTHERS == 0 {
-            strip_round(&mut judge, &mut rng, true, &powers);
-            let larsson = larsson_figures(&mut rng);
-            words::round(&mut judge, &mut rng, larsson);
+            strip_round(&mut judge, &mut rng, Code::ConstructionB, &powers);
+            strip_round(&mut judge, &mut rng, Code::Larsson, &powers);
             let movable = movable_figures(&mut rng);
             moving::round(&mut judge, &mut rng, movable);
         }
         calls::single(&mut judge, &mut rng);
         if round % 16 == 0 {
-            for f in [figures, long_figures, larsson_figures].map(|any| any(&mut rng)) {
+            for f in CODES.map(|code| figures(&mut rng, code)) {
                 words::end_ranks(&mut judge, &mut rng, f);
+                lanes::round(&mut judge, &mut rng, f, depth(round / 16));
             }
             words::wrapped_values(&mut judge, &mut rng);
             calls::list(&mut judge, &mut rng);
-            for f in [figures(&mut rng), long_figures(&mut rng)] {
-                lanes::round(&mut judge, &mut rng, f, depth(round / 16));
-            }
         }
         if long && round % 10_000 == 9_999 {
             let seconds = begun.elapsed().as_secs();
@@ -88,14 +88,13 @@ fn run(rounds: u64, seed: u64, long: bool) -> ExitCode {
     finish(&judge, seed, begun)
 }
 
-/// Words, jobs and prescriptions under random figures, of Construction B where they are `long`.
-fn strip_round(judge: &mut Judge, rng: &mut Rng, long: bool, powers: &[f64]) {
-    let any = if long { long_figures } else { figures };
-    let f = any(rng);
+/// Words, jobs and prescriptions under random figures of a code.
+fn strip_round(judge: &mut Judge, rng: &mut Rng, code: Code, powers: &[f64]) {
+    let f = figures(rng, code);
     words::round(judge, rng, f);
-    let f = any(rng);
+    let f = figures(rng, code);
     jobs::round(judge, rng, f);
-    let tray = Tray::random(rng, long);
+    let tray = Tray::random(rng, code);
     prescriptions::round(judge, rng, tray, powers);
 }
 

@@ -4,7 +4,7 @@ use burgzemi::Ranked;
 
 use super::{all, Answer, Judge};
 use crate::lent::Lent;
-use crate::ways::{MoveKind, Way};
+use crate::ways::Way;
 
 impl Judge {
     /// The moved strip comes as `out`. The strip and the table are lent as written buffers are, and must be left as they were.
@@ -30,9 +30,7 @@ impl Judge {
         );
         let kept = answer.also == lent;
         self.expect(way.op(), kept, &inputs, "a strip or a table was touched");
-        if let Some(kind) = MoveKind::of(way, f, answer.number) {
-            self.tally.count_move(way, kind);
-        }
+        self.tally.count_move(way, f, table, answer.number);
         answer
     }
 }

@@ -44,13 +44,16 @@ impl Judge {
             let bytes = all(&bytes);
             format!("{f:?} table, starts {bytes} number {number} {prescription:?} word {word}")
         };
-        self.both(
-            Op::PrescriptionWrite.under(f),
+        let kind = Op::PrescriptionWrite.under(f);
+        let answer = self.both(
+            kind,
             Lent::new(word),
             Lent::new(0),
             &inputs,
             &|side, out, _| (side.prescription_write)(f, table, starts, number, prescription, out),
-        )
+        );
+        self.tally.count_job(kind, f, table, answer.number);
+        answer
     }
 
     /// The number, kinds and axes come as `out`, the powers and the pupil distance as `also`.
@@ -68,12 +71,11 @@ impl Judge {
             format!("{f:?} table, word {bytes} marks {marks} powers {powers}")
         };
         let lent = (Lent::new(marks), Lent::new(powers));
-        self.both(
-            Op::PrescriptionRead.under(f),
-            lent.0,
-            lent.1,
-            &inputs,
-            &|side, out, also| (side.prescription_read)(f, table, word, out, also),
-        )
+        let kind = Op::PrescriptionRead.under(f);
+        let answer = self.both(kind, lent.0, lent.1, &inputs, &|side, out, also| {
+            (side.prescription_read)(f, table, word, out, also)
+        });
+        self.tally.count_job(kind, f, table, answer.number);
+        answer
     }
 }

@@ -1,8 +1,8 @@
 //! The prescription calls. An eye is its kind (0 plano, 1 sphere, 2 toric), its powers in dioptres and its axis in degrees, with 0 for what the kind
 //! doesn't use; what is answered stands in bytes, `marks`, and in doubles, `powers`.
 
-use super::{job_inputs, write_with, Numbers};
-use crate::job::{payload_len, LEAST_PAYLOAD};
+use super::{job_call, write_with, Numbers};
+use crate::job::has_room;
 use crate::prescription::{self, Eye, Prescription};
 
 /// Kind, sphere, cylinder and axis.
@@ -106,22 +106,18 @@ pub fn prescription_read(
     marks: &mut [u8],
     powers: &mut [f64],
 ) -> u8 {
-    let (f, book) = match job_inputs(numbers, table) {
-        Ok(inputs) => inputs,
-        Err(refusal) => return refusal,
-    };
-    let book = match book {
-        _ if payload_len(&f) < LEAST_PAYLOAD => return 10,
-        Some(book) if marks.len() == 8 && powers.len() == 5 => book,
-        _ => return 3,
-    };
-    match prescription::read_prescription(&f, &book, word) {
-        Ok((job, prescription)) => {
-            put_prescription(job, &prescription, marks, powers);
-            0
+    job_call(numbers.try_into(), has_room, table, |f, book| {
+        if marks.len() != 8 || powers.len() != 5 {
+            return 3;
         }
-        Err(refusal) => refusal,
-    }
+        match prescription::read_prescription(f, book, word) {
+            Ok((job, prescription)) => {
+                put_prescription(job, &prescription, marks, powers);
+                0
+            }
+            Err(refusal) => refusal,
+        }
+    })
 }
 
 fn put_prescription(job: u32, prescription: &Prescription, marks: &mut [u8], powers: &mut [f64]) {

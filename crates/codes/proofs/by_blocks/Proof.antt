@@ -1,5 +1,5 @@
 -- `by_blocks` meets its contract. Assumes nothing.
-use mathlib.Core.Path.{_≡_, sym, ap, _∙_}
+use mathlib.Core.Path.{sym, ap, _∙_}
 use borrow.Author.Needs.{needs}
 use Rattle.codes.specs.declared.FiguresAnswer.the-variants.{Fit}
 use Rattle.codes.specs.Answer.{byBlocks}

@@ -1,5 +1,5 @@
 -- `decode_fitting` meets its contract: its code's own reader does. Assumes nothing.
-use mathlib.Core.Path.{_≡_, sym, ap, subst, _∙_}
+use mathlib.Core.Path.{sym, ap, subst, _∙_}
 use borrow.Author.Needs.{needs}
 use Rattle.cells.specs.Outcomes.{Decoded, decodeUnder}
 use Rattle.codes.specs.declared.Laid.{Laid}

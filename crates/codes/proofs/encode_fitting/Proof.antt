@@ -1,5 +1,5 @@
 -- `encode_fitting` meets its contract: its code's own writer does. Assumes nothing.
-use mathlib.Core.Path.{_≡_, sym, ap, subst, _∙_}
+use mathlib.Core.Path.{sym, ap, subst, _∙_}
 use borrow.Author.Needs.{needs}
 use Rattle.cells.specs.Outcomes.{Encoded, encodeUnder}
 use Rattle.placements.specs.Bridge.{heldAs}

@@ -4,7 +4,7 @@ use borrow.Author.Needs.{needs}
 use borrow.Author.Tests.{not-true, not-false}
 use Prim.Native.Nat.{ℕ}
 use Rattle.cells.specs.Outcomes.{Coding, decodedFrom}
-use Rattle.params.specs.Given.{codingIn}
+use Rattle.params.specs.Given.{blocksCoding}
 use Rattle.params.specs.declared.Layout.{Layout}
 use Rattle.params.proofs.Either.{in-shape, in-order, numbers-in}
 use Rattle.decoder.proofs.Calls.{decode-short, decode-room, decode-symbol, decode-read, found-in}
@@ -15,7 +15,7 @@ abbrev l : tie.Start → Layout
 l s = s .args .layout
 
 abbrev d : tie.Start → Coding
-d s = codingIn (s .args .layout)
+d s = blocksCoding (s .args .layout)
 
 unread-requires : tie.Need-unread-requires
 unread-requires c κs = search needs

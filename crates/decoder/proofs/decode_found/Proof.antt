@@ -17,7 +17,7 @@ use Rattle.cells.proofs.Erasures.{found-least, below-whole}
 use Rattle.construction_a.proofs.Found.{heads-below}
 use Rattle.construction_b.specs.DemandTwo as B
 use Rattle.construction_b.specs.Reading as B′
-use Rattle.params.specs.Given.{figuresOf, longOf, codingIn, LayoutFits, LongLayoutFits, LayoutFitsWith}
+use Rattle.params.specs.Given.{figuresOf, longOf, blocksCoding, LayoutFits, LongLayoutFits, LayoutFitsWith}
 use Rattle.params.specs.declared.Layout.{Layout}
 use Rattle.params.specs.declared.Spells.{Spells}
 use Rattle.params.proofs.Fitting.{heads-are, written-is}
@@ -197,7 +197,7 @@ same-length c = search needs
 -- what is read goes by the value
 shown-is : (c : tie.Else2) (y : Spells) → l (start c) .spells ≡ y
     → decodedFrom (l (start c) .b) (start c .args .message .now) (readValue y (l (start c)) (start c .args .word .now) (ks c))
-    ≡ decodedFrom (l (start c) .b) (start c .args .message .now) (codingIn (l (start c)) .codec .decode (start c .args .word .now))
+    ≡ decodedFrom (l (start c) .b) (start c .args .message .now) (blocksCoding (l (start c)) .codec .decode (start c .args .word .now))
 shown-is c y e =
     let s = start c in
     let w = s .args .word .now in

@@ -3,9 +3,8 @@ use mathlib.Core.Path.{_≡_, sym, _∙_}
 use Prim.Native.Nat.{ℕ}
 use borrow.Author.Needs.{needs}
 use lib.ListN.{length}
-use Rattle.refusals.specs.Refusals.{served}
 use Rattle.cells.specs.Figures.{maxBursts}
-use Rattle.params.specs.Given.{codingIn}
+use Rattle.params.specs.Given.{blocksCoding}
 use Rattle.params.proofs.Either.{in-shape, in-order, numbers-in}
 use Rattle.params.proofs.Shape.{long}
 use Rattle.placements.specs.Bridge.{heldAs}
@@ -23,7 +22,7 @@ use Rattle.encoder.proofs.encode_fitting.Tie as tie
 number-in : (s : tie.Start) (w : Walk) → w ≡ walkOf (s .args .layout) → (r : ℕ)
     → r ≡ writeNumber (w .n) (w .m) (w .b) (s .args .layout .q) (s .args .layout .«message_len») (heldAs (s .args .at)) (s .args .message .now)
     (length (s .args .word .now))
-    → r ≡ numberUnder (codingIn (s .args .layout)) (heldAs (s .args .at)) (s .args .message .now) (s .args .word .now)
+    → r ≡ numberUnder (blocksCoding (s .args .layout)) (heldAs (s .args .at)) (s .args .message .now) (s .args .word .now)
     (in-order (s .args .layout) (s .pre) .0) (in-order (s .args .layout) (s .pre) .1)
 number-in s w walks r e =
     let is = numbers-in (s .args .layout) (s .pre) in
@@ -44,7 +43,7 @@ returns c =
     let s = c .before .before .before .before .before in
     let ok = in-order (s .args .layout) (s .pre) in
     let w = c .before .before .walk-of in
-    told _ _ (encode-refused (codingIn (s .args .layout)) (heldAs (s .args .at)) (s .args .message .now) (s .args .word .now) (ok .0) (ok .1)
+    told _ _ (encode-refused (blocksCoding (s .args .layout)) (heldAs (s .args .at)) (s .args .message .now) (s .args .word .now) (ok .0) (ok .1)
     (c .before .may-write .result)
     (number-in s (w .result) (w .ensures) (c .before .may-write .result) (c .before .may-write .ensures)) (c .if1 .taken))
 
@@ -68,7 +67,7 @@ returns-2 c =
     let w = c .before .before .before .before .before .before .walk-of in
     let m = c .before .before .before .before .before .may-write in
     let e =
-    encode-unrefused (codingIn (s .args .layout)) (heldAs (s .args .at)) (s .args .message .now) (s .args .word .now) (ok .0) (ok .1)
+    encode-unrefused (blocksCoding (s .args .layout)) (heldAs (s .args .at)) (s .args .message .now) (s .args .word .now) (ok .0) (ok .1)
     (sym (number-in s (w .result) (w .ensures) (m .result) (m .ensures)) ∙ c .before .before .before .before .if1 .left) in
     (told _ _ e .0, c .before .before .fill .ensures ∙ told _ _ e .1)
 

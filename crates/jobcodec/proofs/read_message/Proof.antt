@@ -1,12 +1,12 @@
 -- `read_message` meets its contract: a refused word's number is passed through, and an accepted word's message goes on. Assumes nothing.
-use mathlib.Core.Path.{_≡_, refl, sym, ap, ap₂, _∙_}
+use mathlib.Core.Path.{_≡_, refl, sym, ap, _∙_}
 use mathlib.Core.List.{List}
 use Prim.Native.Nat.{ℕ}
 use borrow.Author.Needs.{needs}
 use lib.ListN.{length}
 use Rattle.cells.specs.Outcomes.{decodeUnder}
 use Rattle.codes.specs.Given.{codingIn}
-use Rattle.codes.proofs.Layouts.{in-order, numbers-in}
+use Rattle.codes.proofs.Layouts.{numbers-in}
 use Rattle.jobs.specs.Slots.{entries}
 use Rattle.payloads.specs.Payload.{payloadIn}
 use Rattle.decoder.specs.declared.WordAnswer.{WordAnswer}

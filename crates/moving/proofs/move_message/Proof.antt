@@ -2,7 +2,6 @@
 use mathlib.Core.Path.{_≡_, sym, ap₂, subst, _∙_}
 use mathlib.Core.List.{List}
 use Prim.Native.Nat.{ℕ, _≤_}
-use native.Mathlib.Omega.{arith}
 use borrow.Author.Needs.{needs}
 use lib.ListN.{length, take, drop, replicate}
 use Rattle.cells.specs.Bytes.{payloadLen}
@@ -80,8 +79,8 @@ returns-2 c =
     let m = c .before .before .before .before .before .before .before .other-message in
     ap₂ {C = Encoded} (λ (n : ℕ) (w : List ℕ). unwritten w n) (c .before .before .encode-fitting .ensures .0) (c .before .before .encode-fitting .ensures .1)
     ∙ write-encodes (d t) (entries (a .table)) (a .at) (a .message .now) (a .word .now) (take (k t) (replicate maxWord 0)) (a .target .q) (k t)
-    (is t .alphabet-is) (is t .len-is) (lent t) (t .pre .1) (m .result) (m .ensures .0) (in-order (a .target) (t .pre .0) .0) (in-order (a .target) (t .pre .0) .1)
-    (small-in (a .target) (t .pre .0) .alphabet-least)
+    (is t .alphabet-is) (is t .len-is) (lent t) (t .pre .1) (m .result) (m .ensures .0) (in-order (a .target) (t .pre .0) .0)
+    (in-order (a .target) (t .pre .0) .1) (small-in (a .target) (t .pre .0) .alphabet-least)
     (c .before .before .before .before .before .if1 .left) (m .last .1 .1 .1 .0) (drop (k t) (replicate maxWord 0))
     (c .before .before .before .before .before .before .other2 .given ∙ lent t) (m .ensures .1)
 

@@ -1,20 +1,17 @@
 -- `move_strip` meets its contract. Assumes nothing.
 use mathlib.Core.Path.{_≡_, sym, ap₂, subst, _∙_}
-use mathlib.Core.Bool.{true, false}
-use mathlib.Core.List.{List}
-use Prim.Native.Nat.{ℕ}
+use mathlib.Core.Bool.{false}
 use borrow.Author.Needs.{needs}
 use lib.ListN.{length}
 use Rattle.cells.specs.Outcomes.{Coding, Encoded}
 use Rattle.codes.specs.Bridge.{codingOf}
 use Rattle.codes.specs.Given.{codingIn}
-use Rattle.codes.proofs.Layouts.{in-order}
 use Rattle.jobs.specs.Slots.{entries}
 use Rattle.jobs.specs.Table.{twice}
 use Rattle.moving.specs.Move.{moveUnder}
 use Rattle.moving.specs.Given.{BothReady}
 use Rattle.moving.specs.Both.{BothIn}
-use Rattle.moving.proofs.FitBoth.{out-twice, out-refused, past-figures}
+use Rattle.moving.proofs.FitBoth.{out-twice, out-refused, out-fitting}
 use Rattle.moving.proofs.move_strip.Statement.{statement}
 use Rattle.moving.proofs.move_strip.Tie as tie
 
@@ -72,11 +69,8 @@ returns-3 c =
     let w = a .strip .now in
     let out = a .moved .now in
     let own = learnt t in
-    let from = in-order (t .answer2 .given .0 .0) (own .2 .serves-from) in
-    let to = in-order (t .answer2 .given .0 .1 .0) (own .2 .serves-to) in
     c .before .before .move-fitting .ensures
-    ∙ sym (past-figures (codingIn (t .answer2 .given .0 .0)) (codingIn (t .answer2 .given .0 .1 .0)) es w out (once (t .before .before .before)) (from .0)
-    (from .1) (to .1))
+    ∙ sym (out-fitting (t .answer2 .given .0 .0) (t .answer2 .given .0 .1 .0) es w out (own .2) (once (t .before .before .before)))
     ∙ ap₂ {C = Encoded} (λ (d e : Coding). moveUnder d e es w out) (own .0) (own .1)
 
 pub move-strip-spec : {M : Type 1} → statement M

@@ -6,7 +6,6 @@ use borrow.Author.Needs.{needs}
 use lib.ListN.{take, replicate}
 use Rattle.cells.specs.Bytes.{payloadLen}
 use Rattle.cells.specs.Figures.{maxWord}
-use Rattle.codes.specs.Given.{codingIn}
 use Rattle.params.specs.Given.{shortWord}
 use Rattle.jobs.specs.Slots.{entries}
 use Rattle.jobcodec.specs.Given.{ReadableJob}

@@ -1,7 +1,5 @@
 -- `decode_both` meets its contract: both words are read by `decode`, and the claim is that of its outcomes. Assumes nothing.
 use borrow.Author.Needs.{needs}
-use Rattle.construction_a.specs.Outcomes.{decodeOut}
-use Rattle.params.specs.Bridge.{given}
 use Rattle.slips.proofs.Reading.{reads-as}
 use Rattle.slips.proofs.decode_both.Statement.{statement}
 use Rattle.slips.proofs.decode_both.Tie as tie
@@ -19,12 +17,11 @@ same-length-2 : tie.Need-same-length-2
 same-length-2 c = search needs
 
 returns : tie.Need-returns
-unfolding decodeOut
 returns c =
     let a = c .before .before .before .before .before .before .before .before .before .before .before .before .args in
     let first = c .before .before .before .before .before .before .decode .ensures .0 in
     let second = c .before .before .decode2 .ensures .0 in
-    (first, (second, reads-as (given (a .figures)) (a .strip .now) (a .altered .now) (a .message .now) (a .changed .now) first second))
+    (first, (second, reads-as (a .figures) (a .strip .now) (a .altered .now) (a .message .now) (a .changed .now) first second))
 
 pub decode-both-spec : {M : Type 1} → statement M
 decode-both-spec = tie.close (tie.spec decode-requires decode-requires-2 same-length same-length-2 returns)

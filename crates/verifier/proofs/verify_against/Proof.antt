@@ -15,7 +15,7 @@ use Rattle.placements.specs.Bridge.{heldAs, startsIn, differAt}
 use Rattle.codes.specs.declared.WordLayout.{WordLayout}
 use Rattle.codes.specs.Given.{codingIn}
 use Rattle.codes.proofs.Layouts.{numbers-in, small-in, bound, found-in, spoilt-in}
-use Rattle.verifier.specs.Verify.{agreesOutside, Verdict, agreeing, differing, unchecked, verifyUnder}
+use Rattle.verifier.specs.Verify.{agreesOutside, agreeing, differing, unchecked, verifyUnder}
 use Rattle.verifier.proofs.Calls.{Wrote, verify-refused, verify-passed, agreement}
 use Rattle.verifier.proofs.verify_against.Statement.{statement}
 use Rattle.verifier.proofs.verify_against.Tie as tie

@@ -1,5 +1,5 @@
 -- `Figures::layout` meets its contract: each code's own figures answer for it. Assumes nothing.
-use mathlib.Core.Path.{_≡_, sym, ap, subst, _∙_}
+use mathlib.Core.Path.{_≡_, sym, subst}
 use borrow.Author.Needs.{needs}
 use Rattle.construction_a.specs.Outcomes.{figuresOut}
 use Rattle.params.specs.Bridge.{given, givenLong}

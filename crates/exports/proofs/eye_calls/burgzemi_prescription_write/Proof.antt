@@ -1,39 +1,18 @@
--- `burgzemi_prescription_write` meets its contract: that of `write`, with the prescription that the values are. Assumes nothing.
-use mathlib.Core.Path.{ap, ap₂, _∙_}
+-- `burgzemi_prescription_write` meets its contract: the inner function's, under Construction A's figures. Assumes nothing.
 use borrow.Author.Needs.{needs}
-use Rattle.cells.specs.Figures.{params}
-use Rattle.construction_a.specs.Outcomes.{coding}
-use Rattle.prescription.specs.declared.eyes.Eye.{Eye}
-use Rattle.prescription.specs.declared.texts.Prescription.{Prescription}
-use Rattle.lent_prescriptions.specs.Prescriptions.{prescriptionFrom, prescriptionWriteBytesUnder, prescriptionWriteBytesOut}
+use Rattle.lent_prescriptions.specs.Prescriptions.{prescriptionWriteBytesOut}
 use Rattle.exports.proofs.eye_calls.burgzemi_prescription_write.Statement.{statement}
 use Rattle.exports.proofs.eye_calls.burgzemi_prescription_write.Tie as tie
 
-eye-from-requires : tie.Need-eye-from-requires
-eye-from-requires c κs = search needs
-
-eye-from-requires-2 : tie.Need-eye-from-requires-2
-eye-from-requires-2 c κs = search needs
-
-of-eyes-requires : tie.Need-of-eyes-requires
-of-eyes-requires c κs = search needs
-
-write-requires : tie.Need-write-requires
-write-requires c κs = search needs
+write-values-requires : tie.Need-write-values-requires
+write-values-requires c κs = search needs
 
 same-length : tie.Need-same-length
 same-length c = search needs
 
 returns : tie.Need-returns
 unfolding prescriptionWriteBytesOut
-returns c =
-    let e = c .before .before .before .before in
-    let a = e .before .before .before .before .before .before .args in
-    c .before .before .write .ensures
-    ∙ ap (λ (p : Prescription). prescriptionWriteBytesUnder (coding (params (a .n) (a .q) (a .m) (a .b))) (a .table .now) (a .starts .now) (a .number) p
-    (a .word .now))
-    (e .of-eyes .ensures ∙ ap₂ (λ (r l : Eye). prescriptionFrom r l (a .distance)) (e .before .before .eye-from .ensures) (e .before .eye-from2 .ensures))
+returns c = c .before .before .write-values .ensures
 
 pub burgzemi-prescription-write-spec : {M : Type 1} → statement M
-burgzemi-prescription-write-spec =
-    tie.close (tie.spec eye-from-requires eye-from-requires-2 of-eyes-requires write-requires same-length returns)
+burgzemi-prescription-write-spec = tie.close (tie.spec write-values-requires same-length returns)

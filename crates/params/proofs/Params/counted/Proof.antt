@@ -6,7 +6,7 @@ use borrow.Author.Needs.{needs}
 use Rattle.cells.specs.Figures.{leastTail, Params}
 use Rattle.construction_a.specs.Outcomes.{figured}
 use Rattle.params.specs.Bridge.{given}
-use Rattle.params.proofs.Laying.{Parted, in-range, blocks-some, blocks-few, min-is, Searched, tail-is, tail-unfit, burst-unfit, Fitted, taken-fits}
+use Rattle.params.proofs.Laying.{Parted, in-range, blocks-some, blocks-few, Searched, tail-is, tail-unfit, burst-unfit, Fitted, taken-fits}
 use Rattle.params.proofs.Laying.{sum-fits, len-is, figured-as}
 use Rattle.params.proofs.Params.counted.Statement.{statement}
 use Rattle.params.proofs.Params.counted.Tie as tie
@@ -93,7 +93,6 @@ returns-3 c =
         m-is = refl;
         b-is = refl;
         parts-is = s .parts .ensures;
-        min-is = min-is (parted s);
         count-is = t;
         tail-is = tail-is (searched (c .before .before));
         len-is = len-is (fitted c);

@@ -6,7 +6,7 @@ use borrow.Author.Needs.{needs}
 use Rattle.construction_b.specs.Figures.{LongParams, parts}
 use Rattle.construction_b.proofs.Figures.{ranged}
 use Rattle.params.specs.Bridge.{givenLong}
-use Rattle.params.proofs.LongLaying.{min-is, count-is, burst-unfit, tail-is, tail-unfit, len-is, figured-as}
+use Rattle.params.proofs.LongLaying.{count-is, burst-unfit, tail-is, tail-unfit, len-is, figured-as}
 use Rattle.params.proofs.long.LongParams.laid_out.Statement.{statement}
 use Rattle.params.proofs.long.LongParams.laid_out.Tie as tie
 
@@ -72,7 +72,6 @@ returns-3 c =
         m-is = refl;
         b-is = refl;
         parts-is = refl;
-        min-is = min-is f;
         count-is = count-is f;
         tail-is = tail-is f (s .pre) (t .result) (t .ensures);
         len-is = len-is f (s .pre) (t .result) (t .ensures) short room;
