@@ -3,7 +3,7 @@
  *
  * A strip carries a word of symbols. Some stretches of the strip are worn: the bursts. The writer is told where they are. The reader is not: it finds them
  * by the word itself, and what the worn cells hold makes no difference. Three codes do this. Construction A has up to 8 bursts. Construction B has one
- * long burst. The Larsson code is that of the older trays. Every call exists under every code:
+ * long burst. The Larsson code is that of the older trays. Every call on a strip of one code exists under every code:
  *
  *                        Construction A               Construction B                    Larsson code
  *   lengths              burgzemi_message_len         burgzemi_long_message_len         burgzemi_larsson_message_len
