@@ -10,7 +10,6 @@ use second::Figures;
 use crate::calls::TABLE;
 use crate::judge::{hex, Judge, Op};
 use crate::make::{found, numbers, silent_value, symbol, symbols, value, values};
-use crate::orders::{MARKS, POWERS};
 use crate::rng::Rng;
 use crate::sides::Numbers;
 use crate::words::{self, Strip};
@@ -157,13 +156,7 @@ fn papers_job(judge: &mut Judge) {
     ] {
         let mut found = word;
         (found[0], found[7], found[14]) = (values[0], values[1], values[2]);
-        let answers = [
-            judge.decode(f, &found, 11, 2).number,
-            judge.job_read(f, &table, &found, 11).number,
-            judge
-                .prescription_read(f, &table, &found, MARKS, POWERS)
-                .number,
-        ];
+        let answers = judge.readers(f, &table, &found, 11);
         let inputs = || format!("{f:?} {values:?}: {answers:?}");
         judge.expect(Op::JobRead, answers == wanted, &inputs, what);
     }

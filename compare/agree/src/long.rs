@@ -5,7 +5,6 @@ use second::Figures;
 use crate::calls::TABLE;
 use crate::judge::{Judge, Op};
 use crate::make::{numbers, start_bytes, symbols};
-use crate::orders::{MARKS, POWERS};
 use crate::rng::Rng;
 use crate::sides::Numbers;
 use crate::words;
@@ -103,13 +102,7 @@ fn before_the_word(judge: &mut Judge) {
     let mut word = [7; 60];
     (word[20], word[40]) = (1, 0);
     let table = [0; TABLE];
-    let answers = [
-        judge.decode(f, &word, 38, 2).number,
-        judge.job_read(f, &table, &word, 38).number,
-        judge
-            .prescription_read(f, &table, &word, MARKS, POWERS)
-            .number,
-    ];
+    let answers = judge.readers(f, &table, &word, 38);
     let inputs = || format!("{f:?} {answers:?}");
     judge.expect(
         Op::Decode,

@@ -364,23 +364,30 @@ fn worn_at_every_place<N: Code>(strip: Result<Figures<N>, Refusal>, b: usize) {
     }
 }
 
+/// Job 7 on a strip of 15 cells: refused before it is open, then written as this word, read back from it with its run from 6 on worn, and refused once it is
+/// cancelled. The worn word comes back.
+fn job_on<N: Code>(strip: &Figures<N>, job: &[u8], run: usize, written: &[u8; 15]) -> [u8; 15] {
+    let mut table = Table::new();
+    let (mut word, mut payload) = ([0xEE; 15], vec![0xEE; job.len()]);
+    let unopened = job_write(strip, &table, &[6], job, &mut word);
+    assert_eq!((unopened, word), (Err(Refusal::NOT_OPEN), [0xEE; 15]));
+    assert_eq!(table.open(7), Ok(()));
+    assert_eq!(job_write(strip, &table, &[6], job, &mut word), Ok(()));
+    assert_eq!(word, *written);
+    word[6..6 + run].fill(0xFF);
+    assert_eq!(job_read(strip, &table, &word, &mut payload), Ok(()));
+    assert_eq!(payload, job);
+    assert_eq!(table.cancel(7), Ok(()));
+    let cancelled = job_read(strip, &table, &word, &mut payload);
+    assert_eq!(cancelled, Err(Refusal::CANCELLED));
+    word
+}
+
 #[test]
 fn jobs_with_one_long_run() {
     let strip = Figures::long(15, 256, 5).expect("these figures fit");
-    let mut table = Table::new();
-    let (mut word, mut payload) = ([0xEE; 15], [0xEE; 8]);
-    let job = b"\0\0\0\x07ABCD";
-    let unopened = job_write(&strip, &table, &[6], job, &mut word);
-    assert_eq!((unopened, word), (Err(Refusal::NOT_OPEN), [0xEE; 15]));
-    assert_eq!(table.open(7), Ok(()));
-    assert_eq!(job_write(&strip, &table, &[6], job, &mut word), Ok(()));
-    assert_eq!(word, *b"\x01\0\0\0\x07\0\0\0\0\0\0ABCD");
-    word[6..11].fill(0xFF);
-    assert_eq!(job_read(&strip, &table, &word, &mut payload), Ok(()));
-    assert_eq!(payload, *job);
-    assert_eq!(table.cancel(7), Ok(()));
-    let cancelled = job_read(&strip, &table, &word, &mut payload);
-    assert_eq!(cancelled, Err(Refusal::CANCELLED));
+    let written = b"\x01\0\0\0\x07\0\0\0\0\0\0ABCD";
+    job_on(&strip, b"\0\0\0\x07ABCD", 5, written);
 }
 
 /// Change request 8.
@@ -460,17 +467,8 @@ fn refused_words_of_older_trays() {
 fn jobs_of_older_trays() {
     assert_eq!(Figures::new(15, 256, 1, 7), Err(Refusal::UNFIT));
     let strip = Figures::larsson(15, 256, 1, 7).expect("these figures fit");
-    let mut table = Table::new();
-    let (mut word, mut payload) = ([0xEE; 15], [0xEE; 6]);
-    let job = b"\0\0\0\x07AB";
-    let unopened = job_write(&strip, &table, &[6], job, &mut word);
-    assert_eq!((unopened, word), (Err(Refusal::NOT_OPEN), [0xEE; 15]));
-    assert_eq!(table.open(7), Ok(()));
-    assert_eq!(job_write(&strip, &table, &[6], job, &mut word), Ok(()));
-    assert_eq!(word, *b"\x06\0\0\0\x07A\0\0\0\0\0\0\0B\x06");
-    word[6..13].fill(0xFF);
-    assert_eq!(job_read(&strip, &table, &word, &mut payload), Ok(()));
-    assert_eq!(payload, *job);
+    let written = b"\x06\0\0\0\x07A\0\0\0\0\0\0\0B\x06";
+    let word = job_on(&strip, b"\0\0\0\x07AB", 7, written);
     for (sub_blocks, refusal) in [
         ([6, 7, 8], Refusal::MAJORITY),
         ([9, 0, 9], Refusal::VALUE),
@@ -478,12 +476,9 @@ fn jobs_of_older_trays() {
     ] {
         let mut found = word;
         (found[0], found[7], found[14]) = (sub_blocks[0], sub_blocks[1], sub_blocks[2]);
-        let read = job_read(&strip, &Table::new(), &found, &mut payload);
+        let read = job_read(&strip, &Table::new(), &found, &mut [0; 6]);
         assert_eq!(read, Err(refusal));
     }
-    assert_eq!(table.cancel(7), Ok(()));
-    let cancelled = job_read(&strip, &table, &word, &mut payload);
-    assert_eq!(cancelled, Err(Refusal::CANCELLED));
 }
 
 /// No symbol tells of the one placement that there is, and every word is accepted.

@@ -1,7 +1,7 @@
 -- How an outcome is seen to answer by an order: the two ways to answer, and the tests of an order one after the other. Assumes nothing.
 use mathlib.Core.Path.{_≡_, refl}
 use mathlib.Core.Bool.{Bool, true, false, not, _&&_, _||_}
-use mathlib.Core.List.{List, _∷_}
+use mathlib.Core.List.{List, [], _∷_}
 use Prim.Native.Nat.{ℕ}
 use lib.Dec.{eqb}
 use Rattle.refusals.specs.Refusals.{must, served, invalid, unfit, wrongLength, badSymbol, badPayload, badPrescription, jobCancelled, jobHeld, notOpen}
@@ -68,15 +68,18 @@ pub by-own : {order : List ℕ} (P : Reading → Type 0) → ((a : ℕ) → any 
 by-own P no-word word (refused _) (turned a h) = no-word a h
 by-own P no-word word (accepted _ _) (handed ss ms) = word ss ms
 
--- the code's own stand in the order
-abbrev pub OwnIn : List ℕ → List ℕ → Type 0
-OwnIn own order = all (λ a. any (eqb a) (served ∷ order)) own ≡ true
+-- the numbers of a list stand in the order
+abbrev pub Within : List ℕ → List ℕ → Type 0
+Within numbers order = all (λ a. any (eqb a) (served ∷ order)) numbers ≡ true
 
-pub owns : (f : Figures) (order : List ℕ) → OwnIn (ownOf f) order → Owns order (codingOf f)
+pub one-within : (numbers order : List ℕ) → Within numbers order → (a : ℕ) → any (eqb a) numbers ≡ true → any (eqb a) (served ∷ order) ≡ true
+one-within numbers order h a e = in-all (λ x. any (eqb x) (served ∷ order)) numbers a h e
+
+pub owns : (f : Figures) (order : List ℕ) → Within (ownOf f) order → Owns order (codingOf f)
 owns f order h w = go (codingOf f .codec .decode w) (own-refusals f w)
   where
     go : (r : Reading) → ((a : ℕ) → r ≡ refused a → any (eqb a) (ownOf f) ≡ true) → Owned order r
-    go (refused a) own = turned a (in-all (λ x. any (eqb x) (served ∷ order)) (ownOf f) a h (own a refl))
+    go (refused a) own = turned a (one-within (ownOf f) order h a (own a refl))
     go (accepted ss ms) own = handed ss ms
 
 -- an order that begins with 1 2 3 4, as every word read's does
@@ -95,39 +98,37 @@ pub record BeginsJob (order : List ℕ) : Type 0 where
   pub twenty-three : any (eqb jobHeld) (served ∷ order) ≡ true
   pub fourteen : any (eqb notOpen) (served ∷ order) ≡ true
 
+begins : {order : List ℕ} → all isRefusal order ≡ true → Within (invalid ∷ unfit ∷ wrongLength ∷ badSymbol ∷ []) order → Begins order
+unfolding any
+begins {order} numbers h =
+    let has = one-within (invalid ∷ unfit ∷ wrongLength ∷ badSymbol ∷ []) order h in
+    record { numbers = numbers; one = has invalid refl; two = has unfit refl; three = has wrongLength refl; four = has badSymbol refl }
+
+begins-job : {order : List ℕ} → Begins order → Within (badPayload ∷ jobCancelled ∷ jobHeld ∷ notOpen ∷ []) order → BeginsJob order
+unfolding any
+begins-job {order} first h =
+    let has = one-within (badPayload ∷ jobCancelled ∷ jobHeld ∷ notOpen ∷ []) order h in
+    record { begins = first; ten = has badPayload refl; twelve = has jobCancelled refl; twenty-three = has jobHeld refl; fourteen = has notOpen refl }
+
 -- the orders of a code's readings
 pub record Orders (own : List ℕ) : Type 0 where
   pub word : Begins (wordRead own)
-  pub word-own : OwnIn own (wordRead own)
+  pub word-own : Within own (wordRead own)
   pub job : BeginsJob (jobRead own)
-  pub job-own : OwnIn own (jobRead own)
+  pub job-own : Within own (jobRead own)
   pub prescription : BeginsJob (prescriptionRead own)
-  pub prescription-own : OwnIn own (prescriptionRead own)
+  pub prescription-own : Within own (prescriptionRead own)
   pub sixteen : any (eqb badPrescription) (served ∷ prescriptionRead own) ≡ true
 
 by-pattern : Orders patternRefusals
 unfolding isRefusal all any
 by-pattern =
     record {
-      word = record { numbers = refl; one = refl; two = refl; three = refl; four = refl };
+      word = begins refl refl;
       word-own = refl;
-      job =
-          record {
-            begins = record { numbers = refl; one = refl; two = refl; three = refl; four = refl };
-            ten = refl;
-            twelve = refl;
-            twenty-three = refl;
-            fourteen = refl;
-          };
+      job = begins-job (begins refl refl) refl;
       job-own = refl;
-      prescription =
-          record {
-            begins = record { numbers = refl; one = refl; two = refl; three = refl; four = refl };
-            ten = refl;
-            twelve = refl;
-            twenty-three = refl;
-            fourteen = refl;
-          };
+      prescription = begins-job (begins refl refl) refl;
       prescription-own = refl;
       sixteen = refl;
     }
@@ -136,25 +137,11 @@ by-majority : Orders majorityRefusals
 unfolding isRefusal all any
 by-majority =
     record {
-      word = record { numbers = refl; one = refl; two = refl; three = refl; four = refl };
+      word = begins refl refl;
       word-own = refl;
-      job =
-          record {
-            begins = record { numbers = refl; one = refl; two = refl; three = refl; four = refl };
-            ten = refl;
-            twelve = refl;
-            twenty-three = refl;
-            fourteen = refl;
-          };
+      job = begins-job (begins refl refl) refl;
       job-own = refl;
-      prescription =
-          record {
-            begins = record { numbers = refl; one = refl; two = refl; three = refl; four = refl };
-            ten = refl;
-            twelve = refl;
-            twenty-three = refl;
-            fourteen = refl;
-          };
+      prescription = begins-job (begins refl refl) refl;
       prescription-own = refl;
       sixteen = refl;
     }

@@ -5,9 +5,8 @@ use mathlib.Core.List.{List, _∷_}
 use Prim.Native.Nat.{ℕ}
 use lib.Dec.{eqb}
 use lib.ListN.{length}
-use Rattle.refusals.specs.Refusals.{served, invalid, unfit, wrongLength, badSymbol}
+use Rattle.refusals.specs.Refusals.{invalid, unfit, wrongLength, badSymbol}
 use Rattle.combinatorics.specs.Lists.{all, any, allBelow}
-use Rattle.combinatorics.proofs.Lists.{in-all}
 use Rattle.cells.specs.Codec.{Reading}
 use Rattle.cells.specs.Outcomes.{Coding, unwritten}
 use Rattle.codes.specs.declared.Figures.{Figures}
@@ -27,7 +26,7 @@ use Rattle.lent.specs.Jobs.{hasTableLen, slotsFit}
 use Rattle.lent_moving.specs.Moves.{moveBytesUnder}
 use Rattle.demands.specs.Orders.{ownOf, moveAccepted, moving}
 use Rattle.demands.specs.DemandOne.{AnswersBy}
-use Rattle.demands.proofs.Answering.{keep, done, tested, where-open, by-own, OwnIn, Owns, owns, Writes}
+use Rattle.demands.proofs.Answering.{keep, done, tested, where-open, by-own, Within, one-within, Owns, owns, Writes}
 
 -- what every move is refused with: 1 2 3 4 and, once a word is accepted, 10, 12 23 14, 22, 17
 abbrev common : List ℕ
@@ -36,8 +35,8 @@ common = invalid ∷ unfit ∷ wrongLength ∷ badSymbol ∷ moveAccepted
 -- the order of moves from a code with these refusals
 record Moves (own : List ℕ) : Type 0 where
   pub numbers : all isRefusal (moving own) ≡ true
-  pub has : all (λ a. any (eqb a) (served ∷ moving own)) common ≡ true
-  pub has-own : OwnIn own (moving own)
+  pub has : Within common (moving own)
+  pub has-own : Within own (moving own)
 
 moves-in : (f : Figures) → Moves (ownOf f)
 unfolding isRefusal all any
@@ -47,9 +46,9 @@ moves-in (Larsson p) = record { numbers = refl; has = refl; has-own = refl }
 
 -- ---- From a reader whose refusals stand in the order
 
-module _ (order : List ℕ) (numbers : all isRefusal order ≡ true) (has : all (λ a. any (eqb a) (served ∷ order)) common ≡ true) where
+module _ (order : List ℕ) (numbers : all isRefusal order ≡ true) (has : Within common order) where
   one-of : {a : ℕ} {out : List ℕ} → any (eqb a) common ≡ true → AnswersBy order a out out
-  one-of {a} h = keep numbers (in-all (λ x. any (eqb x) (served ∷ order)) common a has h)
+  one-of {a} h = keep numbers (one-within common order has a h)
 
   module _ (d e : Coding) (reads : Owns order d) where
     read-and-moved : (es : List Entry) (out starts ms : List ℕ) → Writes order out (moveMessage (d .codec) (e .codec) es out starts ms)

@@ -2,6 +2,7 @@
 
 use super::{all, Answer, Judge, Op};
 use crate::lent::Lent;
+use crate::orders::{MARKS, POWERS};
 use crate::sides::{EyeNumbers, Numbers, PrescriptionNumbers};
 
 impl Judge {
@@ -77,5 +78,14 @@ impl Judge {
         });
         self.tally.count_job(kind, f, table, answer.number);
         answer
+    }
+
+    /// What word read, job read and prescription read answer of a word with one run, whose symbols are bytes.
+    pub fn readers(&mut self, f: Numbers, table: &[u8], word: &[u8], len: usize) -> [u8; 3] {
+        [
+            self.decode(f, word, len, 2).number,
+            self.job_read(f, table, word, len).number,
+            self.prescription_read(f, table, word, MARKS, POWERS).number,
+        ]
     }
 }
