@@ -5,9 +5,9 @@ use lib.Dec.{eqb}
 use lib.ListN.{length}
 use Rattle.refusals.specs.Refusals.{must, invalid, unfit, wrongLength}
 use Rattle.cells.specs.Bytes.{byteValues}
-use Rattle.cells.specs.Outcomes.{Coding, Held, inUse, FiguresOut, figured, unserved, WordAnswer, rankIs, refusal, answerNumber, Decoded, decodeUnder}
+use Rattle.cells.specs.Outcomes.{Coding, Held, inUse, WordAnswer, rankIs, refusal, answerNumber, Decoded, decodeUnder}
 use Rattle.cells.specs.Figures.{Params}
-use Rattle.construction_a.specs.Outcomes.{coding, figuresOut}
+use Rattle.construction_a.specs.Outcomes.{coding}
 
 -- "two lent byte buffers, for k message symbols and for m starts ..; the answer is 0 or the refusal"
 pub record Exported : Type 0 where
@@ -42,14 +42,3 @@ exportedUnder d w out bytes =
 -- of Construction A
 unfoldable pub exportedOut : Params → List ℕ → List ℕ → List ℕ → Exported
 exportedOut f = exportedUnder (coding f)
-
--- k, for a program that has to lend so many symbols; a length that no message has where the figures are refused
-abbrev pub noLength : ℕ
-noLength = 4294967295
-
-abbrev pub lengthIn : FiguresOut → ℕ
-lengthIn (figured t r k) = k
-lengthIn (unserved a) = noLength
-
-abbrev pub messageLenOut : Params → ℕ
-messageLenOut f = lengthIn (figuresOut f)

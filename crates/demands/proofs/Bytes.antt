@@ -2,18 +2,15 @@
 use mathlib.Core.Path.{_≡_, refl, ap}
 use mathlib.Core.Bool.{true}
 use mathlib.Core.List.{List, [], _∷_}
-use mathlib.Core.Option.{Option, none, some}
 use Prim.Native.Nat.{ℕ, _*_}
 use lib.Dec.{eqb}
 use lib.ListN.{length}
-use Rattle.refusals.specs.Refusals.{must, served, invalid, wrongLength, badRecord}
+use Rattle.refusals.specs.Refusals.{must, served, invalid, wrongLength}
 use Rattle.combinatorics.specs.Lists.{all, any}
 use Rattle.cells.specs.Outcomes.{Coding, Held, held, unwritten, coverUnder}
 use Rattle.cells.specs.Outcomes.{WordAnswer, rankIs, refusal, answerNumber, decodeUnder}
 use Rattle.jobs.specs.Jobs.{Kind, opening, cancelling, finishing, reinstating, holding, releasing}
-use Rattle.jobs.specs.Letters.{listKind, known, callBy}
-use Rattle.jobs.specs.Table.{TableOut}
-use Rattle.jobs.specs.Table.{callAs}
+use Rattle.jobs.specs.Table.{TableOut, callAs}
 use Rattle.decoder.specs.Exported.{Exported, exportedAnswer, exportedUnder}
 use Rattle.jobcodec.specs.DemandThree.{isRefusal}
 use Rattle.jobcodec.specs.JobRead.{withhold}
@@ -22,9 +19,9 @@ use Rattle.lent.specs.Jobs.{jobWriteBytesUnder, jobReadBytesUnder}
 use Rattle.lent.specs.Words.{encodeBytesUnder}
 use Rattle.lent.specs.Table.{tableLen, statesKnown, tableIn}
 use Rattle.lent.specs.Check.{verifyBytesUnder}
-use Rattle.exports.specs.Jobs.{CallLent, called, calledAs, callBytesOut}
-use Rattle.demands.specs.Orders.{wordWrite, covering, jobWrite, call}
-use Rattle.demands.specs.Orders.{callOnBytes}
+use Rattle.lent.specs.Calls.{CallLent, called, calledAs, callBytesOut}
+use Rattle.lent.specs.Figures.{FiguresLent, figuresLentUnder}
+use Rattle.demands.specs.Orders.{wordWrite, covering, jobWrite, call, callOnBytes, lentFigures}
 use Rattle.demands.proofs.Answering.{keep, done, tested, Owns, Begins, BeginsJob}
 use Rattle.demands.proofs.Answering.{with-table, one-more, Writes}
 use Rattle.demands.proofs.Words.{word-write, cover, ReadsBehind, word-read, turned-away, verify}
@@ -94,24 +91,25 @@ job-read-bytes order b d own table w out =
     with-table (ReadsJob order out) d table true (withhold out) (keep n (b .begins .one)) (keep n (b .begins .two)) (keep n (b .ten))
     (keep n (b .begins .three)) (job-read order b d own (tableIn table) w out)
 
-module _ (table : List ℕ) where
-  abbrev CallsIn : Option Kind → CallLent → Type 0
-  CallsIn k o = AnswersBy (callOnBytes k) (o .answer) table (o .table)
+module _ (table : List ℕ) (k : Kind) where
+  abbrev CallsIn : CallLent → Type 0
+  CallsIn o = AnswersBy (callOnBytes k) (o .answer) table (o .table)
 
-  call-in : (k : Kind) (out : TableOut) → AnswersBy (call k) (out .answer) (tableIn table) (out .table) → CallsIn (some k) (calledAs table out)
+  call-in : (out : TableOut) → AnswersBy (call k) (out .answer) (tableIn table) (out .table) → CallsIn (calledAs table out)
   unfolding isRefusal all any
-  call-in k out h =
-      tested (CallsIn (some k)) (eqb (out .answer) served)
+  call-in out h =
+      tested CallsIn (eqb (out .answer) served)
       (keep (h .numbers) (one-more (eqb (out .answer) served) (eqb (out .answer) wrongLength) (any (eqb (out .answer)) (call k)) (h .answer)))
       (done (h .numbers))
 
-  one-call : (k : Kind) (number : ℕ) → CallsIn (some k) (must (statesKnown table) (called invalid table) (calledAs table (callAs k (tableIn table) number)))
-  unfolding isRefusal all any
-  one-call k number =
+  pub call-bytes : (number : ℕ) → CallsIn (callBytesOut (callAs k) table number)
+  unfolding callBytesOut isRefusal all any
+  call-bytes number =
       let h = call-as (tableIn table) k number in
-      tested (CallsIn (some k)) (statesKnown table) (keep (h .numbers) (first k)) (call-in k (callAs k (tableIn table) number) h)
+      tested CallsIn (eqb (length table) tableLen) (keep (h .numbers) refl)
+      (tested CallsIn (statesKnown table) (keep (h .numbers) (first k)) (call-in (callAs k (tableIn table) number) h))
     where
-      first : (k : Kind) → any (eqb invalid) (served ∷ callOnBytes (some k)) ≡ true
+      first : (k : Kind) → any (eqb invalid) (served ∷ callOnBytes k) ≡ true
       first opening = refl
       first cancelling = refl
       first finishing = refl
@@ -119,22 +117,10 @@ module _ (table : List ℕ) where
       first holding = refl
       first releasing = refl
 
-  by-letter : (k : Option Kind) (number : ℕ)
-      → CallsIn k (must (known k) (called badRecord table) (must (statesKnown table) (called invalid table) (calledAs table (callBy k (tableIn table) number))))
-  unfolding isRefusal all any
-  by-letter none number = keep refl refl
-  by-letter (some k) number = one-call k number
-
-  pub call-bytes : (letter number : ℕ) → CallsIn (listKind letter) (callBytesOut table letter number)
-  unfolding callBytesOut isRefusal all any
-  call-bytes letter number =
-      tested (CallsIn (listKind letter)) (eqb (length table) tableLen) (other-length (listKind letter)) (by-letter (listKind letter) number)
-    where
-      other-length : (k : Option Kind) → CallsIn k (called wrongLength table)
-      other-length none = keep refl refl
-      other-length (some opening) = keep refl refl
-      other-length (some cancelling) = keep refl refl
-      other-length (some finishing) = keep refl refl
-      other-length (some reinstating) = keep refl refl
-      other-length (some holding) = keep refl refl
-      other-length (some releasing) = keep refl refl
+pub figures-lent : (d : Coding) (out : List ℕ) → AnswersBy lentFigures (figuresLentUnder d out .answer) out (figuresLentUnder d out .figures)
+unfolding figuresLentUnder isRefusal all any
+figures-lent d out =
+    let P : FiguresLent → Type 0 = λ o. AnswersBy lentFigures (o .answer) out (o .figures) in
+    tested P (d .inRange) (keep refl refl)
+    (tested P (d .fits) (keep refl refl)
+    (tested P (eqb (length out) 4) (keep refl refl) (done refl)))

@@ -26,7 +26,7 @@ use Rattle.demands.proofs.Words.{figures-alone, word-write, cover, word
 use Rattle.demands.proofs.Words.{interleave, deinterleave}
 use Rattle.demands.proofs.Jobs.{open-job, cancel-job, finish-job, reinstate-job, hold-job, release-job, call-by, replay}
 use Rattle.demands.proofs.Jobs.{job-write, job-read, list-and-read}
-use Rattle.demands.proofs.Bytes.{word-write-bytes, verify-bytes, cover-bytes, word-read-bytes, job-write-bytes, job-read-bytes, call-bytes}
+use Rattle.demands.proofs.Bytes.{figures-lent, word-write-bytes, verify-bytes, cover-bytes, word-read-bytes, job-write-bytes, job-read-bytes, call-bytes}
 use Rattle.demands.proofs.Transfer.{step}
 use Rattle.demands.specs.DemandOne.{DemandOne}
 
@@ -69,12 +69,13 @@ demand-one =
       prescription-read = λ f.
           let o = orders f in
           prescription-read (prescriptionRead (ownOf f)) (o .prescription) (o .sixteen) (codingOf f) (owns f _ (o .prescription-own));
+      figures-lent = λ f. figures-lent (codingOf f);
       word-read-bytes = λ f w out starts.
           word-read-bytes out starts (wordRead (ownOf f)) (orders f .word) (codingOf f) (reads-behind f) w;
       word-write-bytes = λ f. word-write-bytes (codingOf f);
       verify-bytes = λ f. verify-bytes (codingOf f);
       cover-bytes = λ f map starts. cover-bytes starts (codingOf f) map;
-      call-bytes = call-bytes;
+      call-bytes = λ k table. call-bytes table k;
       job-write-bytes = λ f. job-write-bytes (codingOf f);
       job-read-bytes = λ f. job-read-bytes (jobRead (ownOf f)) (orders f .job) (codingOf f) (owns f _ (orders f .job-own));
       move-bytes = move-bytes;

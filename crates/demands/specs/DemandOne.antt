@@ -1,7 +1,7 @@
 -- Demand 1, of the outcome of every entry point and for every input: the answer is 0 or a listed number, and where it is not 0 nothing has changed. That
 -- each call ends and touches lent memory alone is what a proved function has; that its answer and lent memory are these outcomes is its contract. The
--- proof is `demand-one` of proofs/DemandOne.antt. The lengths for other languages refuse nothing and have no field; two readings one after the other
--- (`decode_both`) are two times word read, and a move there and back is two moves. Assumes nothing.
+-- proof is `demand-one` of proofs/DemandOne.antt. Two readings one after the other (`decode_both`) are two times word read, and a move there and back is two
+-- moves. Assumes nothing.
 use mathlib.Core.Path.{_≡_}
 use mathlib.Core.Logic.{_≢_}
 use mathlib.Core.Bool.{true, false}
@@ -19,10 +19,10 @@ use Rattle.codes.specs.Bridge.{codingOf}
 use Rattle.codes.specs.DemandTwo.{DemandTwo}
 use Rattle.jobs.specs.declared.Entry.{Entry}
 use Rattle.jobs.specs.Jobs.{Kind, opening, cancelling, finishing, reinstating, holding, releasing}
-use Rattle.jobs.specs.Letters.{listKind, callBy}
+use Rattle.jobs.specs.Letters.{callBy}
 use Rattle.ledger.specs.Replay.{replayOut}
 use Rattle.ledger.specs.Simulation.{Simulation}
-use Rattle.jobs.specs.Table.{openOut, cancelOut, finishOut, reinstateOut, holdOut, releaseOut}
+use Rattle.jobs.specs.Table.{openOut, cancelOut, finishOut, reinstateOut, holdOut, releaseOut, callAs}
 use Rattle.decoder.specs.Exported.{exportedUnder}
 use Rattle.jobcodec.specs.DemandThree.{isRefusal}
 use Rattle.jobcodec.specs.JobWrite.{jobWriteUnder}
@@ -36,19 +36,20 @@ use Rattle.prescriptioncodec.specs.PrescriptionRead.{prescriptionReadUnder}
 use Rattle.moving.specs.Move.{moveUnder}
 use Rattle.lanes.specs.Outcomes.{interleaveUnder, deinterleaveUnder}
 use Rattle.verifier.specs.Verify.{Verdict, agreeing, verdictRefusal, verifyUnder}
+use Rattle.lent.specs.Calls.{callBytesOut}
 use Rattle.lent.specs.Check.{differs, verdictNumber, verifyBytesUnder}
 use Rattle.lent.specs.Covering.{coverBytesUnder}
+use Rattle.lent.specs.Figures.{figuresLentUnder}
 use Rattle.lent.specs.Jobs.{jobWriteBytesUnder, jobReadBytesUnder}
 use Rattle.lent.specs.Words.{encodeBytesUnder}
 use Rattle.lent_moving.specs.Moves.{moveBytesUnder}
 use Rattle.lent_prescriptions.specs.Eyes.{PowersLent, transposeLent, equivalentLent}
 use Rattle.lent_prescriptions.specs.Prescriptions.{prescriptionWriteBytesUnder, prescriptionReadBytesUnder}
-use Rattle.exports.specs.Jobs.{callBytesOut}
 use Rattle.records.specs.Session.{Session, nextSession}
 use Rattle.lines.specs.Lines.{refusalLine, servedLine}
 use Rattle.records.specs.Records.{letterOf}
 use Rattle.transfer.specs.Steps.{Step, stopped, ended, goesOn, stepOut}
-use Rattle.demands.specs.Orders.{ownOf, figuresAlone, wordWrite, covering, wordRead, rearrangement, jobWrite, jobRead, moving}
+use Rattle.demands.specs.Orders.{ownOf, figuresAlone, lentFigures, wordWrite, covering, wordRead, rearrangement, jobWrite, jobRead, moving}
 use Rattle.demands.specs.Orders.{prescriptionAlone, prescriptionWrite, prescriptionRead, prescriptionLent, call, callByLetter, callOnBytes}
 use Rattle.demands.specs.Orders.{listOfCalls}
 
@@ -137,6 +138,8 @@ pub record DemandOne : Type 0 where
   pub prescription-read : (f : Figures) (es : List Entry) (w : List ℕ)
       → AnswersBy (prescriptionRead (ownOf f)) (prescriptionReadUnder (codingOf f) es w .number) none (prescriptionReadUnder (codingOf f) es w .value)
   -- ---- For other languages
+  pub figures-lent : (f : Figures) (out : List ℕ)
+      → AnswersBy lentFigures (figuresLentUnder (codingOf f) out .answer) out (figuresLentUnder (codingOf f) out .figures)
   pub word-read-bytes : (f : Figures) (w out starts : List ℕ)
       → AnswersBy {A = List ℕ × List ℕ} (wordRead (ownOf f)) (exportedUnder (codingOf f) w out starts .answer) (out, starts)
       (exportedUnder (codingOf f) w out starts .message, exportedUnder (codingOf f) w out starts .starts)
@@ -145,8 +148,9 @@ pub record DemandOne : Type 0 where
   pub verify-bytes : (f : Figures) (starts ms w : List ℕ) → ChecksBy (verifyBytesUnder (codingOf f) starts ms w)
   pub cover-bytes : (f : Figures) (map starts : List ℕ)
       → AnswersBy covering (coverBytesUnder (codingOf f) map starts .answer) starts (coverBytesUnder (codingOf f) map starts .starts)
-  pub call-bytes : (table : List ℕ) (letter number : ℕ)
-      → AnswersBy (callOnBytes (listKind letter)) (callBytesOut table letter number .answer) table (callBytesOut table letter number .table)
+  -- the six calls: `callAs` of each kind is its outcome
+  pub call-bytes : (k : Kind) (table : List ℕ) (number : ℕ)
+      → AnswersBy (callOnBytes k) (callBytesOut (callAs k) table number .answer) table (callBytesOut (callAs k) table number .table)
   pub job-write-bytes : (f : Figures) (table starts payload out : List ℕ)
       → AnswersBy jobWrite (jobWriteBytesUnder (codingOf f) table starts payload out .answer) out
       (jobWriteBytesUnder (codingOf f) table starts payload out .word)

@@ -15,6 +15,10 @@ use Rattle.jobs.specs.Jobs.{Kind, opening, cancelling, finishing, reinstating, 
 abbrev pub figuresAlone : List ℕ
 figuresAlone = invalid ∷ unfit ∷ []
 
+-- into lent numbers: 3 where there are other than four
+abbrev pub lentFigures : List ℕ
+lentFigures = invalid ∷ unfit ∷ wrongLength ∷ []
+
 -- "word write 1 2 3 5 4"
 abbrev pub wordWrite : List ℕ
 wordWrite = invalid ∷ unfit ∷ wrongLength ∷ badStarts ∷ badSymbol ∷ []
@@ -84,8 +88,8 @@ callByLetter none = badRecord ∷ []
 callByLetter (some k) = call k
 
 -- a call on a table in bytes: 3 before all
-abbrev pub callOnBytes : Option Kind → List ℕ
-callOnBytes k = wrongLength ∷ callByLetter k
+abbrev pub callOnBytes : Kind → List ℕ
+callOnBytes k = wrongLength ∷ call k
 
 -- a list of calls: 3 for lists of other lengths, 11 for a letter
 abbrev pub listOfCalls : List ℕ

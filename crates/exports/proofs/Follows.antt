@@ -16,7 +16,6 @@ use Rattle.jobs.specs.declared.Entry.the-variants.{Free, Open, OnHold, Cancelle
 use Rattle.jobs.specs.declared.Before.{Before}
 use Rattle.jobs.specs.declared.Before.the-variants.{WasAbsent, WasOpen, WasOnHold}
 use Rattle.jobs.specs.Jobs.{Kind, opening, cancelling, finishing, reinstating, holding, releasing, Call, isJob}
-use Rattle.jobs.specs.Letters.{kindOf, listKind, callBy, isListLetter}
 use Rattle.jobs.specs.Table.{isFree, holds, lookup, emptyTable, TableOut, refuse, accept, replaceFirst, put, add, twice, decide, openJob, openAt, cancelAt}
 use Rattle.jobs.specs.Table.{finishAt, restored, reinstateAt, holdAt, releaseAt, callAs}
 use Rattle.ledger.specs.Calls.{callOut, answersFrom, tableFrom}
@@ -24,9 +23,9 @@ use Rattle.ledger.specs.Simulation.{Start, empty, zero-open, zero-cancelled, ze
 use Rattle.ledger.proofs.Simulates.{simulation-from-start}
 use Rattle.lent.specs.Table.{numberFits, IsTable, TableOf}
 use Rattle.lent.proofs.TableBack.{table-back, empty-bytes, empty-table}
-use Rattle.exports.specs.Jobs.{CallLent, calledAs}
-use Rattle.exports.specs.Follows.{letterFor, callOn, answersOn, bytesAfter, EmptyBytes, has32Bits, BytesFollow}
-use Rattle.exports.proofs.JobLaws.{as-called}
+use Rattle.lent.specs.Calls.{CallLent, calledAs}
+use Rattle.lent.proofs.CallLaws.{as-called}
+use Rattle.exports.specs.Follows.{callOn, answersOn, bytesAfter, EmptyBytes, has32Bits, BytesFollow}
 
 -- ---- A call leaves a table, and a refused one the table that it found
 
@@ -124,29 +123,10 @@ module _ (es : List Entry) (g : IsTable es) where
 
 -- ---- So a call on the bytes is one on the table
 
-letter-call : (k : Kind) (es : List Entry) (n : ℕ) → callBy (listKind (letterFor k)) es n ≡ callAs k es n
-unfolding kindOf listKind
-letter-call opening es n = refl
-letter-call cancelling es n = refl
-letter-call finishing es n = refl
-letter-call reinstating es n = refl
-letter-call holding es n = refl
-letter-call releasing es n = refl
-
-letter-known : (k : Kind) → isListLetter (letterFor k) ≡ true
-unfolding kindOf listKind
-letter-known opening = refl
-letter-known cancelling = refl
-letter-known finishing = refl
-letter-known reinstating = refl
-letter-known holding = refl
-letter-known releasing = refl
-
 one-call : (bytes : List ℕ) (es : List Entry) → TableOf bytes es → (c : Call) → callOn bytes c ≡ calledAs bytes (callOut es c)
 one-call bytes es b c =
-    let k = letterFor (c .kind) in
-    as-called bytes k (c .number) (b .size) (letter-known (c .kind)) (b .known) (callOut es c)
-    (sym (letter-call (c .kind) es (c .number)) ∙ ap (λ (x : List Entry). callBy (listKind k) x (c .number)) (sym (b .same)))
+    as-called (callAs (c .kind)) bytes (c .number) (b .size) (b .known) (callOut es c)
+    (ap (λ (x : List Entry). callAs (c .kind) x (c .number)) (sym (b .same)))
 
 -- the answer is the call's, and the bytes hold the table that it hands back: those written, or after a refusal those that were there
 record Left (o : CallLent) (out : TableOut) : Type 0 where

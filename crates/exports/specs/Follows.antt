@@ -9,23 +9,15 @@ use lib.ListN.{replicate}
 use Rattle.combinatorics.specs.Lists.{all}
 use Rattle.cells.specs.Bytes.{byteValues}
 use Rattle.jobs.specs.declared.Entry.{Entry}
-use Rattle.jobs.specs.Jobs.{Kind, opening, cancelling, finishing, reinstating, holding, releasing, Call}
+use Rattle.jobs.specs.Jobs.{Call}
 use Rattle.ledger.specs.Simulation.{Start, Follows}
-use Rattle.jobs.specs.Table.{emptyTable}
+use Rattle.jobs.specs.Table.{emptyTable, callAs}
 use Rattle.lent.specs.Table.{tableLen, tableIn, TableOf}
-use Rattle.exports.specs.Jobs.{CallLent, callBytesOut}
+use Rattle.lent.specs.Calls.{CallLent, callBytesOut}
 
--- "O (open), C (cancel), F (finish)", and I (reinstate), H (hold), U (release)
-abbrev pub letterFor : Kind → ℕ
-letterFor opening = 79
-letterFor cancelling = 67
-letterFor finishing = 70
-letterFor reinstating = 73
-letterFor holding = 72
-letterFor releasing = 85
-
+-- `burgzemi_open`, `_cancel`, `_finish`, `_reinstate`, `_hold` or `_release`, by the kind of the call
 abbrev pub callOn : List ℕ → Call → CallLent
-callOn bytes c = callBytesOut bytes (letterFor (c .kind)) (c .number)
+callOn bytes c = callBytesOut (callAs (c .kind)) bytes (c .number)
 
 -- the answers of the calls, each given the bytes that the one before left
 unfoldable pub answersOn : List ℕ → List Call → List ℕ

@@ -9,32 +9,32 @@ ghost use Rattle.jobcodec.specs.Given.{seen};
 ghost use Rattle.lanes.specs.Outcomes.{unfilled, interleaveUnder, deinterleaveUnder};
 ghost use Rattle.lent.specs.Check.{verifyBytesUnder, verdictNumber};
 ghost use Rattle.lent.specs.Covering.{coverLent, coverBytesUnder};
+ghost use Rattle.lent.specs.Figures.{figuresLent, figuresLentUnder};
 ghost use Rattle.lent.specs.Jobs.{jobWriteBytesUnder, jobReadBytesUnder};
-ghost use Rattle.lent.specs.Words.{encodeBytesUnder, messageLenUnder, payloadLenUnder};
+ghost use Rattle.lent.specs.Words.{encodeBytesUnder};
 ghost use Rattle.lent_prescriptions.specs.Eyes.{eyeFrom, powersLent};
 ghost use Rattle.lent_prescriptions.specs.Prescriptions.{prescriptionFrom, prescriptionWriteBytesUnder, prescriptionReadBytesUnder};
 use codes::Figures;
 use lent::check;
+use lent::figures;
 use lent::job;
 use lent::starts;
 use lent::words;
 use lent_prescriptions::prescriptions;
 use params::Params;
 
-// How many symbols a message has; 4294967295 for figures that are refused.
+// Figures alone: T, R, k and K, four numbers. Refusals: 1 2 3.
 #[no_mangle]
-pub extern "C" fn burgzemi_larsson_message_len(n: u32, q: u32, m: u32, b: u32) -> u32
-    ensures { λ r. ⌜ r ≡ messageLenUnder (coding (params n q m b)) ⌝ }
+pub extern "C" fn burgzemi_larsson_figures(
+    n: u32,
+    q: u32,
+    m: u32,
+    b: u32,
+    figures: &mut [u64],
+) -> u8
+    ensures { λ r. ⌜ figuresLent r (now (figures .exit)) ≡ figuresLentUnder (coding (params n q m b)) (now (figures .entry)) ⌝ }
 {
-    words::message_len(Figures::Larsson(Params { n, q, m, b }))
-}
-
-// How many bytes a payload has, the job number's four included; 4294967295 for figures that are refused.
-#[no_mangle]
-pub extern "C" fn burgzemi_larsson_payload_len(n: u32, q: u32, m: u32, b: u32) -> u32
-    ensures { λ r. ⌜ r ≡ payloadLenUnder (coding (params n q m b)) ⌝ }
-{
-    words::payload_len(Figures::Larsson(Params { n, q, m, b }))
+    figures::figures(Figures::Larsson(Params { n, q, m, b }), figures)
 }
 
 // Word write: the word of a placement, whose starts are 2 bytes each and the high byte first, and of a message. Refusals: 1 2 3 5 4.

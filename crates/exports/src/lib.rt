@@ -1,29 +1,37 @@
-// The entry points for programs in other languages, on numbers and lent bytes and floats. Each but the lengths answers 0 or the refusal, which leaves
-// every lent buffer as it was; the check of a word has 255 for "no" besides. Assumes nothing.
+// The entry points for programs in other languages, on numbers and lent bytes, numbers and floats. Each answers 0 or the refusal, which leaves every lent
+// buffer as it was; the check of a word has 255 for "no" besides. Assumes nothing.
 ghost use mathlib.Core.Path.{_≡_};
 ghost use Rattle.cells.specs.Figures.{params};
 ghost use Rattle.construction_a.specs.Outcomes.{unwritten, coding};
-ghost use Rattle.decoder.specs.Exported.{lentAs, exportedOut, messageLenOut};
+ghost use Rattle.decoder.specs.Exported.{lentAs, exportedOut};
 ghost use Rattle.jobcodec.specs.Given.{seen};
 ghost use Rattle.lanes.specs.Outcomes.{unfilled, interleaveOut, deinterleaveOut};
 ghost use Rattle.lent.specs.Check.{verifyBytesUnder, verdictNumber};
 ghost use Rattle.lent.specs.Covering.{coverLent, coverBytesOut};
+ghost use Rattle.lent.specs.Figures.{figuresLent, figuresLentUnder};
 ghost use Rattle.lent.specs.Jobs.{jobWriteBytesOut, jobReadBytesOut};
-ghost use Rattle.lent.specs.Words.{encodeBytesOut, payloadLenOut};
-ghost use Rattle.exports.specs.Jobs.{called, callBytesOut};
+ghost use Rattle.lent.specs.Words.{encodeBytesOut};
 use codes::Figures;
 use lent::check;
+use lent::figures;
 use lent::job;
 use lent::starts;
-use lent::table;
 use lent::words;
 use params::Params;
-use refusals::Refusal;
 
+pub mod calls;
 pub mod eye_calls;
 pub mod larsson_code;
 pub mod long;
 pub mod moves;
+
+// Figures alone: T, r, k and K, four numbers. Refusals: 1 2 3.
+#[no_mangle]
+pub extern "C" fn burgzemi_figures(n: u32, q: u32, m: u32, b: u32, figures: &mut [u64]) -> u8
+    ensures { λ r. ⌜ figuresLent r (now (figures .exit)) ≡ figuresLentUnder (coding (params n q m b)) (now (figures .entry)) ⌝ }
+{
+    figures::figures(Figures::Ranked(Params { n, q, m, b }), figures)
+}
 
 // Word read: the message, and the starts of the bursts, 2 bytes each and the high byte first. Refusals: 1 2 3 4 7 19 8 9 19.
 #[no_mangle]
@@ -45,22 +53,6 @@ pub extern "C" fn burgzemi_decode(
         message,
         starts,
     )
-}
-
-// How many symbols a message has, so that a program can lend them; 4294967295 for figures that are refused.
-#[no_mangle]
-pub extern "C" fn burgzemi_message_len(n: u32, q: u32, m: u32, b: u32) -> u32
-    ensures { λ r. ⌜ r ≡ messageLenOut (params n q m b) ⌝ }
-{
-    words::message_len(Figures::Ranked(Params { n, q, m, b }))
-}
-
-// How many bytes a payload has, the job number's four included; 4294967295 for figures that are refused.
-#[no_mangle]
-pub extern "C" fn burgzemi_payload_len(n: u32, q: u32, m: u32, b: u32) -> u32
-    ensures { λ r. ⌜ r ≡ payloadLenOut (params n q m b) ⌝ }
-{
-    words::payload_len(Figures::Ranked(Params { n, q, m, b }))
 }
 
 // Word write: the word of a placement, whose starts are 2 bytes each and the high byte first, and of a message. Refusals: 1 2 3 5 4.
@@ -119,31 +111,6 @@ pub extern "C" fn burgzemi_cover(
     ensures { λ r. ⌜ coverLent r (now (starts .exit)) ≡ coverBytesOut (params n q m b) (now (map .entry)) (now (starts .entry)) ⌝ }
 {
     starts::cover_bytes(Figures::Ranked(Params { n, q, m, b }), map, starts)
-}
-
-// A call on the job table: the letter O opens, C cancels, F finishes, I reinstates, H holds, U releases. Refusals: 3 for the table's length, 11 for another
-// letter, 1 for a slot with an unknown state; then the call's own: 1, then 17 12 13 15 for opening, 17 12 15 for cancelling, 12 23 14 for finishing, 20 for
-// reinstating, 12 23 14 for holding, 12 24 for releasing.
-#[no_mangle]
-pub extern "C" fn burgzemi_call(table: &mut [u8], letter: u8, number: u32) -> u8
-    ensures { λ r. ⌜ called r (now (table .exit)) ≡ callBytesOut (now (table .entry)) letter number ⌝ }
-{
-    if table.len() != table::TABLE_LEN {
-        return Refusal::LENGTH;
-    }
-    if !jobs::by_letter::is_list_letter(letter) {
-        return Refusal::RECORD;
-    }
-    if !table::states_known(table) {
-        return Refusal::INVALID;
-    }
-    let before = table::table_in(table);
-    let out = before.list_call(letter, number);
-    if out.answer != Refusal::NONE {
-        return out.answer;
-    }
-    table::put_table(out.table, table);
-    Refusal::NONE
 }
 
 // Job write: the word of a placement and a payload whose job the table has open; number 0 is no job. Refusals: 1 2 10 3 5 17 12 23 14.

@@ -9,32 +9,26 @@ ghost use Rattle.jobcodec.specs.Given.{seen};
 ghost use Rattle.lanes.specs.Outcomes.{unfilled, interleaveUnder, deinterleaveUnder};
 ghost use Rattle.lent.specs.Check.{verifyBytesUnder, verdictNumber};
 ghost use Rattle.lent.specs.Covering.{coverLent, coverBytesUnder};
+ghost use Rattle.lent.specs.Figures.{figuresLent, figuresLentUnder};
 ghost use Rattle.lent.specs.Jobs.{jobWriteBytesUnder, jobReadBytesUnder};
-ghost use Rattle.lent.specs.Words.{encodeBytesUnder, messageLenUnder, payloadLenUnder};
+ghost use Rattle.lent.specs.Words.{encodeBytesUnder};
 ghost use Rattle.lent_prescriptions.specs.Eyes.{eyeFrom, powersLent};
 ghost use Rattle.lent_prescriptions.specs.Prescriptions.{prescriptionFrom, prescriptionWriteBytesUnder, prescriptionReadBytesUnder};
 use codes::Figures;
 use lent::check;
+use lent::figures;
 use lent::job;
 use lent::starts;
 use lent::words;
 use lent_prescriptions::prescriptions;
 use params::long::LongParams;
 
-// How many symbols a message has; 4294967295 for figures that are refused.
+// Figures alone: T, r, k and K, four numbers. Refusals: 1 2 3.
 #[no_mangle]
-pub extern "C" fn burgzemi_long_message_len(n: u32, q: u32, b: u32) -> u32
-    ensures { λ r. ⌜ r ≡ messageLenUnder (coding (longParams n q b)) ⌝ }
+pub extern "C" fn burgzemi_long_figures(n: u32, q: u32, b: u32, figures: &mut [u64]) -> u8
+    ensures { λ r. ⌜ figuresLent r (now (figures .exit)) ≡ figuresLentUnder (coding (longParams n q b)) (now (figures .entry)) ⌝ }
 {
-    words::message_len(Figures::Long(LongParams { n, q, b }))
-}
-
-// How many bytes a payload has, the job number's four included; 4294967295 for figures that are refused.
-#[no_mangle]
-pub extern "C" fn burgzemi_long_payload_len(n: u32, q: u32, b: u32) -> u32
-    ensures { λ r. ⌜ r ≡ payloadLenUnder (coding (longParams n q b)) ⌝ }
-{
-    words::payload_len(Figures::Long(LongParams { n, q, b }))
+    figures::figures(Figures::Long(LongParams { n, q, b }), figures)
 }
 
 // Word write: the word of a placement, whose start is 2 bytes and the high byte first, and of a message. Refusals: 1 2 3 5 4.

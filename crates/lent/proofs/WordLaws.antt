@@ -4,13 +4,11 @@ use mathlib.Core.Logic.{_≢_}
 use mathlib.Core.Bool.{true}
 use mathlib.Core.List.{List}
 use Prim.Native.Nat.{ℕ, _*_, _≤_}
-use native.Mathlib.Nat.{div-le-self}
 use native.Mathlib.Omega.{arith}
 use lib.Dec.{eqb}
 use lib.ListN.{length}
 use Rattle.refusals.specs.Refusals.{must, wrongLength}
 use Rattle.combinatorics.proofs.Cases.{by-eq, by-bool, eqb-same, eqb-other, leb-holds}
-use Rattle.cells.specs.Bytes.{byteWidth, payloadLen}
 use Rattle.cells.specs.Figures.{maxBursts}
 use Rattle.cells.specs.Outcomes.{Coding, Held, held, unserved, figuresUnder, unwritten, encodeUnder}
 use Rattle.cells.proofs.Outcomes.{refused-alike}
@@ -56,9 +54,3 @@ module _ (d : Coding) (starts ms out : List ℕ) where
     pub encode-placed : length starts ≡ 2 * d .bursts → encodeBytesUnder d starts ms out ≡ encodeUnder d (held (startsFrom starts)) ms out
     unfolding encodeBytesUnder
     encode-placed e = rw (range, fit, eqb-same (length starts) (2 * d .bursts) e)
-
--- ---- Lengths: no payload is longer than its message
-
-pub payload-short : (q k : ℕ) → payloadLen q k ≤ k
-unfolding payloadLen
-payload-short q k = div-le-self k (byteWidth q)

@@ -1,43 +1,16 @@
-// Words for programs in other languages, under the figures of any code: written and read with starts as bytes, and their lengths. Inner
-// functions. Assumes nothing.
+// Words for programs in other languages, under the figures of any code: written and read with starts as bytes. Inner functions. Assumes nothing.
 ghost use mathlib.Core.Path.{_≡_};
 ghost use Rattle.cells.specs.Outcomes.{unwritten};
 ghost use Rattle.codes.specs.Bridge.{codingOf};
 ghost use Rattle.codes.specs.Given.{codingIn, Serves};
 ghost use Rattle.decoder.specs.Exported.{lentAs, exportedUnder};
-ghost use Rattle.lent.specs.Words.{encodeBytesUnder, messageLenUnder, payloadLenUnder};
+ghost use Rattle.lent.specs.Words.{encodeBytesUnder};
 use codes::Figures;
 use codes::FiguresAnswer;
 use codes::WordLayout;
 use decoder::starts::put_decoded;
-use params::bytes;
 use placements::starts::placement_at;
 use refusals::Refusal;
-
-// A length that no message and no payload has.
-pub const NO_LENGTH: u32 = 4294967295;
-
-// How many symbols a message has; NO_LENGTH for figures that are refused.
-pub fn message_len(figures: Figures) -> u32
-    ensures { λ r. ⌜ r ≡ messageLenUnder (codingOf figures) ⌝ }
-{
-    let answer = figures.layout();
-    match answer {
-        FiguresAnswer::Refused(_) => NO_LENGTH,
-        FiguresAnswer::Fit(layout) => layout.message_len as u32,
-    }
-}
-
-// How many bytes a payload has, the job number's four included; NO_LENGTH for figures that are refused.
-pub fn payload_len(figures: Figures) -> u32
-    ensures { λ r. ⌜ r ≡ payloadLenUnder (codingOf figures) ⌝ }
-{
-    let answer = figures.layout();
-    match answer {
-        FiguresAnswer::Refused(_) => NO_LENGTH,
-        FiguresAnswer::Fit(layout) => bytes::payload_len(layout.q, layout.message_len) as u32,
-    }
-}
 
 // Word write with the starts as bytes. Refusals: 1 2 3 5 4.
 pub fn encode(figures: Figures, starts: &[u8], message: &[u8], word: &mut [u8]) -> u8

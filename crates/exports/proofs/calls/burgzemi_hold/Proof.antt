@@ -1,0 +1,18 @@
+-- `burgzemi_hold` meets its contract: the inner function's, by its letter. Assumes nothing.
+use borrow.Author.Needs.{needs}
+use Rattle.jobs.specs.Letters.{kindOf, listKind}
+use Rattle.exports.proofs.calls.burgzemi_hold.Statement.{statement}
+use Rattle.exports.proofs.calls.burgzemi_hold.Tie as tie
+
+call-requires : tie.Need-call-requires
+call-requires c κs = search needs
+
+same-length : tie.Need-same-length
+same-length c = search needs
+
+returns : tie.Need-returns
+unfolding kindOf listKind
+returns c = c .before .before .call .ensures
+
+pub burgzemi-hold-spec : {M : Type 1} → statement M
+burgzemi-hold-spec = tie.close (tie.spec call-requires same-length returns)
