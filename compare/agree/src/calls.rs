@@ -105,22 +105,12 @@ fn tidy(table: &[u8]) -> Vec<u8> {
     table
 }
 
-/// One call on a table made at will, with each kind of letter, and on one with something wrong with it.
+/// Each call on a table made at will, and on one with something wrong with it.
 pub fn single(judge: &mut Judge, rng: &mut Rng) {
-    let good = table(rng);
+    let (good, bad) = (table(rng), bad_table(rng));
     let number = number(rng, 70);
-    judge.call(&good, letter(rng), number);
-    let bad = bad_table(rng);
-    judge.call(&bad, letter(rng), number);
-    let either = if rng.once_in(2) { good } else { bad };
-    judge.call(&either, odd_letter(rng), number);
-}
-
-fn odd_letter(rng: &mut Rng) -> u8 {
-    loop {
-        let letter = rng.byte();
-        if !LETTERS.contains(&letter) {
-            return letter;
-        }
+    for &letter in LETTERS {
+        judge.call(&good, letter, number);
+        judge.call(&bad, letter, number);
     }
 }

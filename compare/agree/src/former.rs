@@ -23,7 +23,9 @@ impl Digest {
 
     /// The length of a message, and the words of the first, the last and some rank.
     fn add_strips(&mut self, rng: &mut Rng, f: &Figures) {
-        self.add(&(PROVED.message_len)(numbers(f)).to_be_bytes());
+        let mut figures = [0; 4];
+        (PROVED.figures)(numbers(f), &mut figures);
+        self.add(&(figures[2] as u32).to_be_bytes());
         for rank in [0, f.t - 1, rng.below(f.t)] {
             let starts = start_bytes(&unrank(f, rank)[..f.m]);
             let message: Vec<u8> = (0..f.k).map(|_| rng.below(f.q as u64) as u8).collect();

@@ -142,7 +142,9 @@ fn moves_alone(judge: &mut Judge, f: Ranked) {
 }
 
 fn figures_alone(judge: &mut Judge, f: Numbers, depth: u32) {
-    judge.lengths(f);
+    for room in [4, 0, 3, 5] {
+        judge.figures(f, room);
+    }
     judge.decode(f, &[], 0, 0);
     judge.encode(f, &[], &[], 0);
     judge.verify(f, &[], &[], &[]);

@@ -1,7 +1,5 @@
 //! The judge: makes each call on both sides, compares answers and every byte of the buffers, and counts.
 
-use second::Figures;
-
 use crate::kinds::Kind;
 use crate::lent::{Item, Lent};
 use crate::sides::{Numbers, Side, PROVED, SECOND};
@@ -95,19 +93,16 @@ impl Judge {
         }
     }
 
-    /// Both lengths that figures give.
-    pub fn lengths(&mut self, numbers: Numbers) {
-        let of = |side: &Side| ((side.message_len)(numbers), (side.payload_len)(numbers));
-        let (ours, theirs) = (of(&PROVED), of(&SECOND));
-        let inputs = || format!("figures {numbers:?}");
-        self.expect(
-            Op::Figures,
-            ours == theirs,
+    /// T, r, k and K come as `also`.
+    pub fn figures(&mut self, f: Numbers, room: usize) -> Answer<u64> {
+        let inputs = || format!("figures {f:?} room {room}");
+        self.both(
+            Op::Figures.under(f),
+            Lent::new(0),
+            Lent::new(room),
             &inputs,
-            &format!("{ours:?} and {theirs:?}"),
-        );
-        let number = Figures::try_from(numbers).err().unwrap_or(0);
-        self.count(Op::Figures.under(numbers), number, &inputs);
+            &|side, _, figures| (side.figures)(f, figures),
+        )
     }
 
     pub fn encode(&mut self, f: Numbers, starts: &[u8], message: &[u8], word: usize) -> Answer {
@@ -202,7 +197,7 @@ impl Judge {
             Lent::holding(table),
             Lent::new(0),
             &inputs,
-            &|side, out, _| (side.call)(out, letter, number),
+            &|side, out, _| side.call(letter)(out, number),
         )
     }
 

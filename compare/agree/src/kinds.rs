@@ -21,7 +21,6 @@ pub enum Op {
     Reinstate,
     Hold,
     Release,
-    OtherLetter,
     JobWrite,
     JobRead,
     Transpose,
@@ -42,7 +41,7 @@ impl Op {
             b'I' => Op::Reinstate,
             b'H' => Op::Hold,
             b'U' => Op::Release,
-            _ => Op::OtherLetter,
+            _ => panic!("no call has the letter {letter}"),
         }
     }
 
@@ -63,8 +62,8 @@ pub const CODES: [Code; 3] = [Code::ConstructionA, Code::ConstructionB, Code::La
 const ONCE: [Code; 1] = [Code::ConstructionA];
 
 /// Each call, its name, the codes that it is counted by, and the answers that it can give under a construction's figures.
-const OPS: [(Op, &str, &[Code], &[u8]); 22] = [
-    (Op::Figures, "figures", &CODES, &[0, 1, 2]),
+const OPS: [(Op, &str, &[Code], &[u8]); 21] = [
+    (Op::Figures, "figures", &CODES, &[0, 1, 2, 3]),
     (Op::Encode, "word write", &CODES, &[0, 1, 2, 3, 4, 5]),
     (
         Op::Decode,
@@ -87,7 +86,6 @@ const OPS: [(Op, &str, &[Code], &[u8]); 22] = [
     (Op::Reinstate, "reinstate", &ONCE, &[0, 1, 3, 20]),
     (Op::Hold, "hold", &ONCE, &[0, 1, 3, 12, 14, 23]),
     (Op::Release, "release", &ONCE, &[0, 1, 3, 12, 24]),
-    (Op::OtherLetter, "other letter", &ONCE, &[3, 11]),
     (
         Op::JobWrite,
         "job write",

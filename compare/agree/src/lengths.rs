@@ -63,7 +63,7 @@ fn job_calls(side: &Side, f: Numbers, with: &mut dyn FnMut(usize, Call) -> u8) -
     let mut table = [0; TABLE];
     (table[0], table[4], payload[3]) = (1, 1, 1);
     [
-        with(TABLE, &mut |long| (side.call)(long, b'O', 2)),
+        with(TABLE, &mut |long| (side.open)(long, 2)),
         with(TABLE, &mut |long| {
             (side.job_write)(f, long, &starts, &payload, &mut word)
         }),
@@ -161,7 +161,15 @@ pub fn run(judge: &mut Judge) {
         }
     }
     drop(long);
-    // Of doubles, as many bytes too many.
+    // Of numbers and doubles, as many bytes too many.
+    let mut long = vec![0; (1 << 29) + TABLE];
+    for extra in [1 << 5, 1 << 8, 1 << 13, 1 << 16, 1 << 29] {
+        for side in [PROVED, SECOND] {
+            let of = |code| (side.figures)(Numbers::of(code, EXAMPLE), &mut long[..4 + extra]);
+            all_three(judge, &side, extra, &CODES.map(of));
+        }
+    }
+    drop(long);
     let mut long = vec![0.0; (1 << 29) + TABLE];
     for extra in [1 << 5, 1 << 8, 1 << 13, 1 << 16, 1 << 29] {
         for side in [PROVED, SECOND] {

@@ -29,6 +29,20 @@ impl Item for u8 {
     }
 }
 
+impl Item for u64 {
+    fn filler(i: usize) -> u64 {
+        i as u64 * 0x9E37_79B9_7F4A_7C15 + 0xA5
+    }
+
+    fn same(these: &[u64], those: &[u64]) -> bool {
+        these == those
+    }
+
+    fn shown(items: &[u64]) -> String {
+        format!("{items:?}")
+    }
+}
+
 impl Item for f64 {
     fn filler(i: usize) -> f64 {
         i as f64 * 37.0 + 0.3

@@ -63,6 +63,8 @@ impl TryFrom<Numbers> for Figures {
     }
 }
 
+/// A call on a number of a table.
+pub type TableCall = fn(&mut [u8], u32) -> u8;
 type Lanes = fn(Numbers, u32, &[u8], &mut [u8]) -> u8;
 /// A move of a job to the other code: figures, table, strip and moved strip.
 pub type Move = fn(Ranked, &[u8], &[u8], &mut [u8]) -> u8;
@@ -72,15 +74,19 @@ type PrescriptionWrite = fn(Numbers, &[u8], &[u8], u32, PrescriptionNumbers, &mu
 
 pub struct Side {
     pub name: &'static str,
-    pub message_len: fn(Numbers) -> u32,
-    pub payload_len: fn(Numbers) -> u32,
+    pub figures: fn(Numbers, &mut [u64]) -> u8,
     pub encode: fn(Numbers, &[u8], &[u8], &mut [u8]) -> u8,
     pub decode: fn(Numbers, &[u8], &mut [u8], &mut [u8]) -> u8,
     pub verify: fn(Numbers, &[u8], &[u8], &[u8]) -> u8,
     pub cover: fn(Numbers, &[u8], &mut [u8]) -> u8,
     pub interleave: Lanes,
     pub deinterleave: Lanes,
-    pub call: fn(&mut [u8], u8, u32) -> u8,
+    pub open: TableCall,
+    pub cancel: TableCall,
+    pub finish: TableCall,
+    pub reinstate: TableCall,
+    pub hold: TableCall,
+    pub release: TableCall,
     pub job_write: JobWrite,
     pub job_read: fn(Numbers, &[u8], &[u8], &mut [u8]) -> u8,
     pub move_to_a: Move,
@@ -91,17 +97,36 @@ pub struct Side {
     pub prescription_read: PrescriptionRead,
 }
 
+impl Side {
+    /// The call of a letter: O, C and F of records, and I, H and U for those that have none.
+    pub fn call(&self, letter: u8) -> TableCall {
+        match letter {
+            b'O' => self.open,
+            b'C' => self.cancel,
+            b'F' => self.finish,
+            b'I' => self.reinstate,
+            b'H' => self.hold,
+            b'U' => self.release,
+            _ => panic!("no call has the letter {letter}"),
+        }
+    }
+}
+
 pub const PROVED: Side = Side {
     name: "library",
-    message_len: burgzemi::raw::message_len,
-    payload_len: burgzemi::raw::payload_len,
+    figures: burgzemi::raw::figures,
     encode: burgzemi::raw::encode,
     decode: burgzemi::raw::decode,
     verify: burgzemi::raw::verify,
     cover: burgzemi::raw::cover,
     interleave: burgzemi::raw::interleave,
     deinterleave: burgzemi::raw::deinterleave,
-    call: burgzemi::raw::call,
+    open: burgzemi::raw::open,
+    cancel: burgzemi::raw::cancel,
+    finish: burgzemi::raw::finish,
+    reinstate: burgzemi::raw::reinstate,
+    hold: burgzemi::raw::hold,
+    release: burgzemi::raw::release,
     job_write: burgzemi::raw::job_write,
     job_read: burgzemi::raw::job_read,
     move_to_a: burgzemi::raw::move_to_a,
@@ -114,15 +139,19 @@ pub const PROVED: Side = Side {
 
 pub const SECOND: Side = Side {
     name: "second",
-    message_len: second::raw::message_len,
-    payload_len: second::raw::payload_len,
+    figures: second::raw::figures,
     encode: second::raw::encode,
     decode: second::raw::decode,
     verify: second::raw::verify,
     cover: second::raw::cover,
     interleave: second::raw::interleave,
     deinterleave: second::raw::deinterleave,
-    call: second::raw::call,
+    open: second::raw::open,
+    cancel: second::raw::cancel,
+    finish: second::raw::finish,
+    reinstate: second::raw::reinstate,
+    hold: second::raw::hold,
+    release: second::raw::release,
     job_write: second::raw::job_write,
     job_read: second::raw::job_read,
     move_to_a: second::raw::move_to_a,

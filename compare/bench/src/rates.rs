@@ -1,15 +1,15 @@
 //! The rates of the codes: how much of a word is message, by the library's own lengths.
 
 use agree::sides::{Numbers, PROVED};
-use burgzemi::raw::NO_LENGTH;
 
 const ALPHABETS: [u32; 2] = [2, 256];
 
 /// k / n, or a dash for figures that don't fit.
 fn rate(n: u32, numbers: Numbers) -> String {
-    match (PROVED.message_len)(numbers) {
-        NO_LENGTH => "-".to_string(),
-        k => format!("{:.4}", k as f64 / n as f64),
+    let mut figures = [0; 4];
+    match (PROVED.figures)(numbers, &mut figures) {
+        0 => format!("{:.4}", figures[2] as f64 / n as f64),
+        _ => "-".to_string(),
     }
 }
 

@@ -16,7 +16,6 @@ pub use prescription::{
 
 pub const SLOT: usize = 5;
 pub const TABLE: usize = PLACES * SLOT;
-pub const NO_LENGTH: u32 = u32::MAX;
 /// What `verify` answers for a word that doesn't agree.
 pub const DIFFERS: u8 = 255;
 
@@ -108,14 +107,17 @@ fn put_book(book: &Book, table: &mut [u8]) {
     }
 }
 
-pub fn message_len(numbers: impl Numbers) -> u32 {
-    numbers.try_into().map_or(NO_LENGTH, |f| f.k as u32)
-}
-
-pub fn payload_len(numbers: impl Numbers) -> u32 {
-    numbers
-        .try_into()
-        .map_or(NO_LENGTH, |f| job::payload_len(&f) as u32)
+/// T, r (the Larsson code's R), k and K. Refusals 1 2, and 3 for another room than for four.
+pub fn figures(numbers: impl Numbers, room: &mut [u64]) -> u8 {
+    let f = match numbers.try_into() {
+        Ok(f) => f,
+        Err(refusal) => return refusal,
+    };
+    let Ok(room) = <&mut [u64; 4]>::try_from(room) else {
+        return 3;
+    };
+    *room = [f.t, f.r as u64, f.k as u64, job::payload_len(&f) as u64];
+    0
 }
 
 pub fn encode(numbers: impl Numbers, starts: &[u8], message: &[u8], word: &mut [u8]) -> u8 {
@@ -191,30 +193,42 @@ pub fn deinterleave(numbers: impl Numbers, depth: u32, strip: &[u8], words: &mut
     }
 }
 
-/// Opens (O), cancels (C), finishes (F), reinstates (I), holds (H) or releases (U) a number. Refusals 3, 11 for another letter,
-/// 1, then the call's own.
-pub fn call(table: &mut [u8], letter: u8, number: u32) -> u8 {
-    let Some(judged) = book_of(table) else {
-        return 3;
-    };
-    let act = match letter {
-        b'O' => Book::open,
-        b'C' => Book::cancel,
-        b'F' => Book::finish,
-        b'I' => Book::reinstate,
-        b'H' => Book::hold,
-        b'U' => Book::release,
-        _ => return 11,
-    };
-    let mut book = match judged {
-        Ok(book) => book,
-        Err(refusal) => return refusal,
+/// A call on a number of a table. Refusals 3, 1, then the call's own.
+fn call(table: &mut [u8], number: u32, act: fn(&mut Book, u32) -> u8) -> u8 {
+    let mut book = match book_of(table) {
+        Some(Ok(book)) => book,
+        Some(Err(refusal)) => return refusal,
+        None => return 3,
     };
     let answer = act(&mut book, number);
     if answer == 0 {
         put_book(&book, table);
     }
     answer
+}
+
+pub fn open(table: &mut [u8], number: u32) -> u8 {
+    call(table, number, Book::open)
+}
+
+pub fn cancel(table: &mut [u8], number: u32) -> u8 {
+    call(table, number, Book::cancel)
+}
+
+pub fn finish(table: &mut [u8], number: u32) -> u8 {
+    call(table, number, Book::finish)
+}
+
+pub fn reinstate(table: &mut [u8], number: u32) -> u8 {
+    call(table, number, Book::reinstate)
+}
+
+pub fn hold(table: &mut [u8], number: u32) -> u8 {
+    call(table, number, Book::hold)
+}
+
+pub fn release(table: &mut [u8], number: u32) -> u8 {
+    call(table, number, Book::release)
 }
 
 /// What each job call begins with: refusal 1 for the table, 1 and 2 for the figures, 10 where they have no room for a job, and 3 for the table's length.

@@ -119,6 +119,7 @@ pub const MAX_DEPTH: u32 = 16;
 pub struct Figures<N = Ranked> {
     numbers: N,
     message_len: usize,
+    payload_len: usize,
 }
 
 /// The numbers that figures of one code are.
@@ -151,14 +152,13 @@ impl Figures<Larsson> {
 
 impl<N: Code> Figures<N> {
     fn judged(numbers: N) -> Result<Figures<N>, Refusal> {
-        let k = raw::message_len(numbers);
-        if k == raw::NO_LENGTH {
-            // The reader looks at the figures first, so it tells which refusal it is.
-            Refusal::of(raw::decode(numbers, &[], &mut [], &mut []))?;
-        }
+        let mut given = [0; 4];
+        Refusal::of(raw::figures(numbers, &mut given))?;
+        let [_, _, message_len, payload_len] = given.map(|figure| figure as usize);
         Ok(Figures {
             numbers,
-            message_len: k as usize,
+            message_len,
+            payload_len,
         })
     }
 
@@ -186,7 +186,7 @@ impl<N: Code> Figures<N> {
 
     /// K, how many bytes a job's number and text have.
     pub fn payload_len(&self) -> usize {
-        raw::payload_len(self.numbers) as usize
+        self.payload_len
     }
 }
 

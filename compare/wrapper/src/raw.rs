@@ -43,9 +43,6 @@ pub type EyeNumbers = (u8, f64, f64, u8);
 /// Right eye, left eye, and the pupil distance in millimetres.
 pub type PrescriptionNumbers = (EyeNumbers, EyeNumbers, f64);
 
-/// What `message_len` and `payload_len` answer for figures that are refused.
-pub const NO_LENGTH: u32 = u32::MAX;
-
 /// What `verify` answers for a word that doesn't agree.
 pub const DIFFERS: u8 = 255;
 
@@ -72,8 +69,9 @@ mod c {
     }
 
     of_each! {
-        message_len: burgzemi_message_len, burgzemi_long_message_len, burgzemi_larsson_message_len() -> u32;
-        payload_len: burgzemi_payload_len, burgzemi_long_payload_len, burgzemi_larsson_payload_len() -> u32;
+        figures: burgzemi_figures, burgzemi_long_figures, burgzemi_larsson_figures(
+            figures: *mut u64, figures_len: usize
+        ) -> u8;
         encode: burgzemi_encode, burgzemi_long_encode, burgzemi_larsson_encode(
             starts: *const u8, starts_len: usize,
             message: *const u8, message_len: usize,
@@ -130,7 +128,12 @@ mod c {
     }
 
     extern "C" {
-        pub fn burgzemi_call(table: *mut u8, table_len: usize, letter: u8, number: u32) -> u8;
+        pub fn burgzemi_open(table: *mut u8, table_len: usize, number: u32) -> u8;
+        pub fn burgzemi_cancel(table: *mut u8, table_len: usize, number: u32) -> u8;
+        pub fn burgzemi_finish(table: *mut u8, table_len: usize, number: u32) -> u8;
+        pub fn burgzemi_reinstate(table: *mut u8, table_len: usize, number: u32) -> u8;
+        pub fn burgzemi_hold(table: *mut u8, table_len: usize, number: u32) -> u8;
+        pub fn burgzemi_release(table: *mut u8, table_len: usize, number: u32) -> u8;
         pub fn burgzemi_move_to_a(
             n: u32, q: u32, m: u32, b: u32,
             table: *const u8, table_len: usize,
@@ -155,16 +158,10 @@ mod c {
     }
 }
 
-/// k, or `NO_LENGTH` where the figures are refused.
-pub fn message_len(f: impl Into<Numbers>) -> u32 {
-    // SAFETY: takes and returns numbers only, and touches no memory.
-    unsafe { c::message_len(f.into()) }
-}
-
-/// K, or `NO_LENGTH` where the figures are refused.
-pub fn payload_len(f: impl Into<Numbers>) -> u32 {
-    // SAFETY: takes and returns numbers only, and touches no memory.
-    unsafe { c::payload_len(f.into()) }
+/// T, r (the Larsson code's R), k and K, four numbers.
+pub fn figures(f: impl Into<Numbers>, figures: &mut [u64]) -> u8 {
+    // SAFETY: the pointer is the slice's own, never null, with its length, and lent alone.
+    unsafe { c::figures(f.into(), figures.as_mut_ptr(), figures.len()) }
 }
 
 /// Writes a word.
@@ -216,10 +213,30 @@ pub fn deinterleave(f: impl Into<Numbers>, depth: u32, strip: &[u8], words: &mut
     unsafe { c::deinterleave(f.into(), depth, from, len, to, room) }
 }
 
-/// Opens (O), cancels (C), finishes (F), reinstates (I), holds (H) or releases (U) a number in a table.
-pub fn call(table: &mut [u8], letter: u8, number: u32) -> u8 {
-    // SAFETY: the pointer is the slice's own, never null, with its length, and lent alone.
-    unsafe { c::burgzemi_call(table.as_mut_ptr(), table.len(), letter, number) }
+/// The calls on a number in a table.
+macro_rules! table_calls {
+    ($($(#[$doc:meta])* $name:ident: $call:ident;)*) => {
+        $($(#[$doc])*
+        pub fn $name(table: &mut [u8], number: u32) -> u8 {
+            // SAFETY: the pointer is the slice's own, never null, with its length, and lent alone.
+            unsafe { c::$call(table.as_mut_ptr(), table.len(), number) }
+        })*
+    };
+}
+
+table_calls! {
+    /// Opens a number in a table.
+    open: burgzemi_open;
+    /// Cancels a number.
+    cancel: burgzemi_cancel;
+    /// Finishes an open number.
+    finish: burgzemi_finish;
+    /// Takes a cancellation back.
+    reinstate: burgzemi_reinstate;
+    /// Puts an open number on hold.
+    hold: burgzemi_hold;
+    /// Makes a number on hold open again.
+    release: burgzemi_release;
 }
 
 /// Writes the word of an open job.

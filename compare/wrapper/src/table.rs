@@ -31,31 +31,31 @@ impl Table {
 
     /// Number 0 is no job, and always refused.
     pub fn open(&mut self, number: u32) -> Result<(), Refusal> {
-        Refusal::of(raw::call(&mut self.bytes, b'O', number))
+        Refusal::of(raw::open(&mut self.bytes, number))
     }
 
     /// A 0 is refused unless the table holds it.
     pub fn cancel(&mut self, number: u32) -> Result<(), Refusal> {
-        Refusal::of(raw::call(&mut self.bytes, b'C', number))
+        Refusal::of(raw::cancel(&mut self.bytes, number))
     }
 
     pub fn finish(&mut self, number: u32) -> Result<(), Refusal> {
-        Refusal::of(raw::call(&mut self.bytes, b'F', number))
+        Refusal::of(raw::finish(&mut self.bytes, number))
     }
 
     /// Takes a cancellation back: the number is open or on hold again, or absent where it was. A cancelled 0 too.
     pub fn reinstate(&mut self, number: u32) -> Result<(), Refusal> {
-        Refusal::of(raw::call(&mut self.bytes, b'I', number))
+        Refusal::of(raw::reinstate(&mut self.bytes, number))
     }
 
     /// Puts an open number on hold: until it is released, it is neither read, written nor finished. An open 0 too.
     pub fn hold(&mut self, number: u32) -> Result<(), Refusal> {
-        Refusal::of(raw::call(&mut self.bytes, b'H', number))
+        Refusal::of(raw::hold(&mut self.bytes, number))
     }
 
     /// Makes a number on hold open again.
     pub fn release(&mut self, number: u32) -> Result<(), Refusal> {
-        Refusal::of(raw::call(&mut self.bytes, b'U', number))
+        Refusal::of(raw::release(&mut self.bytes, number))
     }
 }
 
