@@ -2,15 +2,16 @@
 use mathlib.Core.Path.{_≡_, refl, sym, ap, subst, _∙_}
 use mathlib.Core.Logic.{_≢_}
 use mathlib.Core.Bool.{Bool, true, false, not, cond, true≢false, false≢true}
-use mathlib.Core.List.{List, [], _∷_}
+use mathlib.Core.List.{List, [], _∷_, _++_}
 use mathlib.Core.Option.{Option, none, some}
-use Prim.Native.Nat.{ℕ, _+_, _<_}
+use Prim.Native.Nat.{ℕ, _+_, _≤_, _<_}
 use native.Mathlib.Omega.{arith}
 use borrow.Author.Tests.{not-true}
 use lib.Dec.{eqb, ltb}
-use lib.ListN.{length, drop, replicate}
+use lib.ListN.{length, drop, replicate, length-append, List·getD-append}
+use lib.Seq.{take-append-seam, drop-append-seam}
 use Rattle.refusals.specs.Refusals.{must, served, invalid, unfit}
-use Rattle.combinatorics.proofs.Cases.{by-bool, eqb-true, eqb-same}
+use Rattle.combinatorics.proofs.Cases.{by-bool, eqb-true, eqb-same, eqb-other}
 use Rattle.combinatorics.proofs.Lists.{both}
 use Rattle.cells.specs.Outcomes.{FiguresOut, figured, unserved, figuresNumber, figuresUnder}
 use Rattle.codes.specs.declared.Figures.{Figures}
@@ -33,10 +34,13 @@ use Rattle.exports.proofs.Follows.{bytes-left, bytes-follow}
 use Rattle.lent.proofs.JobLaws.{read-whole}
 use Rattle.records.specs.Session.{Session, atStart, maxRecords, nextSession}
 use Rattle.lines.specs.Lines.{refusalLine, letterS, letterL, letterW, letterR}
-use Rattle.records.specs.Records.{recordHeadLen, isMarked, isEmpty, letterOf, current, payloadLenOf, recordLen, readable, figuresIn, longFiguresIn}
+use Rattle.records.specs.Records.{recordHeadLen, isMarked, isEmpty, isWhole, letterOf, current, payloadLenOf, recordLen, readable, reach, figuresIn}
+use Rattle.records.specs.Records.{longFiguresIn}
+use Rattle.records.proofs.Readable.{readable-whole, whole-long}
 use Rattle.transfer.specs.Steps.{Step, stopped, ended, figuresStep, readStep, writeOut, readOut, serveOut, stepOut}
 use Rattle.transfer.proofs.Kept.{Accepted, start-accepted, step-accepted}
-use Rattle.transfer.proofs.Program.{step-counts}
+use Rattle.transfer.specs.Program.{nextRecord, behind}
+use Rattle.transfer.proofs.Program.{step-counts, printedOn, printed-goes}
 use Rattle.transfer.proofs.Serving.{step-unreadable, step-serves, serve-S, serve-L, serve-R}
 use Rattle.demands.specs.DemandThree.{BytesClaimed, sessionAfter, allServed, isAccepted, figuresCarried, figuresAfter, callsIn, callLines, answerLines}
 use Rattle.demands.specs.DemandThree.{SessionClaim, ReadAfter, SessionClaimed}
@@ -52,17 +56,17 @@ bytes-claimed f bytes es before b s calls w out h =
 
 -- ---- The transfer program: what a record that is served makes of the session
 
--- a step that goes on served its record
-served-is : (s : Session) (r : List ℕ) → stepOut s r .stops ≡ false → stepOut s r ≡ serveOut s (letterOf r) r
+-- a step that goes on could read its record, and served it
+served-is : (s : Session) (r : List ℕ) → stepOut s r .stops ≡ false → (readable s r ≡ true) × (stepOut s r ≡ serveOut s (letterOf r) r)
 unfolding stepOut
 served-is s r = go (isEmpty r) (ltb (s .count) maxRecords) (readable s r) (serveOut s (letterOf r) r)
   where
     go : (a b c : Bool) (o : Step) → cond a (ended s) (must b (stopped s) (must c (stopped s) o)) .stops ≡ false
-        → cond a (ended s) (must b (stopped s) (must c (stopped s) o)) ≡ o
+        → (c ≡ true) × (cond a (ended s) (must b (stopped s) (must c (stopped s) o)) ≡ o)
     go true b c o h = absurd (true≢false h)
     go false false c o h = absurd (true≢false h)
     go false true false o h = absurd (true≢false h)
-    go false true true o h = refl
+    go false true true o h = (refl, refl)
 
 -- the call of a letter, and those behind it; another letter leaves the table
 module _ (es : List Entry) (n : ℕ) where
@@ -142,7 +146,7 @@ module _ (s : Session) (r : List ℕ) where
       (λ e. rw (short, long, e) (rest-makes e (rw (short, long)) (eqb l letterW) (eqb l letterR) (current (s .figures))))))
 
   served-makes : stepOut s r .stops ≡ false → Makes (stepOut s r)
-  served-makes h = rw (served-is s r h) serve-makes
+  served-makes h = rw (served-is s r h .1) serve-makes
 
 -- ---- Any records that are served
 
@@ -245,3 +249,34 @@ pub session-claimed : SessionClaimed
 session-claimed before reading h few marked is-R =
     let m = made before reading h few in
     read-after before reading h few marked is-R (figuresAfter none before) (m .accepted start-accepted ∙ m .figures)
+
+-- ---- The bytes of a record that is served, and any behind them: it is cut off as it is, and its line is printed first
+
+module _ (s : Session) (r rest : List ℕ) (goes : stepOut s r .stops ≡ false) where
+  whole-record : isWhole r (recordLen s (letterOf r)) ≡ true
+  whole-record = readable-whole s r (served-is s r goes .0)
+
+  long : recordHeadLen ≤ length r
+  long = whole-long s (letterOf r) r whole-record
+
+  same-letter : letterOf (r ++ rest) ≡ letterOf r
+  same-letter = List·getD-append r rest 0 2 (omega (arith, long))
+
+  reaches-end : reach (recordLen s (letterOf (r ++ rest))) ≡ length r
+  reaches-end = rw same-letter (go (recordLen s (letterOf r)) whole-record)
+    where
+      go : (k : Option ℕ) → isWhole r k ≡ true → reach k ≡ length r
+      go none h = absurd (false≢true h)
+      go (some k) h = sym (eqb-true (length r) k h)
+
+  is-next : nextRecord s (r ++ rest) ≡ r
+  is-next = rw reaches-end (take-append-seam r rest)
+
+  is-behind : behind s (r ++ rest) ≡ rest
+  is-behind = rw reaches-end (drop-append-seam r rest)
+
+  pub record-prints : (last : List ℕ) → printedOn last s (r ++ rest) ≡ stepOut s r .line ++ printedOn last (stepOut s r .next) rest
+  record-prints last =
+      printed-goes last s (r ++ rest) (eqb-other (length (r ++ rest)) 0 (λ z. omega (arith, z, long, length-append r rest)))
+      (omega (arith, step-counts s r goes .0)) (rw is-next goes)
+      ∙ rw (is-next, is-behind)
