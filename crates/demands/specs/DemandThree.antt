@@ -1,9 +1,10 @@
 -- Demand 3 in the terms of those who call: a program in C, and whoever sends records to the transfer program. The claim is that of
 -- jobcodec/specs/DemandThree. The proofs are `bytes-claimed` and `session-claimed` of proofs/DemandThree.antt. Assumes nothing.
 use mathlib.Core.Path.{_≡_}
-use mathlib.Core.Bool.{Bool, true, cond, _&&_, _||_}
+use mathlib.Core.Bool.{Bool, true, not, cond, _&&_, _||_}
 use mathlib.Core.List.{List, [], _∷_}
-use Prim.Native.Nat.{ℕ, _+_, _≤_}
+use mathlib.Core.Option.{Option, none, some}
+use Prim.Native.Nat.{ℕ, _+_, _<_}
 use lib.Dec.{eqb}
 use lib.ListN.{length, drop, replicate}
 use Rattle.refusals.specs.Refusals.{served}
@@ -24,7 +25,7 @@ use Rattle.lent.specs.Jobs.{jobReadBytesUnder}
 use Rattle.lent.specs.Table.{TableOf}
 use Rattle.lines.specs.Lines.{refusalLine, letterS, letterL, letterR}
 use Rattle.records.specs.Records.{recordHeadLen, isMarked, letterOf, payloadLenOf, figuresIn, longFiguresIn}
-use Rattle.transfer.specs.Steps.{readStep, stepOut}
+use Rattle.transfer.specs.Steps.{stopped, readStep, stepOut}
 use Rattle.records.specs.Session.{Session, atStart, maxRecords}
 
 -- ---- A program in C
@@ -38,59 +39,62 @@ BytesClaimed =
     → (calls : List Call) (w out : List ℕ) → all has32Bits calls ≡ true
     → Claim (codingOf f) before calls w out (answersOn bytes calls) (jobReadBytesUnder (codingOf f) (bytesAfter bytes calls) w out)
 
--- ---- A session of the transfer program: an S or L, any calls, then an R. "The book starts empty"
+-- ---- The transfer program: any records that it serves, and an R behind them. "The book starts empty"
 
--- the steps of records, one after the other: the session after them, and the lines
+-- the session after records, and whether each was served: none "prints "stop 11" and ends"
 unfoldable pub sessionAfter : Session → List (List ℕ) → Session
 sessionAfter s [] = s
 sessionAfter s (r ∷ rs) = sessionAfter (stepOut s r .next) rs
 
-unfoldable pub linesOf : Session → List (List ℕ) → List (List ℕ)
-linesOf s [] = []
-linesOf s (r ∷ rs) = stepOut s r .line ∷ linesOf (stepOut s r .next) rs
+unfoldable pub allServed : Session → List (List ℕ) → Bool
+allServed s [] = true
+allServed s (r ∷ rs) = not (stepOut s r .stops) && allServed (stepOut s r .next) rs
 
--- a record with this letter and so many bytes
-abbrev pub isRecord : ℕ → ℕ → List ℕ → Bool
-isRecord letter len r = isMarked r && eqb (letterOf r) letter && eqb (length r) len
-
--- "O (open), C (cancel), F (finish) a job number (4)"
-abbrev pub isCall : List ℕ → Bool
-isCall r = isMarked r && isLetter (letterOf r) && eqb (length r) (recordHeadLen + 4)
-
--- "S (figures) n (2 bytes), q−1 (1), m (1), b (2)"; document 02, ticket 1: "letter L carries n (2 bytes), q−1 (1) and b (2)"
+-- "S (figures)"; document 02, ticket 1: "A transfer record with letter L carries n (2 bytes), q−1 (1) and b (2)"
 abbrev pub carriesFigures : List ℕ → Bool
-carriesFigures r = isRecord letterS (recordHeadLen + 6) r || isRecord letterL (recordHeadLen + 5) r
+carriesFigures r = eqb (letterOf r) letterS || eqb (letterOf r) letterL
 
 abbrev pub figuresCarried : List ℕ → Figures
 figuresCarried r = cond (eqb (letterOf r) letterS) (figuresIn r) (longFiguresIn r)
 
--- the calls that they are
+-- "an accepted S"; "an accepted L serves a W or R as an accepted S does"
+abbrev pub isAccepted : List ℕ → Bool
+isAccepted r = carriesFigures r && eqb (figuresNumber (figuresUnder (codingOf (figuresCarried r)))) served
+
+-- the figures in force after records. "A refused S keeps the former figures."; "until the next accepted S or L"
+unfoldable pub figuresAfter : Option Figures → List (List ℕ) → Option Figures
+figuresAfter former [] = former
+figuresAfter former (r ∷ rs) = figuresAfter (cond (isAccepted r) (some (figuresCarried r)) former) rs
+
+-- "O (open), C (cancel), F (finish) a job number (4)": all of them, whatever stands between
 unfoldable pub callsIn : List (List ℕ) → List Call
 callsIn [] = []
 callsIn (r ∷ rs) = callBefore (kindOf (letterOf r)) (jobNumber (drop recordHeadLen r)) (callsIn rs)
 
-pub record IsSession (figures : List ℕ) (calls : List (List ℕ)) (reading : List ℕ) : Type 0 where
-  pub carries : carriesFigures figures ≡ true
-  -- "an accepted S"; "an accepted L serves a W or R as an accepted S does"
-  pub accepted : figuresNumber (figuresUnder (codingOf (figuresCarried figures))) ≡ served
-  pub are-calls : all isCall calls ≡ true
-  pub is-R : isRecord letterR (recordHeadLen + codingOf (figuresCarried figures) .codec .wordLen) reading ≡ true
-  -- not "any record after the 4294967295th"
-  pub few : length calls + 2 ≤ maxRecords
+-- "It prints one line a record .. the letter, 0 or the refusal": the lines of the calls among records, and the lines that answers to them have
+unfoldable pub callLines : Session → List (List ℕ) → List (List ℕ)
+callLines s [] = []
+callLines s (r ∷ rs) = let lines = callLines (stepOut s r .next) rs in cond (isLetter (letterOf r)) (stepOut s r .line ∷ lines) lines
 
--- "It prints one line a record .. the letter, 0 or the refusal"
 unfoldable pub answerLines : List (List ℕ) → List ℕ → List (List ℕ)
 answerLines [] answers = []
 answerLines (r ∷ rs) [] = []
-answerLines (r ∷ rs) (a ∷ answers) = refusalLine (letterOf r) a ∷ answerLines rs answers
+answerLines (r ∷ rs) (a ∷ answers) = cond (isLetter (letterOf r)) (refusalLine (letterOf r) a ∷ answerLines rs answers) (answerLines rs (a ∷ answers))
 
 -- what is printed are the lines of answers and of a job reading that the claim is true of; the payload's buffer is the program's own and holds 0
-pub record SessionClaim (figures : List ℕ) (calls : List (List ℕ)) (reading answers : List ℕ) (r : JobRead) : Type 0 where
-  pub claim : let f = figuresCarried figures in Claim (codingOf f) [] (callsIn calls) (drop recordHeadLen reading) (replicate (payloadLenOf f) 0) answers r
-  pub answered : linesOf (stepOut atStart figures .next) calls ≡ answerLines calls answers
-  pub printed : let s = sessionAfter (stepOut atStart figures .next) calls in stepOut s reading ≡ readStep s r
+pub record SessionClaim (before : List (List ℕ)) (f : Figures) (reading answers : List ℕ) (r : JobRead) : Type 0 where
+  pub claim : Claim (codingOf f) [] (callsIn before) (drop recordHeadLen reading) (replicate (payloadLenOf f) 0) answers r
+  pub answered : callLines atStart before ≡ answerLines before answers
+  pub printed : let s = sessionAfter atStart before in stepOut s reading ≡ readStep s r
 
+-- an R by the figures in force: "W or R before an accepted S .. prints "stop 11" and ends"; "R (read) n bytes"
+abbrev pub ReadAfter : List (List ℕ) → List ℕ → Option Figures → Type 0
+ReadAfter before reading none = let s = sessionAfter atStart before in stepOut s reading ≡ stopped s
+ReadAfter before reading (some f) =
+    length reading ≡ recordHeadLen + codingOf f .codec .wordLen → (answers : List ℕ) × (r : JobRead) × SessionClaim before f reading answers r
+
+-- every R that is not "any record after the 4294967295th": the records before it are any that the program serves
 abbrev pub SessionClaimed : Type 0
 SessionClaimed =
-    (figures : List ℕ) (calls : List (List ℕ)) (reading : List ℕ) → IsSession figures calls reading
-    → (answers : List ℕ) × (r : JobRead) × SessionClaim figures calls reading answers r
+    (before : List (List ℕ)) (reading : List ℕ) → allServed atStart before ≡ true → length before < maxRecords
+    → isMarked reading ≡ true → letterOf reading ≡ letterR → ReadAfter before reading (figuresAfter none before)
