@@ -172,12 +172,12 @@ struct figures {
 
 /* The library's calls under figures of any code: only these three know which function that is. */
 
-static uint32_t message_length(struct figures f)
+static unsigned figures_alone(struct figures f, uint64_t *numbers, size_t count)
 {
     switch (f.code) {
-    case CONSTRUCTION_B: return burgzemi_long_message_len(f.n, f.q, f.b);
-    case LARSSON: return burgzemi_larsson_message_len(f.n, f.q, f.m, f.b);
-    default: return burgzemi_message_len(f.n, f.q, f.m, f.b);
+    case CONSTRUCTION_B: return burgzemi_long_figures(f.n, f.q, f.b, numbers, count);
+    case LARSSON: return burgzemi_larsson_figures(f.n, f.q, f.m, f.b, numbers, count);
+    default: return burgzemi_figures(f.n, f.q, f.m, f.b, numbers, count);
     }
 }
 
@@ -221,11 +221,12 @@ static unsigned read_word(struct figures f, const uint8_t *word, size_t word_len
 {
     static uint8_t message[BURGZEMI_MAX_WORD], starts[2 * BURGZEMI_MAX_BURSTS];
 
-    /* Figures without a length are refused by the reader, whatever the buffers are. */
-    uint32_t k = message_length(f);
-    size_t message_len = k == BURGZEMI_NO_LENGTH ? 0 : k;
-    size_t starts_len = k == BURGZEMI_NO_LENGTH ? 0 : 2 * (size_t)f.m;
-    unsigned answer = decode(f, word, word_len, message, message_len, starts, starts_len);
+    uint64_t figures[BURGZEMI_FIGURES_LEN];
+    unsigned answer = figures_alone(f, figures, BURGZEMI_FIGURES_LEN);
+    if (answer != BURGZEMI_SERVED)
+        return answer;
+    size_t message_len = figures[BURGZEMI_K], starts_len = 2 * (size_t)f.m;
+    answer = decode(f, word, word_len, message, message_len, starts, starts_len);
     if (answer == BURGZEMI_SERVED)
         print_accepted(starts, starts_len, message, message_len);
     return answer;

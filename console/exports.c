@@ -9,18 +9,10 @@
 static int wrong;
 
 /* The answer that is wanted, and the bytes that a buffer should then hold. */
-static void see(const char *what, unsigned answer, unsigned wanted, const uint8_t *buffer, const uint8_t *expected, size_t len)
+static void see(const char *what, unsigned answer, unsigned wanted, const void *buffer, const void *expected, size_t len)
 {
     if (answer != wanted || memcmp(buffer, expected, len) != 0) {
         printf("exports: %s: answer %u, wanted %u, buffer %s\n", what, answer, wanted, memcmp(buffer, expected, len) == 0 ? "as it should be" : "other");
-        wrong = 1;
-    }
-}
-
-static void length(const char *what, uint32_t got, uint32_t wanted)
-{
-    if (got != wanted) {
-        printf("exports: %s: length %u, wanted %u\n", what, (unsigned)got, (unsigned)wanted);
         wrong = 1;
     }
 }
@@ -36,12 +28,36 @@ static const uint8_t untouched[64] = {
 /* What a strip is written in: Construction A, Construction B for one long burst, or the Larsson code of the older trays. */
 enum code { CONSTRUCTION_A, CONSTRUCTION_B, LARSSON };
 
-/* A call under `code` and the figures n, q, m and b of where it stands; one long burst has m 1. A length is asked for by LENGTH. */
+/* A call under `code` and the figures n, q, m and b of where it stands; one long burst has m 1. */
 #define ANY(call, ...) \
     (code == CONSTRUCTION_B ? burgzemi_long_##call(n, q, b, __VA_ARGS__) \
                             : (code == LARSSON ? burgzemi_larsson_##call : burgzemi_##call)(n, q, m, b, __VA_ARGS__))
-#define LENGTH(call) \
-    (code == CONSTRUCTION_B ? burgzemi_long_##call(n, q, b) : (code == LARSSON ? burgzemi_larsson_##call : burgzemi_##call)(n, q, m, b))
+
+/* ---- Figures alone: T, r, k and K, worked out by hand; four numbers, and 3 for any other count of them */
+
+static void fit(const char *what, enum code code, uint32_t n, uint32_t q, uint32_t m, uint32_t b, uint64_t t, uint64_t r, uint64_t k, uint64_t payload)
+{
+    uint64_t got[5] = {1, 2, 3, 4, 5};
+    const uint64_t lent[5] = {1, 2, 3, 4, 5}, expected[5] = {t, r, k, payload, 5};
+    see(what, ANY(figures, got, 3), BURGZEMI_LENGTH, got, lent, sizeof got);
+    see(what, ANY(figures, got, 5), BURGZEMI_LENGTH, got, lent, sizeof got);
+    see(what, ANY(figures, got, 4), BURGZEMI_SERVED, got, expected, sizeof got);
+}
+
+static void misfit(const char *what, unsigned wanted, enum code code, uint32_t n, uint32_t q, uint32_t m, uint32_t b)
+{
+    uint64_t got[4] = {1, 2, 3, 4};
+    const uint64_t lent[4] = {1, 2, 3, 4};
+    see(what, ANY(figures, got, 4), wanted, got, lent, sizeof got);
+    see(what, ANY(figures, got, 0), wanted, got, lent, sizeof got);
+}
+
+/* K, or 0 where the figures are refused. */
+static size_t payload_len(enum code code, uint32_t n, uint32_t q, uint32_t m, uint32_t b)
+{
+    uint64_t figures[BURGZEMI_FIGURES_LEN];
+    return ANY(figures, figures, BURGZEMI_FIGURES_LEN) == BURGZEMI_SERVED ? figures[BURGZEMI_PAYLOAD_LEN] : 0;
+}
 
 /* ---- Word write: n 30, q 2, m 1, b 3; start 12, message all 1 */
 
@@ -88,12 +104,18 @@ static void words(void)
     see("no message", burgzemi_encode(3, 4, 1, 1, starts, 2, message, 0, word, 3), BURGZEMI_SERVED, word, least_word, 3);
     see("q of 3", burgzemi_encode(3, 3, 1, 1, starts, 2, message, 0, word, 3), BURGZEMI_UNFIT, word, least_word, 3);
 
-    length("message", burgzemi_message_len(30, 2, 1, 3), 20);
-    length("payload of the first strip", burgzemi_payload_len(30, 2, 1, 3), 2);
-    length("payload of the transfer example", burgzemi_payload_len(15, 256, 1, 2), 11);
-    length("payload of no message", burgzemi_payload_len(3, 4, 1, 1), 0);
-    length("payload of b 6", burgzemi_payload_len(30, 2, 1, 6), BURGZEMI_NO_LENGTH);
-    length("payload of m 9", burgzemi_payload_len(30, 2, 9, 3), BURGZEMI_NO_LENGTH);
+    fit("the longest word", CONSTRUCTION_A, BURGZEMI_MAX_WORD, 256, 6, 112, 2251811127310162425, 1, 3388, 3388);
+    fit("the most bursts", CONSTRUCTION_A, 999, 256, BURGZEMI_MAX_BURSTS, 15, 9207044098280898870, 0, 823, 823);
+    misfit("n of 2", BURGZEMI_INVALID, CONSTRUCTION_A, 2, 2, 1, 3);
+    misfit("a word too long", BURGZEMI_INVALID, CONSTRUCTION_A, BURGZEMI_MAX_WORD + 1, 256, 6, 112);
+    misfit("a burst too many", BURGZEMI_INVALID, CONSTRUCTION_A, 999, 256, BURGZEMI_MAX_BURSTS + 1, 15);
+    misfit("too many placements", BURGZEMI_UNFIT, CONSTRUCTION_A, 999, 256, BURGZEMI_MAX_BURSTS, 14);
+    fit("message", CONSTRUCTION_A, 30, 2, 1, 3, 28, 5, 20, 2);
+    fit("payload of the first strip", CONSTRUCTION_A, 30, 2, 1, 3, 28, 5, 20, 2);
+    fit("payload of the transfer example", CONSTRUCTION_A, 15, 256, 1, 2, 14, 0, 11, 11);
+    fit("payload of no message", CONSTRUCTION_A, 3, 4, 1, 1, 3, 0, 0, 0);
+    misfit("payload of b 6", BURGZEMI_UNFIT, CONSTRUCTION_A, 30, 2, 1, 6);
+    misfit("payload of m 9", BURGZEMI_INVALID, CONSTRUCTION_A, 30, 2, 9, 3);
 }
 
 /* ---- The longest word and the most bursts: written, covered, damaged and read, all with q 256, where a byte takes one symbol */
@@ -115,8 +137,8 @@ static void large_strip(const char *what, enum code code, uint32_t n, uint32_t m
     static uint8_t word[BURGZEMI_MAX_WORD], damaged[BURGZEMI_MAX_WORD], message[BURGZEMI_MAX_WORD], map[BURGZEMI_MAX_WORD], got[BURGZEMI_MAX_WORD];
     uint8_t table[BURGZEMI_TABLE_LEN] = {0}, starts[2 * BURGZEMI_MAX_BURSTS + 2] = {0}, other[2 * BURGZEMI_MAX_BURSTS + 2] = {0};
     const uint32_t q = 256;
-    length(what, LENGTH(message_len), k);
-    length(what, LENGTH(payload_len), k);
+    uint64_t figures[4];
+    see(what, ANY(figures, figures, 4), BURGZEMI_SERVED, &figures[2], &(uint64_t[2]){k, k}, 2 * sizeof *figures);
     for (uint32_t i = 0; i < k; i++)
         message[i] = (uint8_t)(i * 7 + 1);
     last_bursts(n, m, b, starts, map);
@@ -135,7 +157,7 @@ static void large_strip(const char *what, enum code code, uint32_t n, uint32_t m
     see(what, ANY(verify, starts, 2 * m, message, k, damaged, n), BURGZEMI_SERVED, got, message, k);
 
     /* The job whose number the message begins with. */
-    see(what, burgzemi_call(table, sizeof table, 'O', 0x01080F16), BURGZEMI_SERVED, got, message, k);
+    see(what, burgzemi_open(table, sizeof table, 0x01080F16), BURGZEMI_SERVED, got, message, k);
     see(what, ANY(job_write, table, sizeof table, starts, 2 * m, message, k, got, n), BURGZEMI_SERVED, got, word, n);
     see(what, ANY(job_read, table, sizeof table, damaged, n, got, k), BURGZEMI_SERVED, got, message, k);
 }
@@ -290,79 +312,81 @@ static void set_slot(uint8_t *table, int i, uint8_t state, uint32_t number)
 static void calls(void)
 {
     uint8_t table[BURGZEMI_TABLE_LEN] = {0}, expected[BURGZEMI_TABLE_LEN] = {0};
-#define CALL(what, letter, number, wanted) see(what, burgzemi_call(table, sizeof table, letter, number), wanted, table, expected, sizeof table)
+#define CALL(what, call, number, wanted) see(what, burgzemi_##call(table, sizeof table, number), wanted, table, expected, sizeof table)
     for (uint32_t n = 1; n <= 64; n++) {
         set_slot(expected, (int)n - 1, 1, n);
-        CALL("1 to 64 opened", 'O', n, BURGZEMI_SERVED);
+        CALL("1 to 64 opened", open, n, BURGZEMI_SERVED);
     }
-    CALL("65 opened", 'O', 65, BURGZEMI_FULL);
-    CALL("65 cancelled", 'C', 65, BURGZEMI_FULL);
-    CALL("0 opened in a full table", 'O', 0, BURGZEMI_NUMBER_ZERO);
-    CALL("0 cancelled in a full table", 'C', 0, BURGZEMI_NUMBER_ZERO);
-    CALL("64 opened again", 'O', 64, BURGZEMI_ALREADY_OPEN);
+    CALL("65 opened", open, 65, BURGZEMI_FULL);
+    CALL("65 cancelled", cancel, 65, BURGZEMI_FULL);
+    CALL("0 opened in a full table", open, 0, BURGZEMI_NUMBER_ZERO);
+    CALL("0 cancelled in a full table", cancel, 0, BURGZEMI_NUMBER_ZERO);
+    CALL("64 opened again", open, 64, BURGZEMI_ALREADY_OPEN);
     set_slot(expected, 0, 0, 0);
-    CALL("1 finished", 'F', 1, BURGZEMI_SERVED);
-    CALL("1 finished again", 'F', 1, BURGZEMI_NOT_OPEN);
+    CALL("1 finished", finish, 1, BURGZEMI_SERVED);
+    CALL("1 finished again", finish, 1, BURGZEMI_NOT_OPEN);
     set_slot(expected, 0, 1, 65);
-    CALL("65 opened in the free slot", 'O', 65, BURGZEMI_SERVED);
+    CALL("65 opened in the free slot", open, 65, BURGZEMI_SERVED);
     set_slot(expected, 1, 2, 2);
-    CALL("2 cancelled", 'C', 2, BURGZEMI_SERVED);
-    CALL("2 opened", 'O', 2, BURGZEMI_CANCELLED);
-    CALL("2 finished", 'F', 2, BURGZEMI_CANCELLED);
-    CALL("small o", 'o', 2, BURGZEMI_RECORD);
-    CALL("65 reinstated, which is open", 'I', 65, BURGZEMI_NOT_CANCELLED);
-    CALL("66 reinstated, which is unknown", 'I', 66, BURGZEMI_NOT_CANCELLED);
+    CALL("2 cancelled", cancel, 2, BURGZEMI_SERVED);
+    CALL("2 opened", open, 2, BURGZEMI_CANCELLED);
+    CALL("2 finished", finish, 2, BURGZEMI_CANCELLED);
+    CALL("65 reinstated, which is open", reinstate, 65, BURGZEMI_NOT_CANCELLED);
+    CALL("66 reinstated, which is unknown", reinstate, 66, BURGZEMI_NOT_CANCELLED);
     set_slot(expected, 1, 1, 2);
-    CALL("2 reinstated: open", 'I', 2, BURGZEMI_SERVED);
-    CALL("2 reinstated again", 'I', 2, BURGZEMI_NOT_CANCELLED);
-    CALL("2 opened, which is open again", 'O', 2, BURGZEMI_ALREADY_OPEN);
-    CALL("2 released, which is open", 'U', 2, BURGZEMI_NOT_HELD);
-    CALL("66 held, which is unknown", 'H', 66, BURGZEMI_NOT_OPEN);
-    CALL("66 released, which is unknown", 'U', 66, BURGZEMI_NOT_HELD);
+    CALL("2 reinstated: open", reinstate, 2, BURGZEMI_SERVED);
+    CALL("2 reinstated again", reinstate, 2, BURGZEMI_NOT_CANCELLED);
+    CALL("2 opened, which is open again", open, 2, BURGZEMI_ALREADY_OPEN);
+    CALL("2 released, which is open", release, 2, BURGZEMI_NOT_HELD);
+    CALL("66 held, which is unknown", hold, 66, BURGZEMI_NOT_OPEN);
+    CALL("66 released, which is unknown", release, 66, BURGZEMI_NOT_HELD);
     set_slot(expected, 1, 4, 2);
-    CALL("2 held", 'H', 2, BURGZEMI_SERVED);
-    CALL("2 held again", 'H', 2, BURGZEMI_HELD);
-    CALL("2 finished, which is on hold", 'F', 2, BURGZEMI_HELD);
-    CALL("2 opened, which is on hold", 'O', 2, BURGZEMI_ALREADY_OPEN);
-    CALL("2 reinstated, which is on hold", 'I', 2, BURGZEMI_NOT_CANCELLED);
-    CALL("66 opened, with 63 open and one on hold", 'O', 66, BURGZEMI_FULL);
+    CALL("2 held", hold, 2, BURGZEMI_SERVED);
+    CALL("2 held again", hold, 2, BURGZEMI_HELD);
+    CALL("2 finished, which is on hold", finish, 2, BURGZEMI_HELD);
+    CALL("2 opened, which is on hold", open, 2, BURGZEMI_ALREADY_OPEN);
+    CALL("2 reinstated, which is on hold", reinstate, 2, BURGZEMI_NOT_CANCELLED);
+    CALL("66 opened, with 63 open and one on hold", open, 66, BURGZEMI_FULL);
     set_slot(expected, 1, 5, 2);
-    CALL("2 cancelled, which is on hold", 'C', 2, BURGZEMI_SERVED);
-    CALL("2 held, which is cancelled", 'H', 2, BURGZEMI_CANCELLED);
-    CALL("2 released, which is cancelled", 'U', 2, BURGZEMI_CANCELLED);
+    CALL("2 cancelled, which is on hold", cancel, 2, BURGZEMI_SERVED);
+    CALL("2 held, which is cancelled", hold, 2, BURGZEMI_CANCELLED);
+    CALL("2 released, which is cancelled", release, 2, BURGZEMI_CANCELLED);
     set_slot(expected, 1, 4, 2);
-    CALL("2 reinstated: on hold", 'I', 2, BURGZEMI_SERVED);
+    CALL("2 reinstated: on hold", reinstate, 2, BURGZEMI_SERVED);
     set_slot(expected, 1, 1, 2);
-    CALL("2 released: open", 'U', 2, BURGZEMI_SERVED);
-    CALL("2 released again", 'U', 2, BURGZEMI_NOT_HELD);
+    CALL("2 released: open", release, 2, BURGZEMI_SERVED);
+    CALL("2 released again", release, 2, BURGZEMI_NOT_HELD);
 
     memset(table, 0, sizeof table);
     memset(expected, 0, sizeof expected);
     set_slot(expected, 0, 3, 9);
-    CALL("unknown 9 cancelled", 'C', 9, BURGZEMI_SERVED);
-    CALL("9 opened", 'O', 9, BURGZEMI_CANCELLED);
+    CALL("unknown 9 cancelled", cancel, 9, BURGZEMI_SERVED);
+    CALL("9 opened", open, 9, BURGZEMI_CANCELLED);
     set_slot(expected, 0, 0, 0);
-    CALL("9 reinstated: unknown, and its slot free", 'I', 9, BURGZEMI_SERVED);
-    CALL("9 finished, which is unknown again", 'F', 9, BURGZEMI_NOT_OPEN);
+    CALL("9 reinstated: unknown, and its slot free", reinstate, 9, BURGZEMI_SERVED);
+    CALL("9 finished, which is unknown again", finish, 9, BURGZEMI_NOT_OPEN);
     set_slot(expected, 0, 3, 9);
-    CALL("9 cancelled again", 'C', 9, BURGZEMI_SERVED);
+    CALL("9 cancelled again", cancel, 9, BURGZEMI_SERVED);
     set_slot(expected, 1, 1, 0xFEDCBA98);
-    CALL("a number of four bytes", 'O', 0xFEDCBA98, BURGZEMI_SERVED);
+    CALL("a number of four bytes", open, 0xFEDCBA98, BURGZEMI_SERVED);
 
     set_slot(table, 63, 1, 9);
     set_slot(expected, 63, 1, 9);
-    CALL("9 in two slots", 'O', 10, BURGZEMI_INVALID);
-    CALL("9 in two slots", 'I', 10, BURGZEMI_INVALID);
-    CALL("9 in two slots", 'H', 10, BURGZEMI_INVALID);
-    CALL("9 in two slots", 'U', 10, BURGZEMI_INVALID);
+#define EACH(what, len, wanted) \
+    see(what, burgzemi_open(table, len, 10), wanted, table, expected, sizeof table); \
+    see(what, burgzemi_cancel(table, len, 10), wanted, table, expected, sizeof table); \
+    see(what, burgzemi_finish(table, len, 10), wanted, table, expected, sizeof table); \
+    see(what, burgzemi_reinstate(table, len, 10), wanted, table, expected, sizeof table); \
+    see(what, burgzemi_hold(table, len, 10), wanted, table, expected, sizeof table); \
+    see(what, burgzemi_release(table, len, 10), wanted, table, expected, sizeof table)
+    EACH("9 in two slots", sizeof table, BURGZEMI_INVALID);
     set_slot(table, 63, 6, 10);
     set_slot(expected, 63, 6, 10);
-    CALL("a state of 6", 'O', 10, BURGZEMI_INVALID);
-    CALL("a state of 6", 'I', 10, BURGZEMI_INVALID);
-    CALL("a state of 6 and no letter", 'X', 10, BURGZEMI_RECORD);
+    EACH("a state of 6", sizeof table, BURGZEMI_INVALID);
+    EACH("a byte short", sizeof table - 1, BURGZEMI_LENGTH);
+    EACH("no table", 0, BURGZEMI_LENGTH);
+#undef EACH
 #undef CALL
-    see("a byte short", burgzemi_call(table, sizeof table - 1, 'X', 10), BURGZEMI_LENGTH, table, expected, sizeof table);
-    see("no table", burgzemi_call(table, 0, 'O', 10), BURGZEMI_LENGTH, table, expected, sizeof table);
 }
 
 /* Number 0 alone, in the first slot, two between and the last: open, cancelled, finished, reinstated, held. */
@@ -370,38 +394,38 @@ static void number_zero(void)
 {
     for (int at = 0; at <= 63; at += 21) {
         uint8_t table[BURGZEMI_TABLE_LEN] = {0}, expected[BURGZEMI_TABLE_LEN] = {0};
-#define CALL(what, letter, wanted) see(what, burgzemi_call(table, sizeof table, letter, 0), wanted, table, expected, sizeof table)
-        CALL("an unknown 0 opened", 'O', BURGZEMI_NUMBER_ZERO);
-        CALL("an unknown 0 cancelled", 'C', BURGZEMI_NUMBER_ZERO);
-        CALL("an unknown 0 finished", 'F', BURGZEMI_NOT_OPEN);
-        CALL("an unknown 0 reinstated", 'I', BURGZEMI_NOT_CANCELLED);
-        CALL("an unknown 0 held", 'H', BURGZEMI_NOT_OPEN);
-        CALL("an unknown 0 released", 'U', BURGZEMI_NOT_HELD);
+#define CALL(what, call, wanted) see(what, burgzemi_##call(table, sizeof table, 0), wanted, table, expected, sizeof table)
+        CALL("an unknown 0 opened", open, BURGZEMI_NUMBER_ZERO);
+        CALL("an unknown 0 cancelled", cancel, BURGZEMI_NUMBER_ZERO);
+        CALL("an unknown 0 finished", finish, BURGZEMI_NOT_OPEN);
+        CALL("an unknown 0 reinstated", reinstate, BURGZEMI_NOT_CANCELLED);
+        CALL("an unknown 0 held", hold, BURGZEMI_NOT_OPEN);
+        CALL("an unknown 0 released", release, BURGZEMI_NOT_HELD);
         set_slot(table, at, 2, 0);
         set_slot(expected, at, 2, 0);
-        CALL("a cancelled 0 opened", 'O', BURGZEMI_NUMBER_ZERO);
-        CALL("a cancelled 0 cancelled", 'C', BURGZEMI_CANCELLED);
-        CALL("a cancelled 0 finished", 'F', BURGZEMI_CANCELLED);
+        CALL("a cancelled 0 opened", open, BURGZEMI_NUMBER_ZERO);
+        CALL("a cancelled 0 cancelled", cancel, BURGZEMI_CANCELLED);
+        CALL("a cancelled 0 finished", finish, BURGZEMI_CANCELLED);
         set_slot(table, at, 1, 0);
-        CALL("an open 0 cancelled", 'C', BURGZEMI_SERVED);
+        CALL("an open 0 cancelled", cancel, BURGZEMI_SERVED);
         set_slot(expected, at, 1, 0);
-        CALL("a 0 reinstated that was open", 'I', BURGZEMI_SERVED);
-        CALL("an open 0 reinstated", 'I', BURGZEMI_NOT_CANCELLED);
-        CALL("an open 0 opened", 'O', BURGZEMI_NUMBER_ZERO);
+        CALL("a 0 reinstated that was open", reinstate, BURGZEMI_SERVED);
+        CALL("an open 0 reinstated", reinstate, BURGZEMI_NOT_CANCELLED);
+        CALL("an open 0 opened", open, BURGZEMI_NUMBER_ZERO);
         set_slot(expected, at, 4, 0);
-        CALL("an open 0 held", 'H', BURGZEMI_SERVED);
-        CALL("a 0 on hold opened", 'O', BURGZEMI_NUMBER_ZERO);
-        CALL("a 0 on hold finished", 'F', BURGZEMI_HELD);
+        CALL("an open 0 held", hold, BURGZEMI_SERVED);
+        CALL("a 0 on hold opened", open, BURGZEMI_NUMBER_ZERO);
+        CALL("a 0 on hold finished", finish, BURGZEMI_HELD);
         set_slot(expected, at, 5, 0);
-        CALL("a 0 on hold cancelled", 'C', BURGZEMI_SERVED);
+        CALL("a 0 on hold cancelled", cancel, BURGZEMI_SERVED);
         set_slot(expected, at, 4, 0);
-        CALL("a 0 reinstated that was on hold", 'I', BURGZEMI_SERVED);
+        CALL("a 0 reinstated that was on hold", reinstate, BURGZEMI_SERVED);
         set_slot(expected, at, 1, 0);
-        CALL("a 0 released", 'U', BURGZEMI_SERVED);
+        CALL("a 0 released", release, BURGZEMI_SERVED);
         memset(expected, 0, sizeof expected);
-        CALL("an open 0 finished", 'F', BURGZEMI_SERVED);
+        CALL("an open 0 finished", finish, BURGZEMI_SERVED);
         set_slot(table, at, 3, 0);
-        CALL("a 0 reinstated that was absent", 'I', BURGZEMI_SERVED);
+        CALL("a 0 reinstated that was absent", reinstate, BURGZEMI_SERVED);
 #undef CALL
     }
 }
@@ -511,15 +535,16 @@ static void refused_tables(enum code code)
 /* Job 7 written and read after each call of a list, and then in each state. */
 static void transfer_example(enum code code)
 {
-    static const struct { char letter; uint8_t called, used; } list[] = {
-        {'F', BURGZEMI_NOT_OPEN, BURGZEMI_NOT_OPEN}, {'O', BURGZEMI_SERVED, BURGZEMI_SERVED}, {'C', BURGZEMI_SERVED, BURGZEMI_CANCELLED},
-        {'O', BURGZEMI_CANCELLED, BURGZEMI_CANCELLED}, {'I', BURGZEMI_SERVED, BURGZEMI_SERVED}, {'H', BURGZEMI_SERVED, BURGZEMI_HELD},
-        {'U', BURGZEMI_SERVED, BURGZEMI_SERVED}, {'F', BURGZEMI_SERVED, BURGZEMI_NOT_OPEN},
+    static const struct { uint8_t (*call)(uint8_t *, size_t, uint32_t); uint8_t called, used; } list[] = {
+        {burgzemi_finish, BURGZEMI_NOT_OPEN, BURGZEMI_NOT_OPEN}, {burgzemi_open, BURGZEMI_SERVED, BURGZEMI_SERVED},
+        {burgzemi_cancel, BURGZEMI_SERVED, BURGZEMI_CANCELLED}, {burgzemi_open, BURGZEMI_CANCELLED, BURGZEMI_CANCELLED},
+        {burgzemi_reinstate, BURGZEMI_SERVED, BURGZEMI_SERVED}, {burgzemi_hold, BURGZEMI_SERVED, BURGZEMI_HELD},
+        {burgzemi_release, BURGZEMI_SERVED, BURGZEMI_SERVED}, {burgzemi_finish, BURGZEMI_SERVED, BURGZEMI_NOT_OPEN},
     };
     uint8_t table[BURGZEMI_TABLE_LEN] = {0};
     const size_t len = sizeof table;
     for (size_t i = 0; i < sizeof list / sizeof *list; i++) {
-        see("a call on job 7", burgzemi_call(table, len, (uint8_t)list[i].letter, 7), list[i].called, payload7, payload7, 1);
+        see("a call on job 7", list[i].call(table, len, 7), list[i].called, payload7, payload7, 1);
         write7("job 7 after a call, written", list[i].used, code, 256, 2, table, len, 6, 2, 11, 15);
         read7("job 7 after a call, read", list[i].used, code, 256, 2, table, len, NULL, 15, 11);
     }
@@ -774,16 +799,16 @@ static void symbols_of(const char *text, uint8_t *word)
         word[i] = (uint8_t)(text[i] - '0');
 }
 
-static void long_lengths(void)
+static void long_figures(void)
 {
-    length("one long burst", burgzemi_long_message_len(20, 2, 5), 10);
-    length("the longest burst of n 20", burgzemi_long_message_len(20, 2, 6), 9);
-    length("a burst above a third", burgzemi_long_message_len(20, 2, 7), BURGZEMI_NO_LENGTH);
-    length("no room for the digits", burgzemi_long_message_len(4, 2, 1), BURGZEMI_NO_LENGTH);
-    length("the least figures", burgzemi_long_message_len(3, 2, 1), 0);
-    length("payload of one long burst", burgzemi_long_payload_len(20, 2, 5), 1);
-    length("payload of the example with one long burst", burgzemi_long_payload_len(15, 256, 5), 8);
-    length("payload of b 7", burgzemi_long_payload_len(20, 2, 7), BURGZEMI_NO_LENGTH);
+    fit("one long burst", CONSTRUCTION_B, 20, 2, 1, 5, 16, 3, 10, 1);
+    fit("the longest burst of n 20", CONSTRUCTION_B, 20, 2, 1, 6, 15, 3, 9, 1);
+    misfit("a burst above a third", BURGZEMI_UNFIT, CONSTRUCTION_B, 20, 2, 1, 7);
+    misfit("no room for the digits", BURGZEMI_UNFIT, CONSTRUCTION_B, 4, 2, 1, 1);
+    fit("the least figures", CONSTRUCTION_B, 3, 2, 1, 1, 3, 0, 0, 0);
+    fit("payload of one long burst", CONSTRUCTION_B, 20, 2, 1, 5, 16, 3, 10, 1);
+    fit("payload of the example with one long burst", CONSTRUCTION_B, 15, 256, 1, 5, 11, 0, 8, 8);
+    misfit("payload of b 7", BURGZEMI_UNFIT, CONSTRUCTION_B, 20, 2, 1, 7);
 }
 
 static void long_written(void)
@@ -992,26 +1017,26 @@ static void long_prescriptions(void)
 
 static const char larsson_word[21] = "01001111100011101001";
 
-static void larsson_lengths(void)
+static void larsson_figures(void)
 {
-    length("an older tray", burgzemi_larsson_message_len(20, 2, 1, 3), 7);
-    length("a burst above the gap", burgzemi_larsson_message_len(20, 2, 1, 4), BURGZEMI_NO_LENGTH);
-    length("sub-blocks longer than the word", burgzemi_larsson_message_len(8, 2, 1, 1), BURGZEMI_NO_LENGTH);
-    length("bursts longer than the word", burgzemi_larsson_message_len(3, 256, 4, 1), BURGZEMI_NO_LENGTH);
-    length("too many placements", burgzemi_larsson_message_len(888, 256, 8, 1), BURGZEMI_NO_LENGTH);
-    length("one placement", burgzemi_larsson_message_len(3, 2, 3, 1), 0);
-    length("one placement of bursts of 2", burgzemi_larsson_message_len(6, 2, 3, 2), 0);
-    length("one placement of bursts of 3", burgzemi_larsson_message_len(9, 2, 3, 3), BURGZEMI_NO_LENGTH);
-    length("m of 9", burgzemi_larsson_message_len(20, 2, 9, 1), BURGZEMI_NO_LENGTH);
+    fit("an older tray", LARSSON, 20, 2, 1, 3, 18, 5, 7, 0);
+    misfit("a burst above the gap", BURGZEMI_UNFIT, LARSSON, 20, 2, 1, 4);
+    misfit("sub-blocks longer than the word", BURGZEMI_UNFIT, LARSSON, 8, 2, 1, 1);
+    misfit("bursts longer than the word", BURGZEMI_UNFIT, LARSSON, 3, 256, 4, 1);
+    misfit("too many placements", BURGZEMI_UNFIT, LARSSON, 888, 256, 8, 1);
+    fit("one placement", LARSSON, 3, 2, 3, 1, 1, 0, 0, 0);
+    fit("one placement of bursts of 2", LARSSON, 6, 2, 3, 2, 1, 0, 0, 0);
+    misfit("one placement of bursts of 3", BURGZEMI_UNFIT, LARSSON, 9, 2, 3, 3);
+    misfit("m of 9", BURGZEMI_INVALID, LARSSON, 20, 2, 9, 1);
     /* Which code figures fit: Construction A alone, this one alone (above), both. */
-    length("Construction A alone", burgzemi_message_len(6, 5, 2, 1), 0);
-    length("Construction A alone, not an older tray", burgzemi_larsson_message_len(6, 5, 2, 1), BURGZEMI_NO_LENGTH);
-    length("an older tray alone", burgzemi_message_len(3, 2, 3, 1), BURGZEMI_NO_LENGTH);
-    length("either", burgzemi_message_len(3, 4, 1, 1), 0);
-    length("either, an older tray", burgzemi_larsson_message_len(3, 4, 1, 1), 0);
-    length("payload of an older tray", burgzemi_larsson_payload_len(15, 256, 1, 2), 11);
-    length("payload of one bit a symbol", burgzemi_larsson_payload_len(30, 2, 1, 3), 2);
-    length("payload of a burst above the gap", burgzemi_larsson_payload_len(20, 2, 1, 4), BURGZEMI_NO_LENGTH);
+    fit("Construction A alone", CONSTRUCTION_A, 6, 5, 2, 1, 15, 0, 0, 0);
+    misfit("Construction A alone, not an older tray", BURGZEMI_UNFIT, LARSSON, 6, 5, 2, 1);
+    misfit("an older tray alone", BURGZEMI_UNFIT, CONSTRUCTION_A, 3, 2, 3, 1);
+    fit("either", CONSTRUCTION_A, 3, 4, 1, 1, 3, 0, 0, 0);
+    fit("either, an older tray", LARSSON, 3, 4, 1, 1, 3, 1, 0, 0);
+    fit("payload of an older tray", LARSSON, 15, 256, 1, 2, 14, 1, 11, 11);
+    fit("payload of one bit a symbol", LARSSON, 30, 2, 1, 3, 28, 5, 17, 2);
+    misfit("payload of a burst above the gap", BURGZEMI_UNFIT, LARSSON, 20, 2, 1, 4);
 }
 
 static void larsson_written(void)
@@ -1273,7 +1298,7 @@ static void refused(const char *what, unsigned wanted, enum code code, const uin
     memcpy(payload, untouched, sizeof payload);
     memcpy(marks, untouched, sizeof marks);
     move(what, wanted, code == LARSSON, n, q, m, b, table, sizeof table, strip, 21, 21, NULL);
-    see(what, ANY(job_read, table, sizeof table, strip, 21, payload, LENGTH(payload_len)), wanted, payload, untouched, sizeof payload);
+    see(what, ANY(job_read, table, sizeof table, strip, 21, payload, payload_len(code, n, q, m, b)), wanted, payload, untouched, sizeof payload);
     unsigned answer = ANY(prescription_read, table, sizeof table, strip, 21, marks, sizeof marks, powers, BURGZEMI_POWERS_LEN);
     see(what, answer, wanted == BURGZEMI_NOT_OPEN ? BURGZEMI_PRESCRIPTION : wanted, marks, untouched, sizeof marks);
     see_powers(what, powers, kept, BURGZEMI_POWERS_LEN);
@@ -1395,7 +1420,7 @@ static void large_move(const char *what, uint32_t n, uint32_t m, uint32_t b)
 {
     static uint8_t strip[BURGZEMI_MAX_WORD], moved[BURGZEMI_MAX_WORD], back[BURGZEMI_MAX_WORD], message[BURGZEMI_MAX_WORD], got[BURGZEMI_MAX_WORD];
     uint8_t table[BURGZEMI_TABLE_LEN] = {0}, starts[2 * BURGZEMI_MAX_BURSTS] = {0};
-    uint32_t older = burgzemi_larsson_payload_len(n, 256, m, b), newer = burgzemi_payload_len(n, 256, m, b);
+    size_t older = payload_len(LARSSON, n, 256, m, b), newer = payload_len(CONSTRUCTION_A, n, 256, m, b);
     memset(message, 0, sizeof message);
     for (uint32_t i = 0; i < older && i < newer; i++)
         message[i] = (uint8_t)(i * 7 + 1);
@@ -1448,13 +1473,13 @@ int main(void)
     calls();
     number_zero();
     eyes();
-    long_lengths();
+    long_figures();
     long_written();
     long_found();
     long_maps();
     long_jobs();
     long_prescriptions();
-    larsson_lengths();
+    larsson_figures();
     larsson_written();
     larsson_found();
     larsson_maps();

@@ -6,8 +6,7 @@
  * long burst. The Larsson code is that of the older trays. Every call on a strip of one code exists under every code:
  *
  *                        Construction A               Construction B                    Larsson code
- *   lengths              burgzemi_message_len         burgzemi_long_message_len         burgzemi_larsson_message_len
- *                        burgzemi_payload_len         burgzemi_long_payload_len         burgzemi_larsson_payload_len
+ *   figures alone        burgzemi_figures             burgzemi_long_figures             burgzemi_larsson_figures
  *   word write           burgzemi_encode              burgzemi_long_encode              burgzemi_larsson_encode
  *   word read            burgzemi_decode              burgzemi_long_decode              burgzemi_larsson_decode
  *   check                burgzemi_verify              burgzemi_long_verify              burgzemi_larsson_verify
@@ -19,9 +18,9 @@
  *   words side by side   burgzemi_interleave          burgzemi_long_interleave          burgzemi_larsson_interleave
  *                        burgzemi_deinterleave        burgzemi_long_deinterleave        burgzemi_larsson_deinterleave
  *
- * Three calls belong to no code:
+ * Eight calls belong to no code:
  *
- *   job table            burgzemi_call
+ *   job table            burgzemi_open, burgzemi_cancel, burgzemi_finish, burgzemi_reinstate, burgzemi_hold, burgzemi_release
  *   eyes                 burgzemi_transpose, burgzemi_spherical_equivalent
  *
  * Two calls move a job from a strip of one code to a strip of another:
@@ -42,8 +41,8 @@ extern "C" {
 /* ---- Answers */
 
 /*
- * A length call answers a length. Every other call answers 0, or why it was refused. A check has one answer more, BURGZEMI_DIFFERS. The comment of a call
- * lists its refusals in the order in which they are looked for.
+ * Every call answers 0, or why it was refused. A check has one answer more, BURGZEMI_DIFFERS. The comment of a call lists its refusals in the order in which
+ * they are looked for.
  */
 enum burgzemi_answer {
     BURGZEMI_SERVED = 0,
@@ -58,7 +57,7 @@ enum burgzemi_answer {
     BURGZEMI_VALUE = 8,        /* the value that tells of the bursts is too large */
     BURGZEMI_DISAGREES = 9,    /* the bursts that the value tells of disagree with the word */
     BURGZEMI_PAYLOAD = 10,     /* no room for a job, a byte's symbols that spell 256 or more, or a leftover symbol other than 0 */
-    BURGZEMI_RECORD = 11,      /* a record unreadable or one too many, or a call's letter that is none of O, C, F, I, H, U */
+    BURGZEMI_RECORD = 11,      /* a record unreadable or one too many: the transfer program's alone, no call answers it */
     BURGZEMI_PRESCRIPTION = 16, /* an eye, a pupil distance or a job's text outside the rules of prescriptions, or a payload below 17 bytes */
     BURGZEMI_DEPTH = 18,       /* a depth outside 1 to 16 */
     BURGZEMI_ERASED = 19,      /* a silent cell, q, where a symbol is needed */
@@ -77,9 +76,6 @@ enum burgzemi_answer {
 
 /* What a check answers for a word that disagrees. No refusal has this number. */
 #define BURGZEMI_DIFFERS 255
-
-/* What a length call answers for figures that are refused with 1 or 2. */
-#define BURGZEMI_NO_LENGTH UINT32_MAX
 
 /* ---- Codes and their figures */
 
@@ -124,6 +120,13 @@ enum burgzemi_answer {
 #define BURGZEMI_MAX_WORD 4096
 #define BURGZEMI_MAX_BURSTS 8
 
+/* What figures alone give, and where each of them stands. */
+#define BURGZEMI_FIGURES_LEN 4
+#define BURGZEMI_PLACEMENTS 0 /* how many placements there are, at most 9223372036854775807 */
+#define BURGZEMI_R 1          /* r, and the Larsson code's R */
+#define BURGZEMI_K 2          /* k, the symbols of a message */
+#define BURGZEMI_PAYLOAD_LEN 3 /* K, the bytes of a payload */
+
 /* The most words that lie side by side: BURGZEMI_MAX_DEPTH * BURGZEMI_MAX_WORD bytes hold any strip of them. */
 #define BURGZEMI_MAX_DEPTH 16
 
@@ -153,9 +156,8 @@ enum burgzemi_answer {
 
 /*
  * The bytes of a job table: 64 slots of 5, a state and the job number, high byte first. The states: 0 free, 1 open, 2 cancelled and before that open, 3
- * cancelled and before that not in the table, 4 on hold, 5 cancelled and before that on hold. All 0 is the empty table. A table kept from before there was
- * a 3 has 2 for every cancelled number: each of them counts as one that was open. Refusal 1 is for a table of this length with a state above 5, or with
- * one number in two slots that aren't free.
+ * cancelled and before that not in the table, 4 on hold, 5 cancelled and before that on hold. All 0 is the empty table. Refusal 1 is for a table of this
+ * length with a state above 5, or with one number in two slots that aren't free.
  */
 #define BURGZEMI_TABLE_SLOTS 64
 #define BURGZEMI_TABLE_LEN 320
@@ -177,9 +179,9 @@ enum burgzemi_answer {
 /* ---- What holds for every function */
 
 /*
- * Starts are positions from 0, ascending, 2 bytes each, high byte first. Each buffer comes with its own length, counted in doubles where it holds doubles.
- * Nothing past that length is read or written. Buffers of one call must not overlap. No buffer is NULL, not even where its length is 0. A buffer that is
- * only written need not be initialised. A refusal leaves every buffer as it was.
+ * Starts are positions from 0, ascending, 2 bytes each, high byte first. Each buffer comes with its own length, counted in what it holds: bytes, numbers or
+ * doubles. Nothing past that length is read or written. Buffers of one call must not overlap. No buffer is NULL, not even where its length is 0. A buffer
+ * that is only written need not be initialised. A refusal leaves every buffer as it was.
  *
  * Each function always returns and touches no other memory, which is what its proof says. It keeps nothing between calls, so that several
  * threads may call it at once with buffers of their own.
@@ -187,11 +189,13 @@ enum burgzemi_answer {
 
 /* ---- Construction A: the figures n, q, m and b. What is said of a function here holds for its row of the table, under every code. */
 
-/* How many symbols a message has: k, or BURGZEMI_NO_LENGTH. */
-uint32_t burgzemi_message_len(uint32_t n, uint32_t q, uint32_t m, uint32_t b);
-
-/* How many bytes a payload has: K, or BURGZEMI_NO_LENGTH. */
-uint32_t burgzemi_payload_len(uint32_t n, uint32_t q, uint32_t m, uint32_t b);
+/*
+ * Figures alone. Puts into `figures`, BURGZEMI_FIGURES_LEN numbers, what the figures give: how many placements there are, r, k and K.
+ *
+ * Refusals: 1 and 2 for the figures; 3 where figures_len is not BURGZEMI_FIGURES_LEN.
+ */
+uint8_t burgzemi_figures(uint32_t n, uint32_t q, uint32_t m, uint32_t b,
+                         uint64_t *figures, size_t figures_len);
 
 /*
  * Word write. Writes the word of a placement, given by its m starts, and of a message of k symbols into `word`, of n bytes. The bursts hold 0.
@@ -313,9 +317,8 @@ uint8_t burgzemi_deinterleave(uint32_t n, uint32_t q, uint32_t m, uint32_t b, ui
 
 /* ---- Construction B, one long burst: the figures n, q and b. The parameters are those of Construction A without m, and `start` has 2 bytes. */
 
-uint32_t burgzemi_long_message_len(uint32_t n, uint32_t q, uint32_t b);
-
-uint32_t burgzemi_long_payload_len(uint32_t n, uint32_t q, uint32_t b);
+uint8_t burgzemi_long_figures(uint32_t n, uint32_t q, uint32_t b,
+                              uint64_t *figures, size_t figures_len);
 
 uint8_t burgzemi_long_encode(uint32_t n, uint32_t q, uint32_t b,
                              const uint8_t *start, size_t start_len,
@@ -372,9 +375,8 @@ uint8_t burgzemi_long_deinterleave(uint32_t n, uint32_t q, uint32_t b, uint32_t 
 
 /* ---- The Larsson code, of the older trays: the figures n, q, m and b. The parameters are those of Construction A. */
 
-uint32_t burgzemi_larsson_message_len(uint32_t n, uint32_t q, uint32_t m, uint32_t b);
-
-uint32_t burgzemi_larsson_payload_len(uint32_t n, uint32_t q, uint32_t m, uint32_t b);
+uint8_t burgzemi_larsson_figures(uint32_t n, uint32_t q, uint32_t m, uint32_t b,
+                                 uint64_t *figures, size_t figures_len);
 
 uint8_t burgzemi_larsson_encode(uint32_t n, uint32_t q, uint32_t m, uint32_t b,
                                 const uint8_t *starts, size_t starts_len,
@@ -432,18 +434,32 @@ uint8_t burgzemi_larsson_deinterleave(uint32_t n, uint32_t q, uint32_t m, uint32
 /* ---- Of no code: the job table and eyes */
 
 /*
- * Makes a call on the job table, which then holds what it has afterwards: letter 'O' opens the number, 'C' cancels it, 'F' finishes it, 'I' reinstates it,
- * 'H' puts it on hold, 'U' releases it. A reinstated number is again what it was before its cancellation: open, on hold, or not in the table and its slot
- * free. A number on hold takes its slot as an open one does, and is open again once it is released. An accepted call leaves 0 in the number bytes of every
- * free slot. Number 0 is no job. A table from before that rule may hold it, open or cancelled: it can then be finished, cancelled, reinstated, held or
- * released as any other.
+ * The calls on the job table, which then holds what it has afterwards. An accepted call leaves 0 in the number bytes of every free slot.
  *
- * Refusals: 3 where table_len is not BURGZEMI_TABLE_LEN; 11 for another letter; 1 for the table; then 17 12 13 15 for opening, where 17 is for every
- * opening of 0 and 13 for a number on hold too; 17 12 15 for cancelling, where 17 is for a 0 that the table doesn't hold; 12 23 14 for finishing; 20 for
- * reinstating a number that is not cancelled; 12 23 14 for holding; 12 24 for releasing, where 24 is for an open number and for one that the table doesn't
- * hold.
+ * Refusals of each: 3 where table_len is not BURGZEMI_TABLE_LEN; 1 for the table; then its own. Number 0 is no job. A table from before that rule may hold it,
+ * open or cancelled: it can then be finished, cancelled, reinstated, held or released as any other.
  */
-uint8_t burgzemi_call(uint8_t *table, size_t table_len, uint8_t letter, uint32_t number);
+
+/* Opens a number, which takes a free slot. Refusals: 3 1 17 12 13 15, where 17 is for every opening of 0 and 13 for a number on hold too. */
+uint8_t burgzemi_open(uint8_t *table, size_t table_len, uint32_t number);
+
+/* Cancels a number, also one that the table doesn't hold. Refusals: 3 1 17 12 15, where 17 is for a 0 that the table doesn't hold. */
+uint8_t burgzemi_cancel(uint8_t *table, size_t table_len, uint32_t number);
+
+/* Finishes an open number, and frees its slot. Refusals: 3 1 12 23 14. */
+uint8_t burgzemi_finish(uint8_t *table, size_t table_len, uint32_t number);
+
+/*
+ * Takes a cancellation back: the number is again what it was before, open, on hold, or not in the table and its slot free. Refusals: 3 1 20, where 20 is for a
+ * number that is not cancelled.
+ */
+uint8_t burgzemi_reinstate(uint8_t *table, size_t table_len, uint32_t number);
+
+/* Puts an open number on hold. It takes its slot as before, and is open again once it is released. Refusals: 3 1 12 23 14. */
+uint8_t burgzemi_hold(uint8_t *table, size_t table_len, uint32_t number);
+
+/* Makes a number on hold open again. Refusals: 3 1 12 24, where 24 is for an open number and for one that the table doesn't hold. */
+uint8_t burgzemi_release(uint8_t *table, size_t table_len, uint32_t number);
 
 /*
  * Transposes an eye: the cylinder is added to the sphere and changes its sign, the axis turns by 90; a plano or a sphere stays as it is. `marks` gets the
