@@ -30,9 +30,9 @@ use Rattle.records.specs.Session.{Session, atStart, maxRecords}
 
 -- ---- A program in C
 
--- Any list of `burgzemi_call` on the bytes of a table that a list may start from, each on the bytes that the one before left, then `burgzemi_job_read`,
--- `burgzemi_long_job_read` or `burgzemi_larsson_job_read` on the last ones: the claim of the answers, and of what the reading answers and leaves in the lent
--- payload. 320 bytes of 0 are the empty table (`EmptyBytes`).
+-- Any list of `burgzemi_open`, `_cancel`, `_finish`, `_reinstate`, `_hold` and `_release` on the bytes of a table that a list may start from, each on the
+-- bytes that the one before left, then `burgzemi_job_read`, `burgzemi_long_job_read` or `burgzemi_larsson_job_read` on the last ones: the claim of the answers,
+-- and of what the reading answers and leaves in the lent payload. 320 bytes of 0 are the empty table (`EmptyBytes`).
 abbrev pub BytesClaimed : Type 0
 BytesClaimed =
     (f : Figures) (bytes : List ℕ) (es : List Entry) (before : List Call) → TableOf bytes es → Start es before

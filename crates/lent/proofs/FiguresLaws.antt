@@ -14,7 +14,7 @@ use Rattle.cells.specs.Outcomes.{Coding, unserved, figuresUnder}
 use Rattle.cells.proofs.Outcomes.{refused-alike}
 use Rattle.codes.specs.Given.{countBy, tailBy, HasNumbers}
 use Rattle.codes.specs.declared.WordLayout.{WordLayout}
-use Rattle.lent.specs.Figures.{figuresLent, figuresIn, figuresLentUnder}
+use Rattle.lent.specs.Figures.{figuresLent, figureNumbers, figuresLentUnder}
 
 module _ (d : Coding) (out : List ℕ) where
   -- 1 and 2
@@ -22,7 +22,7 @@ module _ (d : Coding) (out : List ℕ) where
   unfolding figuresLentUnder
   lent-unfit a e =
       refused-alike d a (λ x. figuresLent x out)
-      (must (eqb (length out) 4) (figuresLent wrongLength out) (figuresLent served (figuresIn d))) e
+      (must (eqb (length out) 4) (figuresLent wrongLength out) (figuresLent served (figureNumbers d))) e
 
   module _ (range : d .inRange ≡ true) (fit : d .fits ≡ true) where
     -- 3
@@ -30,7 +30,7 @@ module _ (d : Coding) (out : List ℕ) where
     unfolding figuresLentUnder
     lent-length e = rw (range, fit, eqb-other (length out) 4 e)
 
-    pub lent-served : length out ≡ 4 → figuresLentUnder d out ≡ figuresLent served (figuresIn d)
+    pub lent-served : length out ≡ 4 → figuresLentUnder d out ≡ figuresLent served (figureNumbers d)
     unfolding figuresLentUnder
     lent-served e = rw (range, fit, eqb-same (length out) 4 e)
 
@@ -45,7 +45,7 @@ four-set (_ ∷ _ ∷ _ ∷ _ ∷ _ ∷ rest) t r k p h = absurd (omega (arith, 
 
 -- those of a layout are its code's
 pub layout-set : (d : Coding) (l : WordLayout) → HasNumbers d l → (out : List ℕ) → length out ≡ 4 → (t r p : ℕ) → t ≡ countBy (l .laid) → r ≡ tailBy (l .laid)
-    → p ≡ payloadLen (l .q) (l .«message_len») → set (set (set (set out 0 t) 1 r) 2 (l .«message_len»)) 3 p ≡ figuresIn d
-unfolding figuresIn
+    → p ≡ payloadLen (l .q) (l .«message_len») → set (set (set (set out 0 t) 1 r) 2 (l .«message_len»)) 3 p ≡ figureNumbers d
+unfolding figureNumbers
 layout-set d l is out h t r p e₁ e₂ e₃ =
     four-set out t r (l .«message_len») p h ∙ rw (e₁, e₂, e₃, is .count-is, is .tail-is, is .alphabet-is, is .len-is)

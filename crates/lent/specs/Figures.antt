@@ -15,8 +15,8 @@ abbrev pub figuresLent : ℕ → List ℕ → FiguresLent
 figuresLent a numbers = record { answer = a; figures = numbers }
 
 -- T, r (the Larsson code's R), k and K
-unfoldable pub figuresIn : Coding → List ℕ
-figuresIn d = let k = d .codec .messageLen in d .placementCount ∷ d .indexTail ∷ k ∷ payloadLen (d .codec .alphabet) k ∷ []
+unfoldable pub figureNumbers : Coding → List ℕ
+figureNumbers d = let k = d .codec .messageLen in d .placementCount ∷ d .indexTail ∷ k ∷ payloadLen (d .codec .alphabet) k ∷ []
 
 -- "figures alone 1 2", and 3 where other than four numbers are lent
 unfoldable pub figuresLentUnder : Coding → List ℕ → FiguresLent
@@ -24,4 +24,4 @@ figuresLentUnder d out =
     must (d .inRange) (figuresLent invalid out)
     (must (d .fits) (figuresLent unfit out)
     (must (eqb (length out) 4) (figuresLent wrongLength out)
-    (figuresLent served (figuresIn d))))
+    (figuresLent served (figureNumbers d))))
