@@ -45,9 +45,25 @@ pub fn choose(n: u64, k: u64) -> u64
     ensures { λ r. ⌜ r ≡ ways n k ⌝ }
 {
     if k == 0 || choices::LAST_CHOSEN < k || choices::LAST_THINGS < n {
-        return worked_out(n, k);
+        return beyond_table(n, k);
     }
     choices::entry(n, k)
+}
+
+// What the table doesn't have: more things than its last, by steps from those that it has; the others worked out.
+fn beyond_table(n: u64, k: u64) -> u64
+    requires { ⌜ (n ≤ maxThings) × (k ≤ maxChosen) × (ways n k ≤ maxCount) ⌝ }
+    ensures { λ r. ⌜ r ≡ ways n k ⌝ }
+{
+    if k <= choices::LAST_CHOSEN || choices::LAST_THINGS < n || n < k {
+        return worked_out(n, k);
+    }
+    let six = choices::entry(n, choices::LAST_CHOSEN);
+    let seven = scaled(six, n - choices::LAST_CHOSEN, 7);
+    if k == 7 {
+        return seven;
+    }
+    scaled(seven, n - 7, 8)
 }
 
 // The same worked out: the first few by one product, each further one by a step. It calls itself, so that it is not inlined and leaves

@@ -113,8 +113,8 @@ struct LastBurst {
     share: u64,
 }
 
-// Its reduced start is the largest number below `below` out of which `number` things can be chosen in at most `rank` ways: a search by halves,
-// but that one thing can be chosen in as many ways as there are things.
+// Its reduced start is the largest number below `below` out of which `number` things can be chosen in at most `rank` ways: a search by halves. One thing can
+// be chosen in as many ways as there are things, so there is nothing to search for.
 fn last_burst(below: u64, number: u64, rank: u64) -> LastBurst
     requires { ⌜ (below ≤ maxThings) × (1 ≤ number) × (number ≤ maxChosen) × (choose below number ≤ maxCount) × (rank < choose below number) ⌝ }
     ensures reduced { λ r. ⌜ r .reduced ≡ top (waysFrom number) below rank ⌝ }
@@ -123,7 +123,7 @@ fn last_burst(below: u64, number: u64, rank: u64) -> LastBurst
     if number == 1 {
         return LastBurst {
             reduced: rank,
-            share: rank,
+            share: binomials::choose(rank, number),
         };
     }
     let mut low: u64 = 0;

@@ -23,14 +23,24 @@ abbrev μ-loop : tie.MeasureT-loop
 μ-loop below number rank low₀ share₀ high₀ low share high = high - low
 
 -- one thing can be chosen in as many ways as there are things
+one : (c : tie.Then1 Inv-loop μ-loop) (n : ℕ) → choose n (c .before .args .number) ≡ n
+one c n = ap (choose n) (c .if1 .taken) ∙ choose-one n
+
+choose-requires : tie.Need-choose-requires Inv-loop μ-loop
+choose-requires c κs =
+    let s = c .before in
+    let a = s .args in
+    (omega (arith, one c (a .below), s .pre .0, s .pre .4), s .pre .2, omega (arith, one c (a .rank), one c (a .below), s .pre .3, s .pre .4))
+
 returns : tie.Need-returns Inv-loop μ-loop
 returns c =
-    let a = c .before .args in
-    let one : (n : ℕ) → choose n (a .number) ≡ n = λ n. ap (choose n) (c .if1 .taken) ∙ choose-one n in (
+    let s = c .before .before in
+    let a = s .args in
+    let is = one (c .before) in (
       top-only (waysFrom (a .number)) (λ x y h. choose-mono (a .number) h)
-          (record { below = omega (arith, one (a .below), c .before .pre .4); reach = omega (arith, one (a .rank)); past = omega (arith, one (suc (a .rank))) })
-          (top-is (waysFrom (a .number)) (a .below) (a .rank) (omega (arith, one 0)) (c .before .pre .4)),
-      sym (one (a .rank)),
+          (record { below = omega (arith, is (a .below), s .pre .4); reach = omega (arith, is (a .rank)); past = omega (arith, is (suc (a .rank))) })
+          (top-is (waysFrom (a .number)) (a .below) (a .rank) (omega (arith, is 0)) (s .pre .4)),
+      c .choose .ensures,
     )
 
 loop-holds : tie.Need-loop-holds Inv-loop μ-loop
@@ -51,8 +61,8 @@ sub-middle c = search needs
 add-middle : tie.Need-add-middle Inv-loop μ-loop
 add-middle c = search needs
 
-choose-requires : tie.Need-choose-requires Inv-loop μ-loop
-choose-requires c κs =
+choose-requires-2 : tie.Need-choose-requires-2 Inv-loop μ-loop
+choose-requires-2 c κs =
     let s = c .before .before .before in
     let l = c .before .loop in
     let middle = l .low + (l .high - l .low) / 2 in
@@ -86,5 +96,5 @@ pub last-burst-spec : {M : Type 1} → statement M
 last-burst-spec =
     tie.close
     (tie.spec
-    Inv-loop μ-loop returns loop-holds add-loop sub-middle add-middle choose-requires loop-less loop-again loop-less-2 loop-again-2
+    Inv-loop μ-loop choose-requires returns loop-holds add-loop sub-middle add-middle choose-requires-2 loop-less loop-again loop-less-2 loop-again-2
     returns-2)
