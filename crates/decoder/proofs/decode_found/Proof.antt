@@ -16,7 +16,6 @@ use Rattle.cells.specs.Outcomes.{decodedFrom}
 use Rattle.cells.proofs.Erasures.{found-least, below-whole}
 use Rattle.construction_a.proofs.Found.{heads-below}
 use Rattle.construction_b.specs.DemandTwo as B
-use Rattle.construction_b.specs.Reading as B′
 use Rattle.params.specs.Given.{figuresOf, longOf, blocksCoding, LayoutFits, LongLayoutFits, LayoutFitsWith}
 use Rattle.params.specs.declared.Layout.{Layout}
 use Rattle.params.specs.declared.Spells.{Spells}
