@@ -1,5 +1,5 @@
 -- `kinds_of` meets its contract. Assumes nothing.
-use mathlib.Core.Path.{refl, _∙_}
+use mathlib.Core.Path.{refl}
 use native.Mathlib.Nat.{le-mul-of-pos-right}
 use native.Mathlib.Omega.{arith}
 use Rattle.placements.specs.Bridge.{startsIn}
@@ -34,8 +34,7 @@ returns c =
     let s = c .before .before .before .before in
     let l = s .args .layout in
     let marks = c .before .before .mark-bursts in
-    λ k h. (rw (s .pre .0 .layout .parts-is) at (c .mark-index .ensures k)) h
-    ∙ kind-is (figuresOf l) (startsIn (s .args .at)) _ (marks .ensures .1) k
+    λ k. rw (s .pre .0 .layout .parts-is, kind-is (figuresOf l) (startsIn (s .args .at)) _ (marks .ensures .1) k) at (c .mark-index .ensures k)
 
 pub kinds-of-spec : {M : Type 1} → statement M
 kinds-of-spec = tie.close (tie.spec mark-bursts-requires mark-index-requires returns)

@@ -1,5 +1,4 @@
 -- `cover_fitting` meets its contract: the layout's own numbers are those that its figures give. Assumes nothing.
-use mathlib.Core.Path.{_∙_}
 use Rattle.codes.proofs.Covering.{room-in, covers-within}
 use Rattle.codes.proofs.cover_fitting.Statement.{statement}
 use Rattle.codes.proofs.cover_fitting.Tie as tie
@@ -12,7 +11,7 @@ cover-within-requires c κs =
 returns : tie.Need-returns
 returns c =
     let s = c .before .before in
-    c .cover-within .ensures ∙ covers-within (s .args .layout) (s .pre) (s .args .map .now)
+    rw (covers-within (s .args .layout) (s .pre) (s .args .map .now)) at (c .cover-within .ensures)
 
 pub cover-fitting-spec : {M : Type 1} → statement M
 cover-fitting-spec = tie.close (tie.spec cover-within-requires returns)

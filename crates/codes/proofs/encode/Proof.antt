@@ -1,7 +1,6 @@
 -- `encode` meets its contract: figures that don't serve are refused as alone, and the others have a layout. Assumes nothing.
 use mathlib.Core.Path.{sym, ap, _∙_}
 use borrow.Author.Needs.{needs}
-use Rattle.cells.specs.Outcomes.{Coding, Encoded, encodeUnder}
 use Rattle.codes.specs.Answer.{figuredAs}
 use Rattle.codes.specs.Bridge.{codingOf}
 use Rattle.codes.proofs.Answered.{serves}
@@ -43,11 +42,7 @@ returns-2 c =
     let figures = c .before .before .before .before .before .before .before .layout in
     let layout = c .before .before .before .before .before .answer2 .given in
     let same = serves (s .args .figures) (figures .result) (layout .0 .0) (layout .1) (figures .ensures .0) (figures .ensures .1) .0 in
-    let e = ap (λ (d : Coding). encodeUnder d (heldAs (s .args .at)) (s .args .message .now) (s .args .word .now)) same in (
-      c .before .before .encode-fitting .ensures .0 ∙ ap (λ (o : Encoded). o .answer) e,
-      c .before .before .encode-fitting .ensures .1
-          ∙ ap (λ (o : Encoded). o .word) e,
-    )
+    rw same at (c .before .before .encode-fitting .ensures)
 
 pub encode-spec : {M : Type 1} → statement M
 encode-spec =

@@ -1,16 +1,9 @@
 -- `encode_fitting` meets its contract: its code's own writer does. Assumes nothing.
-use mathlib.Core.Path.{sym, ap, subst, _∙_}
+use mathlib.Core.Path.{subst}
 use borrow.Author.Needs.{needs}
-use Rattle.cells.specs.Outcomes.{Encoded, encodeUnder}
-use Rattle.placements.specs.Bridge.{heldAs}
-use Rattle.codes.specs.declared.Laid.{Laid}
-use Rattle.codes.specs.Given.{codingBy, FitsBy}
+use Rattle.codes.specs.Given.{FitsBy}
 use Rattle.codes.proofs.encode_fitting.Statement.{statement}
 use Rattle.codes.proofs.encode_fitting.Tie as tie
-
--- the outcome by a layout
-abbrev written : tie.Start → Laid → Encoded
-written s x = encodeUnder (codingBy x) (heldAs (s .args .at)) (s .args .message .now) (s .args .word .now)
 
 enum-known-laid : tie.Need-enum-known-laid
 enum-known-laid c = search needs
@@ -29,20 +22,14 @@ same-length c = search needs
 
 returns : tie.Need-returns
 returns c =
-    let s = c .before .before .before .before .before .before .before .before .before in
-    let e = sym (c .before .before .before .before .before .laid .given .1) in
-    let call = c .before .before .encode-fitting .ensures in
-    (call .0 ∙ ap (λ (x : Laid). written s x .answer) e, call .1 ∙ ap (λ (x : Laid). written s x .word) e)
+    rw (c .before .before .before .before .before .laid .given .1) (c .before .before .encode-fitting .ensures)
 
 same-length-2 : tie.Need-same-length-2
 same-length-2 c = search needs
 
 returns-2 : tie.Need-returns-2
 returns-2 c =
-    let s = c .before .before .before .before .before .before .before .before .before in
-    let e = sym (c .before .before .before .before .before .laid2 .given .1) in
-    let call = c .before .before .encode-fitting2 .ensures in
-    (call .0 ∙ ap (λ (x : Laid). written s x .answer) e, call .1 ∙ ap (λ (x : Laid). written s x .word) e)
+    rw (c .before .before .before .before .before .laid2 .given .1) (c .before .before .encode-fitting2 .ensures)
 
 pub encode-fitting-spec : {M : Type 1} → statement M
 encode-fitting-spec =

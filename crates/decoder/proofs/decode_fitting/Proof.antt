@@ -1,9 +1,8 @@
 -- `decode_fitting` meets its contract: 3, 4, or what a word that can be found gives. Assumes nothing.
-use mathlib.Core.Path.{refl, sym, ap, _∙_}
+use mathlib.Core.Path.{refl, sym, _∙_}
 use borrow.Author.Needs.{needs}
 use borrow.Author.Tests.{not-true, not-false}
-use Prim.Native.Nat.{ℕ}
-use Rattle.cells.specs.Outcomes.{Coding, decodedFrom}
+use Rattle.cells.specs.Outcomes.{Coding}
 use Rattle.params.specs.Given.{blocksCoding}
 use Rattle.params.specs.declared.Layout.{Layout}
 use Rattle.params.proofs.Either.{in-shape, in-order, numbers-in}
@@ -76,13 +75,13 @@ same-length c = search needs
 returns-4 : tie.Need-returns-4
 returns-4 c =
     let s = c .before .before .before .before .before .before .before .before .before .before .before .before .before .before .before .before in
-    c .before .before .decode-found .ensures
-    ∙ ap (λ (b : ℕ). decodedFrom b (s .args .message .now) (d s .codec .decode (s .args .word .now))) (numbers-in (l s) (s .pre) .burst-is)
-    ∙ sym (decode-read (d s) (s .args .word .now) (s .args .message .now) (in-order (l s) (s .pre) .0) (in-order (l s) (s .pre) .1)
+    let read =
+    decode-read (d s) (s .args .word .now) (s .args .message .now) (in-order (l s) (s .pre) .0) (in-order (l s) (s .pre) .1)
     (c .before .before .before .before .before .before .before .before .before .before .before .before .if1 .left ∙ numbers-in (l s) (s .pre) .word-is)
     (c .before .before .before .before .before .before .before .before .before .before .if2 .left ∙ numbers-in (l s) (s .pre) .len-is)
     (found-in (l s) (s .args .word .now) ∙ sym (c .before .before .before .before .before .before .before .before .can-be-found .ensures)
-    ∙ not-false _ (c .before .before .before .before .before .before .before .if3 .left)))
+    ∙ not-false _ (c .before .before .before .before .before .before .before .if3 .left)) in
+    rw (read, ← numbers-in (l s) (s .pre) .burst-is) (c .before .before .decode-found .ensures)
 
 pub decode-fitting-spec : {M : Type 1} → statement M
 decode-fitting-spec =

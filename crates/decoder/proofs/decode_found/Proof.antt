@@ -3,7 +3,7 @@ use mathlib.Core.Path.{_≡_, sym, ap, subst, _∙_}
 use mathlib.Core.Bool.{true}
 use mathlib.Core.List.{List, [], _∷_}
 use mathlib.Core.Option.{some}
-use Prim.Native.Nat.{ℕ, min}
+use Prim.Native.Nat.{ℕ}
 use native.Mathlib.Omega.{arith}
 use borrow.Author.Needs.{needs}
 use borrow.Author.Tests.{not-true, not-false}
@@ -16,14 +16,13 @@ use Rattle.cells.specs.Outcomes.{decodedFrom}
 use Rattle.cells.proofs.Erasures.{found-least, below-whole}
 use Rattle.construction_a.proofs.Found.{heads-below}
 use Rattle.construction_b.specs.DemandTwo as B
-use Rattle.construction_b.specs.Reading as B′
 use Rattle.params.specs.Given.{figuresOf, longOf, blocksCoding, LayoutFits, LongLayoutFits, LayoutFitsWith}
 use Rattle.params.specs.declared.Layout.{Layout}
 use Rattle.params.specs.declared.Spells.{Spells}
 use Rattle.params.proofs.Fitting.{heads-are, written-is}
 use Rattle.params.proofs.LongFitting.{long-written-is}
 use Rattle.params.proofs.Shape.{bound, blocks-most}
-use Rattle.heads.specs.Written.{firstSymbolsIn, writtenIn, OpenHeads}
+use Rattle.heads.specs.Written.{firstSymbolsIn, OpenHeads}
 use Rattle.heads.proofs.Listed.{index-none}
 use Rattle.heads.proofs.Looking.{shown}
 use Rattle.decoder.proofs.Calls.{index-some}
@@ -54,7 +53,7 @@ returns c =
     let a = c .before .before .before .index-read in
     c .unread .ensures (s .args .message .now)
     ∙ sym (ap (decodedFrom (l s .b) (s .args .message .now))
-    (read-none (l s) (s .pre .0 .fitting) (s .args .word .now) (sym (a .ensures) ∙ index-none (l s .m) (a .result) (not-true _ (c .before .if1 .taken)))))
+    (read-none (l s) (s .pre .0 .fitting) (s .args .word .now) (rw (← a .ensures) (index-none (l s .m) (a .result) (not-true _ (c .before .if1 .taken))))))
 
 index-whole-requires : tie.Need-index-whole-requires
 index-whole-requires c κs =
@@ -79,7 +78,7 @@ returns-2 c =
     c .unread2 .ensures (s .args .message .now)
     ∙ sym (ap (decodedFrom (l s .b) (s .args .message .now))
     (read-erased (l s) (s .pre .0 .fitting) (s .args .word .now) ks (found (c .before .before .before .before)) (known s ks)
-    (sym (c .before .before .index-whole .ensures) ∙ not-true _ (c .before .if2 .taken))))
+    (rw (← c .before .before .index-whole .ensures) (not-true _ (c .before .if2 .taken)))))
 
 -- ---- Index blocks that can be read
 
@@ -128,7 +127,7 @@ decode-rank-requires c κs =
               pattern = found (here .before .before .before);
               whole = ap (hasErasure (l s .q)) (sym (heads-are (l s) g w (ks here))) ∙ below-whole (l s .q) (firstSymbolsIn (l s) w (ks here)) (whole here);
             };
-        spelled = c .before .before .before .written-value .ensures ∙ ap (λ (v : ℕ). min v (l s .«placement_count»)) (written-is (l s) g w (ks here));
+        spelled = rw (written-is (l s) g w (ks here)) at (c .before .before .before .written-value .ensures);
       },
       s .pre .1,
     )
@@ -185,8 +184,7 @@ decode-offset-requires c κs =
               whole = ap (hasErasure (l s .q)) (sym (long-heads-are (l s) g w i) ∙ ap (firstSymbolsIn (l s) w) (sym (one .1)))
                   ∙ below-whole (l s .q) (firstSymbolsIn (l s) w (ks here)) (whole here);
             };
-        spelled = c .before .before .before .written-value .ensures
-            ∙ ap (λ (v : ℕ). min v (l s .«placement_count»)) (ap (writtenIn (l s) w) (one .1) ∙ long-written-is (l s) g w i);
+        spelled = rw (one .1, long-written-is (l s) g w i) at (c .before .before .before .written-value .ensures);
       },
       s .pre .1,
     )
@@ -208,7 +206,7 @@ shown-is c y e =
 returns-3 : tie.Need-returns-3
 returns-3 c =
     let here = c .before .before .before .before .before .before .before in
-    c .before .before .decode-rank .ensures ∙ shown-is here _ (c .before .before .before .before .enum-told .given .1)
+    rw (shown-is here _ (c .before .before .before .before .enum-told .given .1)) at (c .before .before .decode-rank .ensures)
 
 same-length-2 : tie.Need-same-length-2
 same-length-2 c = search needs
@@ -216,13 +214,8 @@ same-length-2 c = search needs
 returns-4 : tie.Need-returns-4
 returns-4 c =
     let here = c .before .before .before .before .before .before .before in
-    let s = start here in
-    let f = longOf (figuresOf (l s)) in
-    let w = s .args .word .now in
-    c .before .before .decode-offset .ensures
-    ∙ ap (λ (i : ℕ). decodedFrom (l s .b) (s .args .message .now) (B′.readPart f w (B′.before i) (B′.written f w i)))
-    (sym (part-is (c .before .before .before .before)))
-    ∙ shown-is here _ (c .before .before .before .before .enum-told2 .given .1)
+    rw (← part-is (c .before .before .before .before), shown-is here _ (c .before .before .before .before .enum-told2 .given .1))
+    at (c .before .before .decode-offset .ensures)
 
 pub decode-found-spec : {M : Type 1} → statement M
 decode-found-spec =

@@ -9,8 +9,8 @@ use borrow.Author.Tests.{not-true, not-false}
 use Rattle.combinatorics.specs.Bursts.{rankOf}
 use Rattle.combinatorics.specs.Lists.{allBelow}
 use Rattle.combinatorics.proofs.Lists.{below-at}
-use Rattle.cells.specs.Cells.{Cell, message as messageCell, pick}
-use Rattle.cells.specs.Codec.{accepted, refused}
+use Rattle.cells.specs.Cells.{message as messageCell, pick}
+use Rattle.cells.specs.Codec.{Reading, accepted, refused}
 use Rattle.cells.specs.Erasures.{foundBound}
 use Rattle.cells.specs.Outcomes.{Held, held, rankIs, Decoded, decodedFrom}
 use Rattle.cells.specs.Plan.{kindIn, planIn}
@@ -59,8 +59,8 @@ whole-is : (c : tie.After-message-whole) → c .message-whole .result ≡ allBel
 whole-is c =
     let s = c .before .before .before .before in
     let lent = s .pre .0 .lent in
-    (rw (c .before .walk-of .ensures) at (c .message-whole .ensures))
-    ∙ erasures-covered (l s) (lent .fitting) (s .args .word .now) (lent .finding .complete) (lent .found) (startsIn (s .args .placement)) (s .pre .0 .read-as)
+    let covered = erasures-covered (l s) (lent .fitting) (s .args .word .now) (lent .finding .complete) (lent .found) in
+    rw (c .before .walk-of .ensures, covered (startsIn (s .args .placement)) (s .pre .0 .read-as)) at (c .message-whole .ensures)
 
 walk-of-requires : tie.Need-walk-of-requires
 walk-of-requires c κs = search needs
@@ -104,9 +104,9 @@ same-length : tie.Need-same-length
 same-length c = search needs
 
 -- an accepted word
-read-whole : (b v : ℕ) (h : Held) (ss ms ms′ out : List ℕ) → v ≡ rankOf b ss → h ≡ held ss → ms ≡ ms′
-    → _≡_ {A = Decoded} (record { answer = rankIs v; placement = h; message = ms }) (decodedFrom b out (accepted ss ms′))
-read-whole b v h ss ms ms′ out e₁ e₂ e₃ = rw (e₁, e₂, e₃)
+read-whole : (b v : ℕ) (h : Held) (ss ms ms′ out : List ℕ) (r : Reading) → v ≡ rankOf b ss → h ≡ held ss → ms ≡ ms′ → r ≡ accepted ss ms′
+    → _≡_ {A = Decoded} (record { answer = rankIs v; placement = h; message = ms }) (decodedFrom b out r)
+read-whole b v h ss ms ms′ out r e₁ e₂ e₃ e₄ = rw (e₁, e₂, e₃, e₄)
 
 returns-2 : tie.Need-returns-2
 returns-2 c =
@@ -115,12 +115,10 @@ returns-2 c =
     let ss = startsIn (a .placement) in
     let call = c .before .before .take-message in
     let plan = plan-of (l s) (a .placement) (a .heads .now) (a .kinds .now) (s .pre .0 .placing) (s .pre .1) in
-    let picked = (rw (c .before .before .before .before .before .before .walk-of .ensures) at (call .ensures))
-    ∙ ap (λ (cs : List Cell). pick messageCell cs (a .word .now)) plan in
-    read-whole (l s .b) (a .rank) (heldAs (a .placement)) ss (call .last .1 .1 .1 .1 .1 .0) (taken s) (a .message .now) (s .pre .0 .ranked)
-    (s .pre .0 .is-held) picked
-    ∙ sym (ap (decodedFrom (l s .b) (a .message .now)) (reads-whole s
-    (sym (whole-is (c .before .before .before .before .before)) ∙ not-false _ (c .before .before .before .before .if1 .left))))
+    let picked = rw (c .before .before .before .before .before .before .walk-of .ensures, plan) at (call .ensures) in
+    read-whole (l s .b) (a .rank) (heldAs (a .placement)) ss (call .last .1 .1 .1 .1 .1 .0) (taken s) (a .message .now)
+    (readMessage (l s) (a .word .now) ss) (s .pre .0 .ranked) (s .pre .0 .is-held) picked
+    (reads-whole s (sym (whole-is (c .before .before .before .before .before)) ∙ not-false _ (c .before .before .before .before .if1 .left)))
 
 pub decode-placed-spec : {M : Type 1} → statement M
 decode-placed-spec =

@@ -105,7 +105,7 @@ returns-2 c =
     let here = c .before .before .before .before .before .before .before .before .before in
     c .unread2 .ensures out
     ∙ sym (ap (decodedFrom (l s .b) out) (ap (readRank (f s) w (ks s)) (sym (rank-is here)) ∙ disagreeing (f s) w (ks s) (s .args .rank) (below here)
-    (sym (c .before .before .agrees .ensures (ss s) (kinds-at (c .before .before .before .before))) ∙ not-true _ (c .before .if2 .taken))))
+    (rw (← c .before .before .agrees .ensures (ss s) (kinds-at (c .before .before .before .before))) (not-true _ (c .before .if2 .taken)))))
 
 -- what is left to read goes by the rank's placement
 placed : (c : tie.Else2) → readRank (f (start (c .before .before .before .before .before .before .before .before)))
@@ -121,7 +121,7 @@ placed c =
     let w = s .args .word .now in
     let un = c .before .before .before .before .unrank in
     agreeing (l s) (s .pre .0 .fitting) w (ks s) (s .args .rank) (below here)
-    (sym (c .before .agrees .ensures (ss s) (kinds-at (c .before .before .before))) ∙ not-false _ (c .if2 .left))
+    (rw (← c .before .agrees .ensures (ss s) (kinds-at (c .before .before .before))) (not-false _ (c .if2 .left)))
     ∙ ap (readMessage (l s) w) (sym (starts-held {p = un .result} (ss s) (un .ensures)))
 
 decode-placed-requires : tie.Need-decode-placed-requires
@@ -147,10 +147,7 @@ same-length c = search needs
 returns-3 : tie.Need-returns-3
 returns-3 c =
     let here = c .before .before .before .before .before .before .before .before .before .before .before .before .before in
-    let s = start here in
-    c .before .before .decode-placed .ensures
-    ∙ ap (decodedFrom (l s .b) (s .args .message .now)) (sym (placed (c .before .before .before .before .before))
-    ∙ ap (readRank (f s) (s .args .word .now) (ks s)) (rank-is here))
+    rw (← rank-is here, placed (c .before .before .before .before .before)) (c .before .before .decode-placed .ensures)
 
 pub decode-rank-spec : {M : Type 1} → statement M
 decode-rank-spec =

@@ -53,8 +53,9 @@ fill-requires c κs =
     let l = s .args .layout in
     let w = c .before .before .before .walk-of in
     let sized : length (s .args .at .starts) ≡ maxBursts = search needs in
+    let number = rw (w .ensures) at (c .before .before .may-write .ensures) in
     let u = unrefused (l .n) (l .m) (l .b) (l .q) (l .«message_len») (heldAs (s .args .at)) (s .args .message .now) (length (s .args .word .now))
-    (sym (number-walked (w .result) (walkOf l) _ _ _ _ _ (w .ensures)) ∙ sym (c .before .before .may-write .ensures) ∙ c .before .if1 .left) in
+    (rw number at (c .before .if1 .left)) in
     (s .pre, record { placing = placing-of l (s .args .at) sized (in-shape l (s .pre)) (u .count) (u .placed); sent = u .sent; room = u .room })
 
 same-length : tie.Need-same-length

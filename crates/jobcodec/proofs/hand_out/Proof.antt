@@ -42,8 +42,8 @@ returns-2 c =
     let ms = s .args .message .now in
     ap handOut (c .before .before .unspell .ensures)
     ∙ sym (handed es (s .args .payload .now) (payloadIn (s .args .q) (length ms) ms)
-    (ap (λ (n : ℕ). needsOpen (standing (lookup es n))) (sym (c .before .before .before .before .before .before .number-in .ensures))
-    ∙ sym (c .before .before .before .before .before .needs-open .ensures) ∙ c .before .before .before .before .if1 .left))
+    (rw (← c .before .before .before .before .before .before .number-in .ensures, ← c .before .before .before .before .before .needs-open .ensures)
+    (c .before .before .before .before .if1 .left)))
 
 pub hand-out-spec : {M : Type 1} → statement M
 hand-out-spec =

@@ -1,11 +1,10 @@
 -- `job_read` meets its contract. Assumes nothing.
 use mathlib.Core.Path.{_≡_, sym, ap, _∙_}
 use borrow.Author.Needs.{needs}
-use Rattle.cells.specs.Outcomes.{Coding}
 use Rattle.codes.specs.Answer.{figuredAs}
 use Rattle.codes.specs.Bridge.{codingOf}
 use Rattle.jobs.specs.Slots.{entries}
-use Rattle.jobcodec.specs.JobRead.{JobRead, jobReadUnder}
+use Rattle.jobcodec.specs.JobRead.{JobRead}
 use Rattle.jobcodec.proofs.Calls.{read-twice, read-unfit, LaidFor, laid}
 use Rattle.jobcodec.proofs.job_read.Statement.{statement}
 use Rattle.jobcodec.proofs.job_read.Tie as tie
@@ -55,9 +54,7 @@ same-length c = search needs
 
 returns-3 : tie.Need-returns-3
 returns-3 c =
-    let a = c .before .before .before .before .before .before .before .before .before .before .before .before .args in
-    each (c .before .before .read-laid .ensures
-    ∙ ap (λ (d : Coding). jobReadUnder d (entries (a .table)) (a .word .now) (a .payload .now)) (learnt (c .before .before .before .before .before) .same))
+    each (rw (learnt (c .before .before .before .before .before) .same) at (c .before .before .read-laid .ensures))
 
 pub job-read-spec : {M : Type 1} → statement M
 job-read-spec =

@@ -1,12 +1,11 @@
 -- `job_write` meets its contract. Assumes nothing.
 use mathlib.Core.Path.{_≡_, sym, ap, _∙_}
 use borrow.Author.Needs.{needs}
-use Rattle.cells.specs.Outcomes.{Coding, Encoded}
+use Rattle.cells.specs.Outcomes.{Encoded}
 use Rattle.codes.specs.Answer.{figuredAs}
 use Rattle.codes.specs.Bridge.{codingOf}
 use Rattle.placements.specs.Bridge.{heldAs}
 use Rattle.jobs.specs.Slots.{entries}
-use Rattle.jobcodec.specs.JobWrite.{jobWriteUnder}
 use Rattle.jobcodec.proofs.Calls.{write-twice, write-unfit, LaidFor, laid}
 use Rattle.jobcodec.proofs.job_write.Statement.{statement}
 use Rattle.jobcodec.proofs.job_write.Tie as tie
@@ -57,9 +56,7 @@ same-length c = search needs
 
 returns-3 : tie.Need-returns-3
 returns-3 c =
-    let a = c .before .before .before .before .before .before .before .before .before .before .before .before .args in
-    each (c .before .before .write-laid .ensures ∙ ap (λ (d : Coding). jobWriteUnder d (entries (a .table)) (heldAs (a .at)) (a .payload .now)
-    (a .word .now)) (learnt (c .before .before .before .before .before) .same))
+    each (rw (learnt (c .before .before .before .before .before) .same) at (c .before .before .write-laid .ensures))
 
 pub job-write-spec : {M : Type 1} → statement M
 job-write-spec =

@@ -82,7 +82,7 @@ returns-2 c =
     let told = c .before .before .before .before .before .enum-told .given in
     let d = c .before .before .before .before .before .before .before .before .before .read-spelled in
     let same : length (d .last .1 .1 .0) ≡ codingIn (s .args .layout) .codec .messageLen = search (needs, s .pre .room) in
-    c .before .before .hand-out .ensures ∙ rw same (sym (spelled s (d .result) _ (d .last .1 .1 .0) (told .1) (d .ensures .0) (d .ensures .1)))
+    rw (spelled s (d .result) _ (d .last .1 .1 .0) (told .1) (d .ensures .0) (d .ensures .1), ← same) (c .before .before .hand-out .ensures)
 
 pub read-message-spec : {M : Type 1} → statement M
 read-message-spec =

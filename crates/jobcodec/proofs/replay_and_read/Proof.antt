@@ -1,12 +1,10 @@
 -- `replay_and_read` meets its contract: the table follows the ledger, and the reading under it is what demand 3 claims. Assumes nothing.
-use mathlib.Core.Path.{_≡_, sym, ap₂, subst}
-use mathlib.Core.List.{List}
-use Prim.Native.Nat.{ℕ}
+use mathlib.Core.Path.{_≡_, sym, subst}
 use borrow.Author.Needs.{needs}
 use Rattle.codes.specs.Bridge.{codingOf}
 use Rattle.ledger.specs.Replay.{callsOf, replayed}
 use Rattle.jobs.specs.Slots.{entries}
-use Rattle.jobcodec.specs.JobRead.{JobRead, jobReadUnder}
+use Rattle.jobcodec.specs.JobRead.{jobReadUnder}
 use Rattle.jobcodec.specs.DemandThree.{Claim}
 use Rattle.jobcodec.specs.Given.{seen}
 use Rattle.jobcodec.proofs.DemandThree.{follows-figures}
@@ -49,7 +47,7 @@ returns-2 c =
     let es = entries (r .result .table) in
     let calls = callsOf (a .letters .now) (a .numbers .now) in
     let read : seen (j .result) (j .last .1 .1 .1 .0) ≡ jobReadUnder d es (a .word .now) (a .payload .now) =
-    ap₂ {C = JobRead} (λ (n : ℕ) (y : List ℕ). record { answer = n; payload = y }) (j .ensures .0) (j .ensures .1) in (
+    rw (j .ensures .0, j .ensures .1) in (
       list-goes-on d (entries (a .table)) (a .letters .now) (a .numbers .now) (a .answers .now) (a .word .now) (a .payload .now)
           (replayed (r .result) answers) (r .ensures .0) (seen (j .result) (j .last .1 .1 .1 .0)) served read,
       λ before agrees. subst (Claim d before calls (a .word .now) (a .payload .now) answers) (sym read)

@@ -1,5 +1,5 @@
 -- `write_laid` meets its contract: what is refused keeps the word, and what is not is written. Assumes nothing.
-use mathlib.Core.Path.{_≡_, sym, ap, ap₂, _∙_}
+use mathlib.Core.Path.{_≡_, sym, ap₂, _∙_}
 use Prim.Native.Nat.{ℕ, _≤_}
 use native.Mathlib.Omega.{arith}
 use borrow.Author.Needs.{needs}
@@ -7,7 +7,7 @@ use lib.ListN.{length, take, replicate}
 use lib.Seq.{length-take-le}
 use Rattle.combinatorics.proofs.Lists.{at-below}
 use Rattle.cells.specs.Bytes.{byteValues, payloadLen}
-use Rattle.cells.specs.Outcomes.{unwritten, encodeUnder}
+use Rattle.cells.specs.Outcomes.{encodeUnder}
 use Rattle.cells.specs.Figures.{maxWord}
 use Rattle.params.specs.Given.{shortWord}
 use Rattle.codes.specs.Given.{codingIn}
@@ -30,7 +30,7 @@ passed : (c : tie.Else1) → WrittenUnder (codingIn (c .before .before .before .
 passed c =
     let a = c .before .before .before .before .before .args in
     written-under (codingIn (a .layout)) (entries (a .table)) (heldAs (a .at)) (a .payload .now) (a .word .now)
-    (sym (c .before .write-refusal .ensures) ∙ c .if1 .left)
+    (rw (← c .before .write-refusal .ensures) (c .if1 .left))
 
 write-refusal-requires : tie.Need-write-refusal-requires
 write-refusal-requires c κs = search needs
@@ -43,7 +43,7 @@ returns c =
     let a = c .before .before .before .before .before .args in
     let out = a .word .now in
     let kept = refused-keeps out (codingIn (a .layout)) (entries (a .table)) (heldAs (a .at)) (a .payload .now) in
-    ap (unwritten out) (c .before .write-refusal .ensures) ∙ kept (λ d. c .if1 .taken (c .before .write-refusal .ensures ∙ d))
+    rw (c .before .write-refusal .ensures) (kept (rw (c .before .write-refusal .ensures) at (c .if1 .taken)))
 
 -- the word of a message that is lent in an array with room for it
 module _ (c : tie.Else1) (room : ℕ) (fits : c .before .before .before .before .before .args .layout .«message_len» ≤ room) where

@@ -1,12 +1,7 @@
 -- `write_message` meets its contract: the word is that of the payload's message. Assumes nothing.
-use mathlib.Core.Path.{ap, ap₂, _∙_}
-use mathlib.Core.List.{List}
-use Prim.Native.Nat.{ℕ, _≤_}
+use Prim.Native.Nat.{_≤_}
 use borrow.Author.Needs.{needs}
-use Rattle.cells.specs.Outcomes.{Encoded, encodeUnder}
-use Rattle.codes.specs.Given.{codingIn}
 use Rattle.codes.proofs.Layouts.{bound}
-use Rattle.placements.specs.Bridge.{heldAs}
 use Rattle.jobcodec.proofs.write_message.Statement.{statement}
 use Rattle.jobcodec.proofs.write_message.Tie as tie
 
@@ -32,12 +27,8 @@ same-length-2 c = search needs
 
 returns : tie.Need-returns
 returns c =
-    let a = c .before .before .before .before .before .before .before .before .before .before .before .before .before .args in
-    let out = a .word .now in
-    ap₂ {C = Encoded} (λ (n : ℕ) (w : List ℕ). record { answer = n; word = w }) (c .before .before .encode-fitting .ensures .0)
-    (c .before .before .encode-fitting .ensures .1)
-    ∙ ap (λ (ms : List ℕ). encodeUnder (codingIn (a .layout)) (heldAs (a .at)) ms out)
-    (c .before .before .before .before .before .before .before .spell-payload .ensures)
+    let written = c .before .before .encode-fitting .ensures in
+    rw (written .0, written .1, c .before .before .before .before .before .before .before .spell-payload .ensures)
 
 pub write-message-spec : {M : Type 1} → statement M
 write-message-spec =

@@ -128,7 +128,7 @@ same-length c = search needs
 returns-5 : tie.Need-returns-5
 returns-5 c =
     let e = c .before .before .before .before .before .before .before .before in
-    c .before .before .decode-found .ensures ∙ sym (reads e)
+    rw (reads e) (c .before .before .decode-found .ensures)
 
 pub decode-fitting-spec : {M : Type 1} → statement M
 decode-fitting-spec =

@@ -6,16 +6,14 @@ use native.Mathlib.Omega.{arith}
 use borrow.Author.Needs.{needs}
 use borrow.Author.Tests.{not-true, not-false}
 use lib.ListN.{length}
-use Rattle.combinatorics.specs.Bursts.{apart, covers}
+use Rattle.combinatorics.specs.Bursts.{apart}
 use Rattle.combinatorics.specs.Lists.{allBelow}
 use Rattle.combinatorics.proofs.Bursts.{of-placed}
 use Rattle.cells.specs.Cells.{message as messageCell, pick}
-use Rattle.cells.specs.Erasures.{erasedAt}
 use Rattle.cells.specs.Outcomes.{Held, decodedFrom}
 use Rattle.cells.specs.Figures.{Params}
 use Rattle.cells.proofs.Figures.{placed-starts}
 use Rattle.larsson.specs.Writing.{plan}
-use Rattle.stretches.specs.declared.Walk.{Walk}
 use Rattle.placements.specs.Bridge.{heldAs, startsIn}
 use Rattle.larsson_words.specs.Walked as Words
 use Rattle.larsson_params.specs.declared.LarssonLayout.{LarssonLayout}
@@ -49,9 +47,8 @@ told : (c : tie.After-cover-erasures) → (let s = c .before .before .before .be
 told c =
     let s = c .before .before .before .before in
     let a = s .args in
-    c .cover-erasures .ensures
-    ∙ ap (λ (n : ℕ). covers n (l s .b) (erasedAt (l s .q) (a .word .now)) (ss s)) (s .pre .0 .finding .complete)
-    ∙ whole-is (l s) (a .word .now) (s .pre .0 .finding) (a .rank) (a .placement) (a .kinds .now) (s .pre .2)
+    let whole = whole-is (l s) (a .word .now) (s .pre .0 .finding) (a .rank) (a .placement) (a .kinds .now) (s .pre .2) in
+    rw (s .pre .0 .finding .complete, whole) at (c .cover-erasures .ensures)
 
 cast-cover-erasures : tie.Need-cast-cover-erasures
 cast-cover-erasures c =
@@ -115,11 +112,9 @@ returns-2 c =
     let t = w .before .before in
     let s = t .before .before .before .before in
     let a = s .args in
-    let as-walked : pick messageCell (plan (Words.figuresWalked (w .walk-of .result) (l s .q)) (ss s)) (a .word .now) ≡ taken s =
-    ap (λ (y : Walk). pick messageCell (plan (Words.figuresWalked y (l s .q)) (ss s)) (a .word .now)) (w .walk-of .ensures) in
     read-whole (l s .b) (a .rank) (heldAs (a .placement)) (ss s) (k .take-message .last .1 .1 .1 .1 .1 .1 .0) (taken s) (a .message .now)
     (s .pre .2 .ranked) (s .pre .2 .is-held)
-    (k .take-message .ensures ∙ as-walked)
+    (rw (w .walk-of .ensures) at (k .take-message .ensures))
     ∙ sym (ap (decodedFrom (l s .b) (a .message .now))
     (reads-whole (l s) (a .word .now) (s .pre .0 .finding) (a .rank) (a .placement) (a .kinds .now) (s .pre .2)
     (sym (told t) ∙ not-false _ (w .before .if1 .left))))

@@ -1,11 +1,6 @@
 -- `fill` meets its contract: the rank's digits in each bearer, and the message in what remains. Assumes nothing.
-use mathlib.Core.Path.{ap, ap₂, _∙_}
-use mathlib.Core.List.{List}
-use Prim.Native.Nat.{ℕ}
 use borrow.Author.Needs.{needs}
-use Rattle.cells.specs.Cells.{Cell, weave}
 use Rattle.larsson.specs.Writing.{word}
-use Rattle.stretches.specs.Walk.{digitsBy}
 use Rattle.larsson_words.proofs.Walking.{walks-of, plan-of, message-of, digits-lent, digits-of}
 use Rattle.larsson_words.proofs.fill.Statement.{statement}
 use Rattle.larsson_words.proofs.fill.Tie as tie
@@ -29,9 +24,7 @@ unfolding word
 returns c =
     let s = c .before .before .before .before .before .before .before in
     let W = s .pre .walked in
-    c .before .before .fill-cells .ensures
-    ∙ ap₂ (λ (cs : List Cell) (r : List ℕ). weave cs r (s .args .message .now)) (plan-of W)
-    (ap (digitsBy (s .args .walk) (s .args .kinds .now)) (s .pre .digits-are) ∙ digits-of W)
+    rw (s .pre .digits-are, plan-of W, digits-of W) at (c .before .before .fill-cells .ensures)
 
 pub fill-spec : {M : Type 1} → statement M
 fill-spec = tie.close (tie.spec fill-cells-requires same-length returns)

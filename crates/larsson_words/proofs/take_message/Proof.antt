@@ -1,8 +1,5 @@
 -- `take_message` meets its contract. Assumes nothing.
-use mathlib.Core.Path.{ap, _∙_}
-use mathlib.Core.List.{List}
 use borrow.Author.Needs.{needs}
-use Rattle.cells.specs.Cells.{Cell, message as messageCell, pick}
 use Rattle.larsson_words.proofs.Walking.{walks-of, plan-of, message-of}
 use Rattle.larsson_words.proofs.take_message.Statement.{statement}
 use Rattle.larsson_words.proofs.take_message.Tie as tie
@@ -19,7 +16,7 @@ same-length c = search needs
 returns : tie.Need-returns
 returns c =
     let s = c .before .before .before .before .before .before in
-    c .before .before .take-message .ensures ∙ ap (λ (cs : List Cell). pick messageCell cs (s .args .word .now)) (plan-of (s .pre .walked))
+    rw (plan-of (s .pre .walked)) at (c .before .before .take-message .ensures)
 
 pub take-message-spec : {M : Type 1} → statement M
 take-message-spec = tie.close (tie.spec take-message-requires same-length returns)

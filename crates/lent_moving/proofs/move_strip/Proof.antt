@@ -1,12 +1,9 @@
 -- `move_strip` meets its contract: what a move without a table is refused with, 1, or what the move answers. Assumes nothing.
 use mathlib.Core.Path.{sym, ap, _∙_}
-use mathlib.Core.List.{List}
 use borrow.Author.Needs.{needs}
 use borrow.Author.Tests.{not-true, not-false}
 use Rattle.cells.specs.Outcomes.{unwritten}
 use Rattle.codes.specs.Bridge.{codingOf}
-use Rattle.jobs.specs.declared.Entry.{Entry}
-use Rattle.moving.specs.Move.{moveUnder}
 use Rattle.lent_moving.proofs.MoveLaws.{bytes-other, bytes-state, bytes-whole}
 use Rattle.lent_moving.proofs.move_strip.Statement.{statement}
 use Rattle.lent_moving.proofs.move_strip.Tie as tie
@@ -44,10 +41,9 @@ returns-3 c =
     let a = t .before .before .before .before .before .before .args in
     let d = codingOf (a .from) in
     let e = codingOf (a .to) in
-    c .before .before .move-strip .ensures
-    ∙ ap (λ (es : List Entry). moveUnder d e es (a .strip .now) (a .moved .now)) (c .before .before .before .before .table-in .ensures)
-    ∙ bytes-whole d e (a .table .now) (a .strip .now) (a .moved .now) (t .before .before .if1 .left)
-    (sym (t .before .states-known .ensures) ∙ not-false _ (t .if2 .left))
+    let whole = bytes-whole d e (a .table .now) (a .strip .now) (a .moved .now) (t .before .before .if1 .left)
+    (sym (t .before .states-known .ensures) ∙ not-false _ (t .if2 .left)) in
+    rw (c .before .before .before .before .table-in .ensures, whole) at (c .before .before .move-strip .ensures)
 
 pub move-strip-spec : {M : Type 1} → statement M
 move-strip-spec =

@@ -123,9 +123,9 @@ returns-2 c =
     let u = c .before .before .before .before .before in
     let t = st u in
     let g = t .pre in
-    c .before .before .move-message .ensures
-    ∙ goes-on (d t) (e t) (from t) (to t) (g .alike) (entries (t .args .table)) (w t) (out t) (take (k t) (replicate maxWord 0))
-    (g .complete) (g .lent) (room t) (u .enum-told .given .0 .0) (u .before .before .before .before .decode-fitting .result .placement) (ms u) (is u)
+    let on = goes-on (d t) (e t) (from t) (to t) (g .alike) (entries (t .args .table)) (w t) (out t) (take (k t) (replicate maxWord 0))
+    (g .complete) (g .lent) (room t) (u .enum-told .given .0 .0) (u .before .before .before .before .decode-fitting .result .placement) (ms u) (is u) in
+    rw on at (c .before .before .move-message .ensures)
 
 pub move-fitting-spec : {M : Type 1} → statement M
 move-fitting-spec =

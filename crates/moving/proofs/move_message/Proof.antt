@@ -1,11 +1,10 @@
 -- `move_message` meets its contract: what the message is refused with, or the word of the other message. Assumes nothing.
-use mathlib.Core.Path.{_≡_, sym, ap₂, subst, _∙_}
-use mathlib.Core.List.{List}
+use mathlib.Core.Path.{_≡_, sym, subst, _∙_}
 use Prim.Native.Nat.{ℕ, _≤_}
 use borrow.Author.Needs.{needs}
 use lib.ListN.{length, take, drop, replicate}
 use Rattle.cells.specs.Bytes.{payloadLen}
-use Rattle.cells.specs.Outcomes.{Coding, Encoded, unwritten}
+use Rattle.cells.specs.Outcomes.{Coding}
 use Rattle.cells.specs.Figures.{maxWord}
 use Rattle.codes.specs.Given.{HasNumbers, codingIn}
 use Rattle.codes.proofs.Layouts.{Bounded, in-order, numbers-in, small-in, bound}
@@ -77,12 +76,13 @@ returns-2 c =
     let t = c .before .before .before .before .before .before .before .before .before .before .before in
     let a = t .args in
     let m = c .before .before .before .before .before .before .before .other-message in
-    ap₂ {C = Encoded} (λ (n : ℕ) (w : List ℕ). unwritten w n) (c .before .before .encode-fitting .ensures .0) (c .before .before .encode-fitting .ensures .1)
-    ∙ write-encodes (d t) (entries (a .table)) (a .at) (a .message .now) (a .word .now) (take (k t) (replicate maxWord 0)) (a .target .q) (k t)
+    let written = c .before .before .encode-fitting .ensures in
+    rw (written .0, written .1)
+    (write-encodes (d t) (entries (a .table)) (a .at) (a .message .now) (a .word .now) (take (k t) (replicate maxWord 0)) (a .target .q) (k t)
     (is t .alphabet-is) (is t .len-is) (lent t) (t .pre .1) (m .result) (m .ensures .0) (in-order (a .target) (t .pre .0) .0)
     (in-order (a .target) (t .pre .0) .1) (small-in (a .target) (t .pre .0) .alphabet-least)
     (c .before .before .before .before .before .if1 .left) (m .last .1 .1 .1 .0) (drop (k t) (replicate maxWord 0))
-    (c .before .before .before .before .before .before .other2 .given ∙ lent t) (m .ensures .1)
+    (c .before .before .before .before .before .before .other2 .given ∙ lent t) (m .ensures .1))
 
 pub move-message-spec : {M : Type 1} → statement M
 move-message-spec =

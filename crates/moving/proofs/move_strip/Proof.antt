@@ -1,14 +1,12 @@
 -- `move_strip` meets its contract. Assumes nothing.
-use mathlib.Core.Path.{_≡_, sym, ap₂, subst, _∙_}
+use mathlib.Core.Path.{_≡_, sym, subst, _∙_}
 use mathlib.Core.Bool.{false}
 use borrow.Author.Needs.{needs}
 use lib.ListN.{length}
-use Rattle.cells.specs.Outcomes.{Coding, Encoded}
 use Rattle.codes.specs.Bridge.{codingOf}
 use Rattle.codes.specs.Given.{codingIn}
 use Rattle.jobs.specs.Slots.{entries}
 use Rattle.jobs.specs.Table.{twice}
-use Rattle.moving.specs.Move.{moveUnder}
 use Rattle.moving.specs.Given.{BothReady}
 use Rattle.moving.specs.Both.{BothIn}
 use Rattle.moving.proofs.FitBoth.{out-twice, out-refused, out-fitting}
@@ -69,9 +67,8 @@ returns-3 c =
     let w = a .strip .now in
     let out = a .moved .now in
     let own = learnt t in
-    c .before .before .move-fitting .ensures
-    ∙ sym (out-fitting (t .answer2 .given .0 .0) (t .answer2 .given .0 .1 .0) es w out (own .2) (once (t .before .before .before)))
-    ∙ ap₂ {C = Encoded} (λ (d e : Coding). moveUnder d e es w out) (own .0) (own .1)
+    rw (← own .0, ← own .1, out-fitting (t .answer2 .given .0 .0) (t .answer2 .given .0 .1 .0) es w out (own .2) (once (t .before .before .before)))
+    (c .before .before .move-fitting .ensures)
 
 pub move-strip-spec : {M : Type 1} → statement M
 move-strip-spec =

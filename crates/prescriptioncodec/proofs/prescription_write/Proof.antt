@@ -1,13 +1,12 @@
 -- `prescription_write` meets its contract. Assumes nothing.
 use mathlib.Core.Path.{_≡_, sym, ap, _∙_}
 use borrow.Author.Needs.{needs}
-use Rattle.cells.specs.Outcomes.{Coding, Encoded}
+use Rattle.cells.specs.Outcomes.{Encoded}
 use Rattle.codes.specs.Bridge.{codingOf}
 use Rattle.codes.specs.Answer.{figuredAs}
 use Rattle.placements.specs.Bridge.{heldAs}
 use Rattle.jobs.specs.Slots.{entries}
 use Rattle.jobcodec.proofs.Calls.{LaidFor, laid}
-use Rattle.prescriptioncodec.specs.PrescriptionWrite.{prescriptionWriteUnder}
 use Rattle.prescriptioncodec.proofs.Calls.{write-twice, write-unfit}
 use Rattle.prescriptioncodec.proofs.prescription_write.Statement.{statement}
 use Rattle.prescriptioncodec.proofs.prescription_write.Tie as tie
@@ -58,9 +57,7 @@ same-length c = search needs
 
 returns-3 : tie.Need-returns-3
 returns-3 c =
-    let a = c .before .before .before .before .before .before .before .before .before .before .before .args in
-    each (c .before .before .write-laid .ensures ∙ ap (λ (d : Coding). prescriptionWriteUnder d (entries (a .table)) (heldAs (a .at)) (a .number)
-    (a .prescription) (a .word .now)) (learnt (c .before .before .before .before .before) .same))
+    each (rw (learnt (c .before .before .before .before .before) .same) at (c .before .before .write-laid .ensures))
 
 pub prescription-write-spec : {M : Type 1} → statement M
 prescription-write-spec =

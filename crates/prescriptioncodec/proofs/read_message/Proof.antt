@@ -51,10 +51,9 @@ returns-2 c =
     let told = c .before .before .before .before .before .enum-told .given in
     let d = c .before .before .before .before .before .before .before .before .before .read-spelled in
     let same : length (d .last .1 .1 .0) ≡ codingIn (s .args .layout) .codec .messageLen = search (needs, s .pre .room) in
-    c .before .before .hand-out .ensures
-    ∙ rw same (sym (read-spelled (s .args .layout) (s .pre .serves) (entries (s .args .table)) (s .args .word .now) (s .args .message .now)
-    (d .last .1 .1 .0) (s .pre .ready) (s .pre .room)
-    (d .result) _ (told .1) (d .ensures .0) (d .ensures .1)))
+    let spelled = read-spelled (s .args .layout) (s .pre .serves) (entries (s .args .table)) (s .args .word .now) (s .args .message .now)
+    (d .last .1 .1 .0) (s .pre .ready) (s .pre .room) (d .result) _ (told .1) (d .ensures .0) (d .ensures .1) in
+    rw (spelled, ← same) (c .before .before .hand-out .ensures)
 
 pub read-message-spec : {M : Type 1} → statement M
 read-message-spec =

@@ -1,5 +1,5 @@
 -- `write_payload` meets its contract: 16, or the job writing of number and text. Assumes nothing.
-use mathlib.Core.Path.{refl, sym, _∙_}
+use mathlib.Core.Path.{refl, sym}
 use native.Mathlib.Omega.{arith}
 use borrow.Author.Needs.{needs}
 use lib.ListN.{length}
@@ -62,11 +62,11 @@ returns-2 c =
     let spelt = c .before .before .before .before .before .before .before .spell-value in
     let y = s .args .payload .now in
     let front = spelt .last .1 .1 .0 in
-    c .before .before .write-laid .ensures
-    ∙ text-goes-on (s .args .prescription) y (text .last .1 .0) (text .result) (s .pre .1) (text .ensures) (codingIn (s .args .layout))
+    let on = text-goes-on (s .args .prescription) y (text .last .1 .0) (text .result) (s .pre .1) (text .ensures) (codingIn (s .args .layout))
     (entries (s .args .table)) (heldAs (s .args .at)) (s .args .number) (length (s .args .payload .now)) (s .args .word .now)
     (c .before .before .before .before .before .before .before .before .before .if1 .left) front
-    (number-spelt y (text .last .1 .0) (s .args .number) (s .pre .1) front (spelt .ensures)) refl
+    (number-spelt y (text .last .1 .0) (s .args .number) (s .pre .1) front (spelt .ensures)) refl in
+    rw on at (c .before .before .write-laid .ensures)
 
 pub write-payload-spec : {M : Type 1} → statement M
 write-payload-spec =

@@ -24,8 +24,8 @@ spoil-requires c κs =
     let s = c .before .before .before .before .before .before .before .before .before .before in
     let h = s .pre in
     let f = s .args .figures in
-    let written = c .before .before .before .before .encode .ensures .1 ∙ is-written f (heldAs (s .args .at)) (s .args .message .now) (s .args .damage .now)
-    (s .args .word .now) (s .args .read .now) h in
+    let written = rw (is-written f (heldAs (s .args .at)) (s .args .message .now) (s .args .damage .now) (s .args .word .now) (s .args .read .now) h)
+    at (c .before .before .before .before .encode .ensures .1) in
     record {
       few = few-bursts f (heldAs (s .args .at)) (s .args .message .now) (s .args .damage .now) (s .args .word .now) (s .args .read .now) h;
       room = h .damage-len ∙ sym (ap length written ∙ written-len f (heldAs (s .args .at)) (s .args .message .now) (s .args .damage .now)
@@ -51,8 +51,8 @@ returns c =
     let h = s .pre in
     let f = s .args .figures in
     let ds = s .args .damage .now in
-    let written = c .before .before .before .before .before .before .before .before .before .before .before .before .encode .ensures .1
-    ∙ is-written f (heldAs (s .args .at)) (s .args .message .now) ds (s .args .word .now) (s .args .read .now) h in
+    let written = rw (is-written f (heldAs (s .args .at)) (s .args .message .now) ds (s .args .word .now) (s .args .read .now) h)
+    at (c .before .before .before .before .before .before .before .before .before .before .before .before .encode .ensures .1) in
     let found = spoilt-as (startsIn (s .args .at)) ds (c .before .before .before .before .before .before .before .before .before .burst-len .ensures)
     written (c .before .before .before .before .before .before .before .spoil .ensures) in (
       found,

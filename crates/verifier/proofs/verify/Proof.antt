@@ -1,11 +1,9 @@
 -- `verify` meets its contract: figures that don't serve are refused as alone, and the others have a layout. Assumes nothing.
-use mathlib.Core.Path.{sym, ap, _∙_}
+use mathlib.Core.Path.{sym}
 use borrow.Author.Needs.{needs}
-use Rattle.cells.specs.Outcomes.{Coding}
 use Rattle.placements.specs.Bridge.{heldAs}
 use Rattle.codes.specs.Bridge.{codingOf}
 use Rattle.codes.proofs.Answered.{refused-learnt, serves}
-use Rattle.verifier.specs.Verify.{verifyUnder}
 use Rattle.verifier.proofs.Calls.{verify-unfit}
 use Rattle.verifier.proofs.verify.Statement.{statement}
 use Rattle.verifier.proofs.verify.Tie as tie
@@ -40,7 +38,7 @@ returns-2 c =
     let figures = c .before .before .before .before .layout in
     let told = c .before .before .answer2 .given in
     let same = serves (s .args .figures) (figures .result) (told .0 .0) (told .1) (figures .ensures .0) (figures .ensures .1) .0 in
-    c .verify-fitting .ensures ∙ ap (λ (d : Coding). verifyUnder d (heldAs (s .args .at)) (s .args .message .now) (s .args .word .now)) same
+    rw same at (c .verify-fitting .ensures)
 
 pub verify-spec : {M : Type 1} → statement M
 verify-spec =

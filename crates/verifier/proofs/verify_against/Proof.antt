@@ -1,17 +1,15 @@
 -- `verify_against` meets its contract: what writing refuses, 4 for the word, or whether the bursts cover every difference. Assumes nothing.
 use mathlib.Core.Path.{_≡_, sym, ap, _∙_}
 use mathlib.Core.Bool.{Bool, true, false, cond}
-use mathlib.Core.List.{List}
 use Prim.Native.Nat.{ℕ}
 use native.Mathlib.Omega.{arith}
 use borrow.Author.Needs.{needs}
 use borrow.Author.Tests.{not-true, not-false}
 use lib.ListN.{length}
 use Rattle.refusals.specs.Refusals.{must, badSymbol}
-use Rattle.combinatorics.specs.Bursts.{covers}
 use Rattle.combinatorics.specs.Lists.{allBelow}
 use Rattle.cells.specs.Outcomes.{Coding}
-use Rattle.placements.specs.Bridge.{heldAs, startsIn, differAt}
+use Rattle.placements.specs.Bridge.{heldAs, startsIn}
 use Rattle.codes.specs.declared.WordLayout.{WordLayout}
 use Rattle.codes.specs.Given.{codingIn}
 use Rattle.codes.proofs.Layouts.{numbers-in, small-in, bound, found-in, spoilt-in}
@@ -35,7 +33,7 @@ wrote : (c : tie.Else1) → Wrote (d (c .before .before .before .before .before 
 wrote c =
     let s = c .before .before .before .before .before .before .before .before in
     verify-passed (d s) (heldAs (s .args .at)) (s .args .message .now) (s .args .word .now) (s .args .expected .now) (s .pre .room ∙ sym (s .pre .complete))
-    (sym (c .before .before .before .encode-fitting .ensures .0) ∙ c .if1 .left)
+    (rw (← c .before .before .before .encode-fitting .ensures .0) (c .if1 .left))
 
 encode-fitting-requires : tie.Need-encode-fitting-requires
 encode-fitting-requires c κs = search needs
@@ -47,10 +45,9 @@ returns : tie.Need-returns
 returns c =
     let s = c .before .before .before .before .before .before .before .before in
     let e = c .before .before .before .encode-fitting .ensures .0 in
-    ap unchecked e
-    ∙ sym (verify-refused (d s) (heldAs (s .args .at)) (s .args .message .now) (s .args .word .now) (s .args .expected .now)
-    (s .pre .room ∙ sym (s .pre .complete))
-    (λ d. c .if1 .taken (e ∙ d)))
+    let refused = verify-refused (d s) (heldAs (s .args .at)) (s .args .message .now) (s .args .word .now) (s .args .expected .now)
+    (s .pre .room ∙ sym (s .pre .complete)) (rw e at (c .if1 .taken)) in
+    rw (refused, e)
 
 found-bound-requires : tie.Need-found-bound-requires
 found-bound-requires c κs = search needs
@@ -109,11 +106,13 @@ judged c b e =
     let held = wrote (c .before .before .before .before .before .before) in
     let n-is : length w ≡ d s .codec .wordLen = s .pre .complete ∙ numbers-in (l s) (s .pre .serves) .word-is in
     let agrees : agreesOutside (d s .codec) w ss ms ≡ b =
-    sym (agreement (d s .codec) (l s .b) (spoilt-in (l s) (s .pre .serves)) w ss ms)
-    ∙ ap (λ (n : ℕ). covers n (l s .b) (differAt w (d s .codec .encode ss ms)) ss) (sym n-is)
-    ∙ ap (λ (v : List ℕ). covers (length w) (l s .b) (differAt w v) ss)
-    (sym (c .before .before .before .before .before .before .before .before .before .encode-fitting .ensures .1 ∙ held .word-is))
-    ∙ sym (c .cover-differences .ensures) ∙ e in
+    rw (
+      ← agreement (d s .codec) (l s .b) (spoilt-in (l s) (s .pre .serves)) w ss ms,
+      ← n-is,
+      ← held .word-is,
+      ← c .before .before .before .before .before .before .before .before .before .encode-fitting .ensures .1,
+      ← c .cover-differences .ensures,
+    ) e in
     held .rest
     ∙ ap (λ (t : Bool). must t (unchecked badSymbol) (cond (agreesOutside (d s .codec) w ss ms) agreeing differing))
     (sym (symbols-are (c .before .before .before .before)) ∙ not-false _ (c .before .before .before .if2 .left))

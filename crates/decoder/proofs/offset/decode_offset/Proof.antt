@@ -199,11 +199,7 @@ same-length c = search needs
 returns-3 : tie.Need-returns-3
 returns-3 c =
     let here = c .before .before .before .before .before .before .before .before .before .before .before in
-    let s = start (here .before .before) in
-    c .before .before .decode-placed .ensures
-    ∙ ap (decodedFrom (l s .b) (s .args .message .now))
-    (sym (placed (c .before .before .before .before .before .before))
-    ∙ ap (readPart (f s) (s .args .word .now) (before (s .args .part))) (value-at (here .before .before)))
+    rw (← value-at (here .before .before), placed (c .before .before .before .before .before .before)) (c .before .before .decode-placed .ensures)
 
 pub decode-offset-spec : {M : Type 1} → statement M
 decode-offset-spec =

@@ -1,12 +1,10 @@
 -- `fill` meets its contract: what the blocks' kinds and the digits of the index blocks give is the word. Assumes nothing.
-use mathlib.Core.Path.{refl, ap, ap₂, _∙_}
-use mathlib.Core.List.{List}
+use mathlib.Core.Path.{refl, ap}
 use Prim.Native.Nat.{ℕ, _+_, _*_}
 use native.Mathlib.Numerals.{add-one}
 use native.Mathlib.Omega.{arith}
 use borrow.Author.Needs.{needs}
 use lib.ListN.{take}
-use Rattle.cells.specs.Cells.{Cell, weave}
 use Rattle.params.specs.declared.Layout.{Layout}
 use Rattle.params.proofs.Either.{in-shape}
 use Rattle.params.proofs.Shape.{bound}
@@ -91,11 +89,12 @@ returns c =
     let heads = c .before .before .before .before .before .before .before .before .before .before .before .before .before .before .put-heads in
     let kinds = c .before .before .before .before .before .before .before .before .before .before .before .before .kinds-of in
     let tables : Tables (l s) at (heads .last .0) (kinds .result) = (heads .ensures, kinds .ensures) in
-    let filled = rw (c .before .before .before .before .before .before .before .walk-of .ensures) at (c .before .before .fill-cells .ensures) in
-    word-of (l s) (s .pre .0) (startsIn at) (spelled .result) (s .args .message .now) _ (value .result) (p .placed) (value .ensures) (spelled .ensures)
-    (filled
-    ∙ ap₂ (λ (cs : List Cell) (r : List ℕ). weave cs r (s .args .message .now)) (plan-of (l s) at (heads .last .0) (kinds .result) p tables)
-    (digits-of (l s) at (heads .last .0) (kinds .result) p tables ds count))
+    let filled = rw (
+      c .before .before .before .before .before .before .before .walk-of .ensures,
+      plan-of (l s) at (heads .last .0) (kinds .result) p tables,
+      digits-of (l s) at (heads .last .0) (kinds .result) p tables ds count,
+    ) at (c .before .before .fill-cells .ensures) in
+    word-of (l s) (s .pre .0) (startsIn at) (spelled .result) (s .args .message .now) _ (value .result) (p .placed) (value .ensures) (spelled .ensures) filled
 
 pub fill-spec : {M : Type 1} → statement M
 fill-spec =

@@ -1,13 +1,11 @@
 -- `with_block` meets its contract: the lead digit is taken in, and then the plain ones. Assumes nothing.
 use mathlib.Core.Path.{_≡_, ap, _∙_}
 use mathlib.Core.List.{List}
-use Prim.Native.Nat.{ℕ, suc, _+_, _-_, _*_, _<_, min}
+use Prim.Native.Nat.{ℕ, suc, _+_, _-_, _<_}
 use native.Mathlib.Omega.{arith}
 use borrow.Author.Needs.{needs}
 use lib.ListN.{length, getD, take, drop, length-drop}
 use lib.Seq.{getD-take, getD-drop, length-take-le}
-use Rattle.cells.specs.Digits.{span, value}
-use Rattle.heads.specs.Written.{plainPlaces}
 use Rattle.heads.proofs.Valued.{block-digits}
 use Rattle.heads.proofs.written.with_block.Statement.{statement}
 use Rattle.heads.proofs.written.with_block.Tie as tie
@@ -55,9 +53,8 @@ returns c =
     let at : (i : ℕ) → i < a .tail → getD ds i 0 ≡ getD w (suc i) 0 =
     λ i l. getD-take (a .tail + 1 - 1) (drop 1 w) i 0 (omega arith) ∙ getD-drop 1 w i 0
     ∙ ap (λ (y : ℕ). getD w y 0) (let e : 1 + i ≡ suc i = omega arith in e) in
-    c .with-digits .ensures
-    ∙ ap (λ (v : ℕ). min (v * span (a .q) (plainPlaces ds) + value (a .q) (plainPlaces ds) ds) (a .cap)) (c .before .before .with-digit .ensures)
-    ∙ block-digits (a .q) (a .tail) (a .cap) (a .high) (s .pre .alphabet) w ds size at (s .pre .room)
+    rw (c .before .before .with-digit .ensures, block-digits (a .q) (a .tail) (a .cap) (a .high) (s .pre .alphabet) w ds size at (s .pre .room))
+    at (c .with-digits .ensures)
 
 pub with-block-spec : {M : Type 1} → statement M
 with-block-spec =

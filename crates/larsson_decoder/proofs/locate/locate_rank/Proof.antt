@@ -1,5 +1,5 @@
 -- `locate_rank` meets its contract: 9, or the rank's placement. Assumes nothing.
-use mathlib.Core.Path.{_≡_, sym, ap, subst, _∙_}
+use mathlib.Core.Path.{_≡_, sym, subst, _∙_}
 use mathlib.Core.List.{List}
 use Prim.Native.Nat.{ℕ}
 use native.Mathlib.Omega.{arith}
@@ -40,8 +40,7 @@ told c =
     let s = start u in
     let b = c .before .before .bearers-of in
     let same = starts-are (l s) (fit s) (s .args .rank) (s .pre .0 .below) (u .unrank .result) (u .unrank .ensures) in
-    c .agrees .ensures (ss s) (subst (λ (r : List ℕ). BearersOf (f s) r (b .result)) same (b .ensures))
-    ∙ ap (λ (v : ℕ). agrees (f s) (s .args .word .now) v (ss s)) (sym (s .pre .0 .spelled))
+    rw (← s .pre .0 .spelled) at (c .agrees .ensures (ss s) (subst (λ (r : List ℕ). BearersOf (f s) r (b .result)) same (b .ensures)))
 
 cast-unrank : tie.Need-cast-unrank
 cast-unrank c = omega (arith, bound (l (c .before .before)) (fit (c .before .before)))

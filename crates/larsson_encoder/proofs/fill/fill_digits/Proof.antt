@@ -5,9 +5,6 @@ use Prim.Native.Nat.{ℕ}
 use native.Mathlib.Omega.{arith}
 use borrow.Author.Needs.{needs}
 use lib.ListN.{length, drop}
-use Rattle.larsson.specs.Writing.{word}
-use Rattle.stretches.specs.declared.Walk.{Walk}
-use Rattle.placements.specs.Bridge.{startsIn}
 use Rattle.heads.proofs.Looking.{part-is}
 use Rattle.larsson_words.specs.Walked as Words
 use Rattle.larsson_params.specs.declared.LarssonLayout.{LarssonLayout}
@@ -61,8 +58,7 @@ returns : tie.Need-returns
 returns c =
     let k = c .before .before in
     let w = k .before .before .before in
-    let s = w .before .before .before .before in
-    k .fill .ensures ∙ ap (λ (y : Walk). word (Words.figuresWalked y (l s .q)) (startsIn (s .args .at)) (s .args .message .now)) (w .walk-of .ensures)
+    rw (w .walk-of .ensures) at (k .fill .ensures)
 
 pub fill-digits-spec : {M : Type 1} → statement M
 fill-digits-spec =

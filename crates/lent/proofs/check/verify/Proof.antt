@@ -1,13 +1,12 @@
 -- `verify` meets its contract: 1, 2, or what figures that fit give. Assumes nothing.
 use mathlib.Core.Path.{_≡_, sym, ap, _∙_}
 use borrow.Author.Needs.{needs}
-use Rattle.cells.specs.Outcomes.{Coding}
 use Rattle.codes.specs.Answer.{figuredAs}
 use Rattle.codes.specs.Bridge.{codingOf}
 use Rattle.codes.specs.Given.{codingIn, Serves}
 use Rattle.codes.specs.declared.Figures.{Figures}
 use Rattle.codes.proofs.Answered.{serves}
-use Rattle.lent.specs.Check.{verdictNumber, verifyBytesUnder}
+use Rattle.lent.specs.Check.{verdictNumber}
 use Rattle.lent.proofs.CheckLaws.{verify-unfit}
 use Rattle.lent.proofs.check.verify.Statement.{statement}
 use Rattle.lent.proofs.check.verify.Tie as tie
@@ -44,9 +43,7 @@ returns c =
 
 returns-2 : tie.Need-returns-2
 returns-2 c =
-    let s = c .before .before .before .before .before .before .before .before in
-    c .verify-laid .ensures ∙ ap (λ (d : Coding). verdictNumber (verifyBytesUnder d (s .args .starts .now) (s .args .message .now) (s .args .word .now)))
-    (learnt (c .before .before) .0)
+    rw (learnt (c .before .before) .0) at (c .verify-laid .ensures)
 
 pub verify-spec : {M : Type 1} → statement M
 verify-spec =

@@ -1,16 +1,19 @@
 -- `verify_laid` meets its contract: 3 for the bytes of the starts, or the check with the placement that they are, as a number. Assumes nothing.
 use mathlib.Core.Path.{_≡_, sym, ap, _∙_}
+use mathlib.Core.List.{List}
 use Prim.Native.Nat.{ℕ, _*_}
 use native.Mathlib.Omega.{arith}
 use borrow.Author.Needs.{needs}
-use Rattle.cells.specs.Outcomes.{Held, held}
+use Rattle.cells.specs.Outcomes.{Coding, Held, held}
 use Rattle.codes.specs.Given.{codingIn}
 use Rattle.codes.specs.declared.WordLayout.{WordLayout}
 use Rattle.codes.proofs.Layouts.{in-order, numbers-in}
 use Rattle.codes.proofs.Covering.{room-in}
+use Rattle.placements.specs.Bridge.{heldAs}
 use Rattle.verifier.specs.Answer.{verdictAs}
-use Rattle.verifier.specs.Verify.{verifyUnder}
+use Rattle.verifier.specs.Verify.{Verdict, verifyUnder}
 use Rattle.verifier.specs.declared.VerifyAnswer.{VerifyAnswer}
+use Rattle.lent.specs.Starts.{startsFrom}
 use Rattle.lent.specs.Check.{verdictNumber, verifyBytesUnder}
 use Rattle.lent.proofs.StartLaws.{starts-read}
 use Rattle.lent.proofs.CheckLaws.{verify-length, verify-placed}
@@ -24,6 +27,11 @@ l s = s .args .layout
 twice : (s : tie.Start) → 2 * l s .m ≡ 2 * codingIn (l s) .bursts
 twice s = ap (λ (m : ℕ). 2 * m) (numbers-in (l s) (s .pre) .bursts-is)
 
+-- the verdict on a placement is the verdict on the bytes of its starts
+by-starts : (d : Coding) (starts ms w : List ℕ) (at : Held) (v : Verdict) → v ≡ verifyUnder d at ms w → at ≡ held (startsFrom starts)
+    → verifyBytesUnder d starts ms w ≡ verifyUnder d (held (startsFrom starts)) ms w → v ≡ verifyBytesUnder d starts ms w
+by-starts d starts ms w at v e₁ e₂ e₃ = e₁ ∙ ap (λ (h : Held). verifyUnder d h ms w) e₂ ∙ sym e₃
+
 -- the number of what the check answered is the outcome's
 told : (c : tie.After-verify-fitting) (r : VerifyAnswer) → c .verify-fitting .result ≡ r → (let s = c .before .before .before .before .before .before .before in
     verdictNumber (verdictAs r) ≡ verdictNumber (verifyBytesUnder (codingIn (l s)) (s .args .starts .now) (s .args .message .now) (s .args .word .now)))
@@ -32,12 +40,12 @@ told c r e =
     let a = s .args in
     let d = codingIn (l s) in
     let size = c .before .before .if1 .left in
+    let at = c .before .placement-at in
     ap (λ (x : VerifyAnswer). verdictNumber (verdictAs x)) (sym e)
     ∙ ap verdictNumber
-    (c .verify-fitting .ensures
-    ∙ ap (λ (h : Held). verifyUnder d h (a .message .now) (a .word .now))
-    (c .before .placement-at .ensures ∙ ap held (starts-read (a .starts .now) (l s .m) size))
-    ∙ sym (verify-placed d (a .starts .now) (a .message .now) (a .word .now) (in-order (l s) (s .pre) .0) (in-order (l s) (s .pre) .1) (size ∙ twice s)))
+    (by-starts d (a .starts .now) (a .message .now) (a .word .now) (heldAs (at .result)) (verdictAs (c .verify-fitting .result)) (c .verify-fitting .ensures)
+    (at .ensures ∙ ap held (starts-read (a .starts .now) (l s .m) size))
+    (verify-placed d (a .starts .now) (a .message .now) (a .word .now) (in-order (l s) (s .pre) .0) (in-order (l s) (s .pre) .1) (size ∙ twice s)))
 
 mul-if1 : tie.Need-mul-if1
 mul-if1 c = let s = c .before .before .before .before in omega (arith, room-in (l s) (s .pre) .few)

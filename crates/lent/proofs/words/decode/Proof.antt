@@ -1,13 +1,11 @@
 -- `decode` meets its contract: 1, 2, or what figures that fit give. Assumes nothing.
 use mathlib.Core.Path.{_≡_, sym, ap, _∙_}
 use borrow.Author.Needs.{needs}
-use Rattle.cells.specs.Outcomes.{Coding}
 use Rattle.codes.specs.Answer.{figuredAs}
 use Rattle.codes.specs.Bridge.{codingOf}
 use Rattle.codes.specs.Given.{codingIn, Serves}
 use Rattle.codes.specs.declared.Figures.{Figures}
 use Rattle.codes.proofs.Answered.{serves}
-use Rattle.decoder.specs.Exported.{exportedUnder}
 use Rattle.decoder.proofs.Bytes.{exported-unfit}
 use Rattle.lent.proofs.words.decode.Statement.{statement}
 use Rattle.lent.proofs.words.decode.Tie as tie
@@ -50,9 +48,7 @@ same-length-2 c = search needs
 
 returns-2 : tie.Need-returns-2
 returns-2 c =
-    let s = c .before .before .before .before .before .before .before .before .before .before .before .before .before .before in
-    c .before .before .before .before .decode-laid .ensures ∙ ap (λ (d : Coding). exportedUnder d (s .args .word .now) (s .args .message .now)
-    (s .args .starts .now)) (learnt (c .before .before .before .before .before .before .before .before) .0)
+    rw (learnt (c .before .before .before .before .before .before .before .before) .0) at (c .before .before .before .before .decode-laid .ensures)
 
 pub decode-spec : {M : Type 1} → statement M
 decode-spec =

@@ -1,13 +1,11 @@
 -- `encode` meets its contract: 1, 2, or what figures that fit give. Assumes nothing.
 use mathlib.Core.Path.{_≡_, sym, ap, _∙_}
 use borrow.Author.Needs.{needs}
-use Rattle.cells.specs.Outcomes.{Coding}
 use Rattle.codes.specs.Answer.{figuredAs}
 use Rattle.codes.specs.Bridge.{codingOf}
 use Rattle.codes.specs.Given.{codingIn, Serves}
 use Rattle.codes.specs.declared.Figures.{Figures}
 use Rattle.codes.proofs.Answered.{serves}
-use Rattle.lent.specs.Words.{encodeBytesUnder}
 use Rattle.lent.proofs.WordLaws.{encode-unfit}
 use Rattle.lent.proofs.words.encode.Statement.{statement}
 use Rattle.lent.proofs.words.encode.Tie as tie
@@ -47,9 +45,7 @@ same-length c = search needs
 
 returns-2 : tie.Need-returns-2
 returns-2 c =
-    let s = c .before .before .before .before .before .before .before .before .before .before .before in
-    c .before .before .encode-laid .ensures ∙ ap (λ (d : Coding). encodeBytesUnder d (s .args .starts .now) (s .args .message .now)
-    (s .args .word .now)) (learnt (c .before .before .before .before .before) .0)
+    rw (learnt (c .before .before .before .before .before) .0) at (c .before .before .encode-laid .ensures)
 
 pub encode-spec : {M : Type 1} → statement M
 encode-spec =

@@ -1,11 +1,8 @@
 -- `read` meets its contract: what a job without a table is refused with, 1, or what the table that the bytes are gives. Assumes nothing.
 use mathlib.Core.Path.{sym, ap, _∙_}
-use mathlib.Core.List.{List}
 use borrow.Author.Tests.{not-true, not-false}
 use Rattle.codes.specs.Bridge.{codingOf}
-use Rattle.jobs.specs.declared.Entry.{Entry}
 use Rattle.lent_prescriptions.specs.Eyes.{powersLent}
-use Rattle.lent_prescriptions.specs.Prescriptions.{prescriptionReadLent}
 use Rattle.lent_prescriptions.proofs.PrescriptionLaws.{read-other, read-state, read-whole}
 use borrow.Author.Needs.{needs}
 use Rattle.lent_prescriptions.proofs.prescriptions.read.Statement.{statement}
@@ -44,13 +41,11 @@ same-length-2 c = search needs
 returns-3 : tie.Need-returns-3
 returns-3 c =
     let a = c .before .before .before .before .before .before .before .before .before .before .before .before .before .before .before .args in
-    c .before .before .before .before .read-held .ensures
-    ∙ ap (λ (es : List Entry). prescriptionReadLent (codingOf (a .figures)) es (a .word .now) (a .marks .now) (a .powers .now))
-    (c .before .before .before .before .before .before .before .table-in .ensures)
-    ∙ read-whole (codingOf (a .figures)) (a .table .now) (a .word .now) (a .marks .now) (a .powers .now)
+    let whole = read-whole (codingOf (a .figures)) (a .table .now) (a .word .now) (a .marks .now) (a .powers .now)
     (c .before .before .before .before .before .before .before .before .before .before .if1 .left)
     (sym (c .before .before .before .before .before .before .before .before .before .states-known .ensures)
-    ∙ not-false _ (c .before .before .before .before .before .before .before .before .if2 .left))
+    ∙ not-false _ (c .before .before .before .before .before .before .before .before .if2 .left)) in
+    rw (c .before .before .before .before .before .before .before .table-in .ensures, whole) at (c .before .before .before .before .read-held .ensures)
 
 pub read-spec : {M : Type 1} → statement M
 read-spec =

@@ -1,10 +1,5 @@
 -- `write_values` meets its contract: that of `write`, with the prescription that the values are. Assumes nothing.
-use mathlib.Core.Path.{ap, ap₂, _∙_}
 use borrow.Author.Needs.{needs}
-use Rattle.codes.specs.Bridge.{codingOf}
-use Rattle.prescription.specs.declared.eyes.Eye.{Eye}
-use Rattle.prescription.specs.declared.texts.Prescription.{Prescription}
-use Rattle.lent_prescriptions.specs.Prescriptions.{prescriptionFrom, prescriptionWriteBytesUnder}
 use Rattle.lent_prescriptions.proofs.prescriptions.write_values.Statement.{statement}
 use Rattle.lent_prescriptions.proofs.prescriptions.write_values.Tie as tie
 
@@ -26,10 +21,7 @@ same-length c = search needs
 returns : tie.Need-returns
 returns c =
     let e = c .before .before .before .before in
-    let a = e .before .before .before .before .before .before .args in
-    c .before .before .write .ensures
-    ∙ ap (λ (p : Prescription). prescriptionWriteBytesUnder (codingOf (a .figures)) (a .table .now) (a .starts .now) (a .number) p (a .word .now))
-    (e .of-eyes .ensures ∙ ap₂ (λ (r l : Eye). prescriptionFrom r l (a .distance)) (e .before .before .eye-from .ensures) (e .before .eye-from2 .ensures))
+    rw (e .of-eyes .ensures, e .before .before .eye-from .ensures, e .before .eye-from2 .ensures) at (c .before .before .write .ensures)
 
 pub write-values-spec : {M : Type 1} → statement M
 write-values-spec =

@@ -4,7 +4,7 @@ use mathlib.Core.Bool.{false≢true}
 use Prim.Native.Nat.{ℕ, suc}
 use native.Mathlib.Omega.{arith}
 use lib.ListN.{getD}
-use Rattle.combinatorics.specs.Bursts.{apart, covers}
+use Rattle.combinatorics.specs.Bursts.{apart}
 use Rattle.combinatorics.proofs.Cases.{leb-holds}
 use Rattle.combinatorics.proofs.Cover.{of-covers}
 use Rattle.combinatorics.proofs.Lists.{below-at}
@@ -37,8 +37,7 @@ cover-erasures-requires c κs =
 returns-2 : tie.Need-returns-2
 returns-2 c =
     let s = c .before .before .before .before in
-    c .cover-erasures .ensures ∙ ap (λ (n : ℕ). covers n (s .args .walk .b) (erasedAt (s .args .q) (s .args .word .now)) (startsIn (s .args .at)))
-    (s .pre .1 .whole)
+    rw (s .pre .1 .whole) at (c .cover-erasures .ensures)
 
 pub message-whole-spec : {M : Type 1} → statement M
 message-whole-spec = tie.close (tie.spec returns cast-cover-erasures cover-erasures-requires returns-2)

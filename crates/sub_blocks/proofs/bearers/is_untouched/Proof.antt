@@ -94,7 +94,7 @@ returns c =
     let t = c .before .before .before in
     let s = t .before .before .before .before in
     let b = getD (s .args .t3 .starts) (t .before .loop .j) 0 in
-    sym (ap not (any-here (met s) b (drop (t .before .loop .j + 1) (startsIn (s .args .t3))) (sym (c .before .touches .ensures) ∙ c .if1 .taken)))
+    sym (ap not (any-here (met s) b (drop (t .before .loop .j + 1) (startsIn (s .args .t3))) (rw (c .before .touches .ensures) at (c .if1 .taken))))
     ∙ ap not (next t) ∙ says s
 
 add-j : tie.Need-add-j Inv-loop μ-loop
@@ -108,7 +108,7 @@ loop-again c =
     let t = c .before .before .before in
     let s = t .before .before .before .before in
     let b = getD (s .args .t3 .starts) (t .before .loop .j) 0 in
-    (omega arith, sym (any-on (met s) b (drop (t .before .loop .j + 1) (startsIn (s .args .t3))) (sym (c .before .touches .ensures) ∙ c .if1 .left)) ∙ next t)
+    (omega arith, sym (any-on (met s) b (drop (t .before .loop .j + 1) (startsIn (s .args .t3))) (rw (c .before .touches .ensures) at (c .if1 .left))) ∙ next t)
 
 returns-2 : tie.Need-returns-2 Inv-loop μ-loop
 returns-2 c =

@@ -6,7 +6,6 @@ use Prim.Native.Nat.{ℕ, suc, _+_, _*_, _-_, _≤_, _<_}
 use native.Mathlib.Numerals.{add-one}
 use native.Mathlib.Omega.{arith}
 use borrow.Author.Needs.{needs}
-use borrow.Author.Tests.{not-true, not-false}
 use lib.ListN.{getD}
 use Rattle.combinatorics.specs.Stretch.{has}
 use Rattle.combinatorics.proofs.Cases.{eqb-same, eqb-other}
@@ -65,7 +64,7 @@ returns c =
     let a = s .args in
     let j = t .loop .j in
     let off : Off s j ≡ true =
-    rw (eqb-same (getD (a .kinds .now) j 0) indexKind (c .before .before .if1 .taken), sym (c .before .same-symbols .ensures) ∙ not-true _ (c .if2 .taken)) in
+    rw (eqb-same (getD (a .kinds .now) j 0) indexKind (c .before .before .if1 .taken), ← c .before .same-symbols .ensures) (c .if2 .taken) in
     let told = ap not (sym (has-here (2 * a .layout .m + 1) j (Off s) (omega (arith, c .before .before .before .before .loop-test .taken)) off)
     ∙ t .loop .inv .1 ∙ by-blocks s) in
     λ ss is. told ∙ agrees-by (a .layout) (a .word .now) (a .i) (s .pre .0) (s .pre .2) ss (a .kinds .now) is
@@ -89,7 +88,7 @@ loop-again c =
     (λ u. (
       omega (arith, c .before .before .loop-test .taken),
       on
-          (rw (eqb-same (getD (a .kinds .now) j 0) indexKind (u .0 .taken), sym (u .1 .ensures) ∙ not-false _ (u .2 .left))),
+          (rw (eqb-same (getD (a .kinds .now) j 0) indexKind (u .0 .taken), ← u .1 .ensures) (u .2 .left)),
     ))
     (λ u. (omega (arith, c .before .before .loop-test .taken), on (rw (eqb-other (getD (a .kinds .now) j 0) indexKind (u .left)))))
     (c .if1 .came)

@@ -1,6 +1,6 @@
 -- `value_of` meets its contract: the part of the word is the sub-block's. Assumes nothing.
-use mathlib.Core.Path.{_≡_, ap, _∙_}
-use Prim.Native.Nat.{ℕ, _+_, _-_, min}
+use mathlib.Core.Path.{_≡_}
+use Prim.Native.Nat.{_+_, _-_}
 use native.Mathlib.Omega.{arith}
 use borrow.Author.Needs.{needs}
 use lib.ListN.{getD, take, drop}
@@ -50,8 +50,7 @@ returns c =
     let w = a .word .now in
     let from = getD (a .starts .now) (a .i) 0 in
     let is = part-is (a .layout) w (s .pre .0) (a .i) from (s .pre .2) (s .pre .1 .0 (a .i) (s .pre .2)) in
-    c .with-digits .ensures ∙ ap (λ (v : ℕ). min v (a .layout .«placement_count»))
-    (spelled-is (a .layout) w (a .i) (take (from + a .layout .«sub_len» - from) (drop from w)) is)
+    rw (spelled-is (a .layout) w (a .i) (take (from + a .layout .«sub_len» - from) (drop from w)) is) at (c .with-digits .ensures)
 
 pub value-of-spec : {M : Type 1} → statement M
 value-of-spec =

@@ -36,7 +36,7 @@ returns c =
     let s = t .before .before in
     let a = s .args in
     majority-here (a .layout) (a .word .now) (s .pre .0) (t .loop .i) (omega (arith, c .before .before .loop-test .taken))
-    (sym (c .before .has-majority .ensures) ∙ c .if1 .taken)
+    (rw (c .before .has-majority .ensures) at (c .if1 .taken))
 
 add-i : tie.Need-add-i Inv-loop μ-loop
 add-i c =

@@ -1,9 +1,8 @@
 -- `same_symbols` meets its contract: the stretches are the sub-blocks'. Assumes nothing.
-use mathlib.Core.Path.{_≡_, sym, ap₂, _∙_}
+use mathlib.Core.Path.{_≡_, sym}
 use Prim.Native.Nat.{ℕ, _<_}
 use native.Mathlib.Omega.{arith}
-use lib.ListN.{length, getD}
-use Rattle.combinatorics.specs.Lists.{sameList}
+use lib.ListN.{length}
 use Rattle.larsson.specs.Figures.{subBlocks}
 use Rattle.larsson_params.specs.Given.{larssonFiguresOf}
 use Rattle.sub_blocks.proofs.Room.{Reached, reached}
@@ -42,9 +41,7 @@ returns c =
     let s = c .before .before .before .before in
     let a = s .args in
     let one = symbols-from (a .layout) (a .word .now) (s .pre .0) in
-    c .same-stretches .ensures
-    ∙ ap₂ sameList (one (a .i) (getD (a .starts .now) (a .i) 0) (s .pre .1 .0 (a .i) (s .pre .2)))
-    (one (a .j) (getD (a .starts .now) (a .j) 0) (s .pre .1 .0 (a .j) (s .pre .3)))
+    rw (one (a .i) _ (s .pre .1 .0 (a .i) (s .pre .2)), one (a .j) _ (s .pre .1 .0 (a .j) (s .pre .3))) at (c .same-stretches .ensures)
 
 pub same-symbols-spec : {M : Type 1} → statement M
 same-symbols-spec =

@@ -1,12 +1,12 @@
 -- `votes` meets its contract: so many of the first j sub-blocks have the symbols. Assumes nothing.
-use mathlib.Core.Path.{_≡_, refl, sym, ap, _∙_}
+use mathlib.Core.Path.{_≡_, refl, ap, _∙_}
 use mathlib.Core.Logic.{⊎-elim}
 use mathlib.Core.Bool.{Bool}
 use Prim.Native.Nat.{ℕ, suc, _+_, _-_, _*_, _≤_, _<_}
 use native.Mathlib.Omega.{arith}
 use borrow.Author.Needs.{needs}
 use Rattle.combinatorics.specs.Lists.{sameList}
-use Rattle.combinatorics.specs.Stretch.{bit, sum, count}
+use Rattle.combinatorics.specs.Stretch.{sum, count}
 use Rattle.combinatorics.proofs.StretchLoops.{count-on}
 use Rattle.combinatorics.proofs.Stretch.{count-le}
 use Rattle.cells.proofs.Figures.{Ranged}
@@ -68,10 +68,10 @@ loop-again c =
     let t = c .before .before .before in
     let s = t .before .before .before in
     let e = c .before .same-symbols .ensures in
-    let on = count-on (t .loop .j) (Alike s) in
+    let on = rw (← e) at (count-on (t .loop .j) (Alike s)) in
     ⊎-elim
-    (λ u. (omega (arith, c .before .before .loop-test .taken), rw (u .1) (omega (arith, t .loop .inv .1, on, ap bit (sym e ∙ u .0 .taken)))))
-    (λ u. (omega (arith, c .before .before .loop-test .taken), rw (u .1) (omega (arith, t .loop .inv .1, on, ap bit (sym e ∙ u .0 .left)))))
+    (λ u. (omega (arith, c .before .before .loop-test .taken), rw (u .1) (omega (arith, t .loop .inv .1, rw (u .0 .taken) at on))))
+    (λ u. (omega (arith, c .before .before .loop-test .taken), rw (u .1) (omega (arith, t .loop .inv .1, rw (u .0 .left) at on))))
     (c .if1 .came)
 
 returns : tie.Need-returns Inv-loop μ-loop

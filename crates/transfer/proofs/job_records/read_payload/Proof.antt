@@ -1,12 +1,11 @@
 -- `read_payload` meets its contract: the line by what job read answers; a payload that is handed out has a job number. Assumes nothing.
-use mathlib.Core.Path.{sym, ap, _∙_}
 use mathlib.Core.List.{[], _∷_}
 use native.Mathlib.Omega.{arith}
 use borrow.Author.Needs.{needs}
 use lib.ListN.{take, drop}
 use Rattle.codes.specs.Given.{codingIn}
 use Rattle.jobs.specs.Slots.{entries}
-use Rattle.jobcodec.specs.JobRead.{JobRead, jobReadUnder}
+use Rattle.jobcodec.specs.JobRead.{jobReadUnder}
 use Rattle.text.specs.Text.{hex}
 use Rattle.lines.specs.Lines.{letterR}
 use Rattle.transfer.proofs.Serving.{put-refused, put-served, read-number}
@@ -32,7 +31,7 @@ returns c =
     let put = c .before .before .put-refusal in
     let out = jobReadUnder (codingIn (a .layout)) (entries (a .table)) (a .word .now) (a .payload .now) in
     put-refused (put .result) (a .line .now) (put .last .0) letterR (job .result) (out .answer)
-    (hex (take 4 (out .payload)) ∷ hex (drop 4 (out .payload)) ∷ []) (ap (λ (x : JobRead). x .answer) (job .ensures))
+    (hex (take 4 (out .payload)) ∷ hex (drop 4 (out .payload)) ∷ []) (rw (← job .ensures))
     (c .before .before .before .before .if1 .taken) (put .ensures)
 
 put-payload-requires : tie.Need-put-payload-requires
@@ -41,7 +40,7 @@ put-payload-requires c κs =
     let a = s .args in
     let job = c .before .before .before .before .before .job-read in
     let number = read-number (codingIn (a .layout)) (entries (a .table)) (a .word .now) (a .payload .now)
-    (sym (ap (λ (x : JobRead). x .answer) (job .ensures)) ∙ c .before .before .if1 .left) in
+    (rw (← job .ensures) (c .before .before .if1 .left)) in
     (s .pre .0, omega (arith, s .pre .1, job .kept .1 .1 .1 .1 .0), omega (arith, number, job .kept .1 .1 .1 .1 .0))
 
 same-length-3 : tie.Need-same-length-3
@@ -58,8 +57,8 @@ returns-2 c =
     let payload = job .last .1 .1 .1 .1 .0 in
     let out = jobReadUnder (codingIn (a .layout)) (entries (a .table)) (a .word .now) (a .payload .now) in
     put-served (put .result) (a .line .now) (put .last .0) letterR (job .result) (out .answer) (hex (take 4 payload) ∷ hex (drop 4 payload) ∷ [])
-    (hex (take 4 (out .payload)) ∷ hex (drop 4 (out .payload)) ∷ []) (ap (λ (x : JobRead). x .answer) (job .ensures))
-    (c .before .before .before .before .before .if1 .left) (ap (λ (x : JobRead). hex (take 4 (x .payload)) ∷ hex (drop 4 (x .payload)) ∷ []) (job .ensures))
+    (hex (take 4 (out .payload)) ∷ hex (drop 4 (out .payload)) ∷ []) (rw (← job .ensures))
+    (c .before .before .before .before .before .if1 .left) (rw (← job .ensures))
     (put .ensures)
 
 pub read-payload-spec : {M : Type 1} → statement M

@@ -4,11 +4,10 @@ use mathlib.Core.Option.{Option}
 use borrow.Author.Needs.{needs}
 use Rattle.codes.specs.declared.Figures.{Figures}
 use Rattle.transfer.specs.Steps.{readOut}
-use Rattle.records.specs.Session.{nextSession}
 use Rattle.records.specs.Bridge.{lastFigures, sessionOf}
 use Rattle.transfer.specs.Bridge.{Shown}
 use Rattle.records.proofs.Lengths.{current-laid, current-none}
-use Rattle.transfer.proofs.Serving.{shown-goes, record-laid}
+use Rattle.transfer.proofs.Serving.{record-laid}
 use Rattle.records.proofs.Readable.{read-long}
 use Rattle.transfer.proofs.job_records.serve_read.Statement.{statement}
 use Rattle.transfer.proofs.job_records.serve_read.Tie as tie
@@ -55,13 +54,16 @@ returns-2 c =
     let a = s .args in
     let told = c .before .before .before .before .before .before .before .answer .given in
     let laid = c .before .before .before .read-laid in
-    let r = c .counted .result in
-    let line = laid .last .1 .1 .1 .1 .1 .0 in
+    let went = c .counted .ensures in
     let from = sessionOf (a .session) in
     let is = current-laid (from .figures) _ _ _ (told .1) (s .pre .knows .figures) in
-    subst (λ (f : Option Figures). Shown r (a .line .now) line (readOut from (a .received .now) f)) (sym (is .are))
-    (shown-goes r (a .line .now) line (nextSession from (from .figures) (from .table)) _ (laid .result) (c .counted .ensures)
-    (laid .ensures .printed from, laid .ensures .length-is from))
+    rw (is .are)
+    record {
+      next = went .0;
+      printed = laid .ensures .printed from;
+      len = rw (went .1 .0) (laid .ensures .length-is from);
+      stops = went .1 .1;
+    }
 
 pub serve-read-spec : {M : Type 1} → statement M
 serve-read-spec =

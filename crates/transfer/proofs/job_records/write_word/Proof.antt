@@ -1,8 +1,6 @@
 -- `write_word` meets its contract: the line by what job write answers. Assumes nothing.
-use mathlib.Core.Path.{ap}
 use mathlib.Core.List.{[], _∷_}
 use borrow.Author.Needs.{needs}
-use Rattle.cells.specs.Outcomes.{Encoded}
 use Rattle.codes.specs.Given.{codingIn}
 use Rattle.placements.specs.Bridge.{heldAs}
 use Rattle.jobs.specs.Slots.{entries}
@@ -32,7 +30,7 @@ returns c =
     let put = c .before .before .put-refusal in
     let out = jobWriteUnder (codingIn (a .layout)) (entries (a .table)) (heldAs (a .at)) (a .payload .now) (a .word .now) in
     put-refused (put .result) (a .line .now) (put .last .0) letterW (job .result) (out .answer) (hex (out .word) ∷ [])
-    (ap (λ (x : Encoded). x .answer) (job .ensures)) (c .before .before .before .before .if1 .taken) (put .ensures)
+    (rw (← job .ensures)) (c .before .before .before .before .if1 .taken) (put .ensures)
 
 put-word-requires : tie.Need-put-word-requires
 put-word-requires c κs = search needs
@@ -50,8 +48,8 @@ returns-2 c =
     let put = c .before .before .put-word in
     let out = jobWriteUnder (codingIn (a .layout)) (entries (a .table)) (heldAs (a .at)) (a .payload .now) (a .word .now) in
     put-served (put .result) (a .line .now) (put .last .0) letterW (job .result) (out .answer) (hex (job .last .1 .1 .1 .1 .1 .0) ∷ []) (hex (out .word) ∷ [])
-    (ap (λ (x : Encoded). x .answer) (job .ensures)) (c .before .before .before .before .before .if1 .left)
-    (ap (λ (x : Encoded). hex (x .word) ∷ []) (job .ensures)) (put .ensures)
+    (rw (← job .ensures)) (c .before .before .before .before .before .if1 .left)
+    (rw (← job .ensures)) (put .ensures)
 
 pub write-word-spec : {M : Type 1} → statement M
 write-word-spec =

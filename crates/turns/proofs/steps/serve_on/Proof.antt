@@ -5,7 +5,7 @@ use Prim.Native.Nat.{_-_, _<_}
 use lib.ListN.{length}
 use Rattle.records.specs.Records.{neededFor}
 use Rattle.records.specs.Bridge.{sessionOf, Knows}
-use Rattle.turns.specs.View.{bufferLen, View, readyAt, isServable, advanceOut}
+use Rattle.turns.specs.View.{bufferLen, View, readyAt, isServable, stepFor, servedOut, advanceOut}
 use Rattle.turns.specs.State.{WithinBuffers, viewOf, waitingIn}
 use Rattle.turns.proofs.Serving.{advance-rests, advance-serves, turnsAt, serves-less}
 use Rattle.turns.proofs.Knowing.{still-known}
@@ -108,19 +108,30 @@ serve-requires c κs =
       t .inv .4,
     )
 
+-- the view after a record was served
+module _ {u : View} (v : View) (e : u ≡ servedOut v) where
+  served-session : u .session ≡ stepFor v .next
+  served-session = ap (λ (x : View). x .session) e
+
+  module _ (goes : isServable v ≡ true) where
+    served-less : turnsAt (u .phase) (length (u .waiting)) < turnsAt (v .phase) (length (v .waiting))
+    served-less = subst (λ (x : View). turnsAt (x .phase) (length (x .waiting)) < turnsAt (v .phase) (length (v .waiting))) (sym e) (serves-less v goes)
+
+    served-advances : advanceOut u ≡ advanceOut v
+    served-advances = ap advanceOut e ∙ sym (advance-serves v goes)
+
 after-requires : tie.Need-after-requires Inv-loop μ-loop
 after-requires c κs =
     let t = c .before .before .before .before .before .before .before .before .before .before .before .before .before .before in
     let v = c .before .before .serve in
     let letter = c .before .before .before .before .before .letter-in in
-    still-known (viewed t) (sessionOf (v .result .session)) (letter .result) (t .loop .known) (ap (λ (x : View). x .session) (v .ensures .0))
+    still-known (viewed t) (sessionOf (v .result .session)) (letter .result) (t .loop .known) (served-session (viewed t) (v .ensures .0))
     (letter .ensures) (t .loop .inv .4)
 
 loop-less : tie.Need-loop-less Inv-loop μ-loop
 loop-less c =
     let t = c .before .before .before .before .before .before .before .before .before .before .before .before .before .before .before in
-    subst (λ (x : View). turnsAt (x .phase) (length (x .waiting)) < turnsAt (viewed t .phase) (length (viewed t .waiting)))
-    (sym (c .before .before .before .serve .ensures .0)) (serves-less (viewed t) (goes (c .before .before .before .before .before .before .before .before)))
+    served-less (viewed t) (c .before .before .before .serve .ensures .0) (goes (c .before .before .before .before .before .before .before .before))
 
 loop-again : tie.Need-loop-again Inv-loop μ-loop
 loop-again c =
@@ -128,8 +139,7 @@ loop-again c =
     let v = c .before .before .before .serve in (
       v .ensures .1 .0,
       search needs,
-      ap advanceOut (v .ensures .0) ∙ sym (advance-serves (viewed t) (goes (c .before .before .before .before .before .before .before .before)))
-          ∙ t .loop .inv .2,
+      served-advances (viewed t) (v .ensures .0) (goes (c .before .before .before .before .before .before .before .before)) ∙ t .loop .inv .2,
       v .ensures .1 .1 ∙ t .loop .inv .3,
       c .after .ensures,
     )
