@@ -9,8 +9,8 @@ use Rattle.combinatorics.specs.Stretch.{has}
 use Rattle.combinatorics.proofs.Cases.{by-le, by-bool, leb-holds}
 use Rattle.combinatorics.proofs.Choose.{quick-is, choose-mono}
 use Rattle.combinatorics.proofs.Stretch.{has-some}
-use Rattle.cells.specs.Figures.{maxCount}
-use Rattle.binomials.specs.Limits.{maxThings, maxChosen, maxTaken, mostThings}
+use Rattle.cells.specs.Figures.{maxCount, maxWord, maxBursts}
+use Rattle.binomials.specs.Limits.{maxTaken, mostThings}
 
 -- none of a stretch passes
 none-has : (n k : ℕ) (w : ℕ → Bool) → has n 0 w ≡ false → k < n → w k ≡ false
@@ -29,42 +29,42 @@ small n k most v none l =
 abbrev pub mostFew : ℕ
 mostFew = 9584242993188864
 
-all-few : has (suc maxTaken) 0 (λ k. ltb mostFew (quick maxThings k)) ≡ false
+all-few : has (suc maxTaken) 0 (λ k. ltb mostFew (quick maxWord k)) ≡ false
 unfolding has quick
 all-few = refl
 
-pub choose-few : (n k : ℕ) → n ≤ maxThings → k ≤ maxTaken → choose n k ≤ mostFew
-choose-few n k h l = omega (arith, choose-mono k h, quick-is maxThings k, small (suc maxTaken) k mostFew (quick maxThings) all-few (omega arith))
+pub choose-few : (n k : ℕ) → n ≤ maxWord → k ≤ maxTaken → choose n k ≤ mostFew
+choose-few n k h l = omega (arith, choose-mono k h, quick-is maxWord k, small (suc maxTaken) k mostFew (quick maxWord) all-few (omega arith))
 
 -- ---- all that a count can give
 
 -- one computation over every k that is served, and every number that is chosen before it
-all-fit : has (suc maxChosen) 0 (λ k. has (suc k) 0 (λ i. ltb maxCount (quick (mostThings k) i))) ≡ false
+all-fit : has (suc maxBursts) 0 (λ k. has (suc k) 0 (λ i. ltb maxCount (quick (mostThings k) i))) ≡ false
 unfolding has quick
 all-fit = refl
 
 -- and one thing more is too many, but where there are no more
-all-over : has (suc maxChosen) 0 (λ k. leb (suc (mostThings k)) maxThings && leb (quick (suc (mostThings k)) k) maxCount) ≡ false
+all-over : has (suc maxBursts) 0 (λ k. leb (suc (mostThings k)) maxWord && leb (quick (suc (mostThings k)) k) maxCount) ≡ false
 unfolding has quick
 all-over = refl
 
-pub ways-fit : (n k i : ℕ) → n ≤ mostThings k → k ≤ maxChosen → i ≤ k → choose n i ≤ maxCount
+pub ways-fit : (n k i : ℕ) → n ≤ mostThings k → k ≤ maxBursts → i ≤ k → choose n i ≤ maxCount
 ways-fit n k i h l s =
     omega (
       arith,
       choose-mono i h,
       quick-is (mostThings k) i,
       small (suc k) i maxCount (quick (mostThings k))
-          (none-has (suc maxChosen) k (λ k. has (suc k) 0 (λ i. ltb maxCount (quick (mostThings k) i))) all-fit (omega arith)) (omega arith),
+          (none-has (suc maxBursts) k (λ k. has (suc k) 0 (λ i. ltb maxCount (quick (mostThings k) i))) all-fit (omega arith)) (omega arith),
     )
 
 -- "or say that it exceeds 9223372036854775807"
-pub most-is : (n k : ℕ) → n ≤ maxThings → k ≤ maxChosen → choose n k ≤ maxCount → n ≤ mostThings k
+pub most-is : (n k : ℕ) → n ≤ maxWord → k ≤ maxBursts → choose n k ≤ maxCount → n ≤ mostThings k
 most-is n k h l fit =
     by-le n (mostThings k) (λ _. n ≤ mostThings k) (λ g. g)
     (λ g.
     let m = suc (mostThings k) in
-    let over : ℕ → Bool = λ k. leb (suc (mostThings k)) maxThings && leb (quick (suc (mostThings k)) k) maxCount in
+    let over : ℕ → Bool = λ k. leb (suc (mostThings k)) maxWord && leb (quick (suc (mostThings k)) k) maxCount in
     let little : quick m k ≤ maxCount = omega (arith, quick-is m k, choose-mono {a = m} {b = n} k g) in
-    let yes : over k ≡ true = rw (leb-holds m maxThings (omega arith), leb-holds (quick m k) maxCount little) in
-    absurd (true≢false (sym (has-some (suc maxChosen) 0 k over (omega arith) (omega arith) yes) ∙ all-over)))
+    let yes : over k ≡ true = rw (leb-holds m maxWord (omega arith), leb-holds (quick m k) maxCount little) in
+    absurd (true≢false (sym (has-some (suc maxBursts) 0 k over (omega arith) (omega arith) yes) ∙ all-over)))

@@ -11,7 +11,8 @@ use Rattle.combinatorics.specs.Stretch.{has}
 use Rattle.combinatorics.proofs.Cases.{by-le, leb-holds}
 use Rattle.combinatorics.proofs.Choose.{choose-beyond, choose-zero, product-is}
 use Rattle.combinatorics.proofs.Stretch.{has-some}
-use Rattle.binomials.specs.Limits.{maxThings, maxTaken}
+use Rattle.cells.specs.Figures.{maxWord}
+use Rattle.binomials.specs.Limits.{maxTaken}
 use Rattle.binomials.proofs.Bounds.{mostFew, choose-few}
 
 -- in how many orders k things come
@@ -57,7 +58,7 @@ pub taken-next : (n k : ℕ) → orders k * choose n k * (n - k) ≡ orders (k +
 unfolding orders
 taken-next n k = rw (add-one k, mul-assoc (orders k) (choose n k) (n - k), product-is n k) (sym (mul-assoc (orders k) (suc k) (choose n (suc k))))
 
-pub taken-fits : (n k : ℕ) → n ≤ maxThings → k < maxTaken → orders k * choose n k * (n - k) ≤ mostOrders * mostFew
+pub taken-fits : (n k : ℕ) → n ≤ maxWord → k < maxTaken → orders k * choose n k * (n - k) ≤ mostOrders * mostFew
 taken-fits n k h l =
     rw (taken-next n k)
     (mul-le-mul {n₂ = mostOrders} {m₂ = mostFew} (orders-fit (k + 1) (omega arith)) (choose-few n (k + 1) h (omega arith)))

@@ -2,20 +2,13 @@
 use mathlib.Core.Bool.{cond}
 use Prim.Native.Nat.{ℕ}
 use lib.Dec.{eqb}
-use Rattle.cells.specs.Figures.{maxWord, maxBursts, Counted, counted, tooMany}
+use Rattle.cells.specs.Figures.{maxWord, Counted, counted, tooMany}
 use Rattle.binomials.specs.declared.CountAnswer.{CountAnswer}
 use Rattle.binomials.specs.declared.CountAnswer.the-variants.{Ways, TooMany}
 
--- no more things than a word has symbols, and no more chosen than a placement has bursts
-abbrev pub maxThings : ℕ
-maxThings = maxWord
-
-abbrev pub maxChosen : ℕ
-maxChosen = maxBursts
-
--- the most things out of which k can be chosen in ways that a count can give: `most-is` of proofs/Bounds.antt
+-- the most things, of those that a word has symbols, out of which k can be chosen in ways that a count can give: `most-is` of proofs/Bounds.antt
 abbrev pub mostThings : ℕ → ℕ
-mostThings k = cond (eqb k 7) 1733 (cond (eqb k 8) 887 maxThings)
+mostThings k = cond (eqb k 7) 1733 (cond (eqb k 8) 887 maxWord)
 
 -- how many are chosen at most by one product
 abbrev pub maxTaken : ℕ

@@ -1,9 +1,10 @@
 // The ways to choose things: every count and rank asks for them here. The table of choices has those that are asked for most. Assumes nothing.
 ghost use mathlib.Core.Path.{_≡_};
 ghost use Prim.Native.Nat.{_*_, _/_, _≤_};
+ghost use lib.Dec.{ltb};
 ghost use Rattle.combinatorics.specs.Choose.{choose as ways};
-ghost use Rattle.cells.specs.Figures.{maxCount, countOut};
-ghost use Rattle.binomials.specs.Limits.{maxThings, maxChosen, maxTaken, mostThings, countedAs};
+ghost use Rattle.cells.specs.Figures.{maxCount, countOut, maxWord, maxBursts};
+ghost use Rattle.binomials.specs.Limits.{maxTaken, mostThings, countedAs};
 
 // A count: its value, or that it exceeds the largest that is given.
 pub enum CountAnswer {
@@ -15,11 +16,7 @@ impl CountAnswer {
     pub const MAX: u64 = 9223372036854775807;
 }
 
-// No more things than the longest word has symbols.
-const MAX_THINGS: u64 = 4096;
-
-// Out of so many things 7, and 8, are chosen in at most CountAnswer::MAX ways, and out of one more in more ways than that. Fewer are chosen out of
-// MAX_THINGS in less.
+// Out of so many things 7, and 8, are chosen in at most CountAnswer::MAX ways, and out of one more in more ways than that.
 const MOST_FOR_7: u64 = 1733;
 
 const MOST_FOR_8: u64 = 887;
@@ -29,11 +26,11 @@ const MAX_TAKEN: u64 = 5;
 
 // The ways to choose k things out of n, or that they are too many.
 pub fn count(n: u64, k: u64) -> CountAnswer
-    requires { ⌜ (n ≤ maxThings) × (k ≤ maxChosen) ⌝ }
+    requires { ⌜ (n ≤ maxWord) × (k ≤ maxBursts) ⌝ }
     ensures value { λ r. ⌜ countedAs r ≡ countOut (ways n k) ⌝ }
     ensures limit { λ _. do ⌜ (← ⟦CountAnswer::MAX⟧ .entry) ≡ maxCount ⌝ }
 {
-    if most_things(k) < n {
+    if too_many(n, k) {
         return CountAnswer::TooMany;
     }
     CountAnswer::Ways(choose(n, k))
@@ -41,7 +38,7 @@ pub fn count(n: u64, k: u64) -> CountAnswer
 
 // The ways to choose k things out of n, where a count can give them: from the table of choices, or worked out where it doesn't have them.
 pub fn choose(n: u64, k: u64) -> u64
-    requires { ⌜ (n ≤ maxThings) × (k ≤ maxChosen) × (ways n k ≤ maxCount) ⌝ }
+    requires { ⌜ (n ≤ maxWord) × (k ≤ maxBursts) × (ways n k ≤ maxCount) ⌝ }
     ensures { λ r. ⌜ r ≡ ways n k ⌝ }
 {
     if k == 0 || choices::LAST_CHOSEN < k || choices::LAST_THINGS < n {
@@ -52,7 +49,7 @@ pub fn choose(n: u64, k: u64) -> u64
 
 // What the table doesn't have: more things than its last, by steps from those that it has; the others worked out.
 fn beyond_table(n: u64, k: u64) -> u64
-    requires { ⌜ (n ≤ maxThings) × (k ≤ maxChosen) × (ways n k ≤ maxCount) ⌝ }
+    requires { ⌜ (n ≤ maxWord) × (k ≤ maxBursts) × (ways n k ≤ maxCount) ⌝ }
     ensures { λ r. ⌜ r ≡ ways n k ⌝ }
 {
     if k <= choices::LAST_CHOSEN || choices::LAST_THINGS < n || n < k {
@@ -69,7 +66,7 @@ fn beyond_table(n: u64, k: u64) -> u64
 // The same worked out: the first few by one product, each further one by a step. It calls itself, so that it is not inlined and leaves
 // the loops that look into the table their registers.
 pub fn worked_out(n: u64, k: u64) -> u64
-    requires { ⌜ (n ≤ maxThings) × (k ≤ maxChosen) × (ways n k ≤ maxCount) ⌝ }
+    requires { ⌜ (n ≤ maxWord) × (k ≤ maxBursts) × (ways n k ≤ maxCount) ⌝ }
     ensures { λ r. ⌜ r ≡ ways n k ⌝ }
 {
     if n < k {
@@ -82,23 +79,23 @@ pub fn worked_out(n: u64, k: u64) -> u64
     scaled(worked_out(n, fewer), n - fewer, k)
 }
 
-// The most things out of which k can be chosen in at most CountAnswer::MAX ways.
-fn most_things(k: u64) -> u64
-    requires { ⌜ k ≤ maxChosen ⌝ }
-    ensures { λ r. ⌜ r ≡ mostThings k ⌝ }
+// Whether k things are chosen out of n in more than CountAnswer::MAX ways. Fewer than 7 never are, as no word has enough symbols.
+fn too_many(n: u64, k: u64) -> bool
+    requires { ⌜ (n ≤ maxWord) × (k ≤ maxBursts) ⌝ }
+    ensures { λ r. ⌜ r ≡ ltb (mostThings k) n ⌝ }
 {
-    if k < 7 {
-        return MAX_THINGS;
-    }
     if k == 7 {
-        return MOST_FOR_7;
+        return MOST_FOR_7 < n;
     }
-    MOST_FOR_8
+    if k == 8 {
+        return MOST_FOR_8 < n;
+    }
+    false
 }
 
 // A product by a quotient, where the product itself may pass 64 bits.
 fn scaled(a: u64, b: u64, d: u64) -> u64
-    requires { ⌜ (1 ≤ d) × (d ≤ maxChosen) × (b ≤ maxThings) × (a * b / d ≤ maxCount) ⌝ }
+    requires { ⌜ (1 ≤ d) × (d ≤ maxBursts) × (b ≤ maxWord) × (a * b / d ≤ maxCount) ⌝ }
     ensures { λ r. ⌜ r ≡ a * b / d ⌝ }
 {
     a / d * b + a % d * b / d
@@ -107,7 +104,7 @@ fn scaled(a: u64, b: u64, d: u64) -> u64
 // The ways to choose a few things: the ways to take them one after another, by the orders in which the same things come. One division
 // for the whole product, because a division takes longest.
 fn choose_few(n: u64, k: u64) -> u64
-    requires { ⌜ (n ≤ maxThings) × (k ≤ maxTaken) × (k ≤ n) ⌝ }
+    requires { ⌜ (n ≤ maxWord) × (k ≤ maxTaken) × (k ≤ n) ⌝ }
     ensures { λ r. ⌜ r ≡ ways n k ⌝ }
 {
     let mut taken: u64 = 1;

@@ -8,18 +8,18 @@ use lib.Dec.{leb, ltb}
 use Rattle.combinatorics.specs.Bursts.{contracted, placements}
 use Rattle.combinatorics.proofs.Cases.{by-le, leb-holds, eqb-other, le-of}
 use Rattle.combinatorics.proofs.Lists.{both}
-use Rattle.cells.specs.Figures.{Params, maxCount, inRange, placementCount}
+use Rattle.cells.specs.Figures.{Params, maxCount, inRange, placementCount, maxWord}
 use Rattle.construction_a.specs.Figures.{indexTail, blockMin, fits}
 use Rattle.construction_a.specs.Former.{formerRange, SameFigures}
 use Rattle.cells.proofs.Figures.{ranged}
-use Rattle.binomials.specs.Limits.{maxThings, mostThings}
+use Rattle.binomials.specs.Limits.{mostThings}
 use Rattle.binomials.proofs.Bounds.{ways-fit}
 
 -- C(1024, 6) is far below the limit
 count-fits : (f : Params) → 0 < f .b → f .n ≤ 1024 → f .m ≤ 6 → f .m * f .b ≤ f .n → placementCount f ≤ maxCount
 unfolding placements
 count-fits f b n m total =
-    let most : mostThings (f .m) ≡ maxThings = rw (eqb-other (f .m) 7 (λ e. omega arith), eqb-other (f .m) 8 (λ e. omega arith)) in
+    let most : mostThings (f .m) ≡ maxWord = rw (eqb-other (f .m) 7 (λ e. omega arith), eqb-other (f .m) 8 (λ e. omega arith)) in
     ways-fit (contracted (f .n) (f .m) (f .b)) (f .m) (f .m) (omega (arith, most, le-mul-of-pos-right (f .m) b)) (omega arith) (omega arith)
 
 pub same-figures : SameFigures

@@ -8,7 +8,6 @@ ghost use Rattle.combinatorics.specs.Bursts.{apart, placements, rankOf, startsO
 ghost use Rattle.combinatorics.specs.Choose.{choose};
 ghost use Rattle.combinatorics.specs.Rank.{waysFrom};
 ghost use Rattle.combinatorics.specs.Stretch.{top, lastEnd};
-ghost use Rattle.binomials.specs.Limits.{maxThings, maxChosen};
 ghost use Rattle.cells.specs.Outcomes.{held, defectAt, unplaced as unplacedAs};
 ghost use Rattle.cells.specs.Figures.{maxWord, maxBursts, maxCount};
 ghost use Rattle.placements.specs.Bridge.{heldAs, coveredAs, startsIn, coverable, leastCover, coverWithin, Rankable, Room};
@@ -116,7 +115,7 @@ struct LastBurst {
 // Its reduced start is the largest number below `below` out of which `number` things can be chosen in at most `rank` ways: a search by halves. One thing can
 // be chosen in as many ways as there are things, so there is nothing to search for.
 fn last_burst(below: u64, number: u64, rank: u64) -> LastBurst
-    requires { ⌜ (below ≤ maxThings) × (1 ≤ number) × (number ≤ maxChosen) × (choose below number ≤ maxCount) × (rank < choose below number) ⌝ }
+    requires { ⌜ (below ≤ maxWord) × (1 ≤ number) × (number ≤ maxBursts) × (choose below number ≤ maxCount) × (rank < choose below number) ⌝ }
     ensures reduced { λ r. ⌜ r .reduced ≡ top (waysFrom number) below rank ⌝ }
     ensures share { λ r. ⌜ r .share ≡ choose (r .reduced) number ⌝ }
 {

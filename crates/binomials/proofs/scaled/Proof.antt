@@ -1,7 +1,7 @@
 -- `scaled` meets its contract: both parts together are the quotient of the whole product. Assumes nothing.
 use native.Mathlib.Omega.{arith}
 use borrow.Author.Needs.{needs}
-use Rattle.binomials.specs.Limits.{maxThings, maxChosen}
+use Rattle.cells.specs.Figures.{maxWord, maxBursts}
 use Rattle.binomials.proofs.Scaling.{scaled-is, rest-small}
 use Rattle.binomials.proofs.scaled.Statement.{statement}
 use Rattle.binomials.proofs.scaled.Tie as tie
@@ -16,7 +16,7 @@ rem-result : tie.Need-rem-result
 rem-result c = search needs
 
 mul-result-2 : tie.Need-mul-result-2
-mul-result-2 c = omega (arith, rest-small (c .args .a) (c .args .b) (c .args .d) maxChosen maxThings (c .pre .0) (c .pre .1) (c .pre .2))
+mul-result-2 c = omega (arith, rest-small (c .args .a) (c .args .b) (c .args .d) maxBursts maxWord (c .pre .0) (c .pre .1) (c .pre .2))
 
 div-result-2 : tie.Need-div-result-2
 div-result-2 c = search needs
