@@ -191,10 +191,10 @@ fn read_message(
     ensures { λ r. ⌜ readAnswered r ≡ prescriptionReadUnder (codingIn layout) (entries table) (now (word .entry)) ⌝ }
 {
     let answer = jobcodec::read_spelled(layout, word, message);
-    match answer {
-        WordAnswer::Refused(number) => ReadAnswer::Refused(number),
-        WordAnswer::Accepted(_) => { hand_out(table, layout.q, message, payload) }
-    }
+    let WordAnswer::Accepted(_) = answer else {
+        return ReadAnswer::Refused(jobcodec::refused_with(answer));
+    };
+    hand_out(table, layout.q, message, payload)
 }
 
 // The number and the prescription of the payload that an accepted word's message spells. Refusals: 16, 12 23 14.

@@ -4,11 +4,11 @@ use mathlib.Core.List.{List, _++_}
 use Prim.Native.Nat.{ℕ, _≤_}
 use borrow.Author.Needs.{needs}
 use lib.ListN.{length, take, drop, replicate}
-use Rattle.cells.specs.Outcomes.{Coding, rankIs, Decoded, decodeUnder}
+use Rattle.cells.specs.Outcomes.{Coding, unwritten, rankIs, Decoded, decodeUnder}
 use Rattle.cells.specs.Figures.{maxWord}
 use Rattle.placements.specs.Bridge.{heldAs}
 use Rattle.decoder.specs.declared.WordAnswer.{WordAnswer}
-use Rattle.decoder.specs.Answer.{answerAs}
+use Rattle.decoder.specs.Answer.{answerAs, wordNumber}
 use Rattle.jobs.specs.Slots.{entries}
 use Rattle.codes.specs.Given.{codingIn}
 use Rattle.codes.proofs.Layouts.{numbers-in, bound}
@@ -57,11 +57,24 @@ slice-aggregate-decode-fitting c = sym (lent (c .before .before .before))
 decode-fitting-requires : tie.Need-decode-fitting-requires
 decode-fitting-requires c κs = c .before .before .before .pre .serves-from
 
-enum-known-answer : tie.Need-enum-known-answer
-enum-known-answer c = search needs
-
 enum-told : tie.Need-enum-told
 enum-told c = search needs
+
+enum-told-2 : tie.Need-enum-told-2
+enum-told-2 c = search needs
+
+refused-with-requires : tie.Need-refused-with-requires
+refused-with-requires c κs = search needs
+
+returns : tie.Need-returns
+returns c =
+    let t = c .before .before .before .before .before .before .before .before .before in
+    let g = t .pre in
+    let told = c .before .enum-told2 .given in
+    ap (unwritten (out t)) (c .refused-with .ensures ∙ ap wordNumber (told .1))
+    ∙ read-refused (d t) (e t) (from t) (to t) (g .alike) (entries (t .args .table)) (w t) (out t) (take (k t) (replicate maxWord 0))
+    (g .complete) (g .lent) (room t) (told .0 .0)
+    (sym (ap (λ (o : Decoded). o .answer) (c .before .before .before .before .before .decode-fitting .ensures)) ∙ ap answerAs (told .1))
 
 -- an accepted word
 module _ (u : tie.After-enum-told) where
@@ -106,15 +119,6 @@ move-message-requires c κs =
           (g .complete) (g .lent) (room t) (u .enum-told .given .0 .0) (u .before .before .before .before .decode-fitting .result .placement) (ms u) (is u),
     )
 
-returns : tie.Need-returns
-returns c =
-    let t = c .before .before .before .before .before .before .before .before .before in
-    let g = t .pre in
-    let told = c .before .answer .given in
-    read-refused (d t) (e t) (from t) (to t) (g .alike) (entries (t .args .table)) (w t) (out t) (take (k t) (replicate maxWord 0))
-    (g .complete) (g .lent) (room t) (told .0 .0)
-    (sym (ap (λ (o : Decoded). o .answer) (c .before .before .before .before .before .decode-fitting .ensures)) ∙ ap answerAs (told .1))
-
 same-length : tie.Need-same-length
 same-length c = search needs
 
@@ -131,5 +135,5 @@ pub move-fitting-spec : {M : Type 1} → statement M
 move-fitting-spec =
     tie.close
     (tie.spec
-    array-borrow-prefix-message slice-aggregate-decode-fitting decode-fitting-requires enum-known-answer enum-told
-    array-share-prefix-message slice-aggregate-move-message move-message-requires returns same-length returns-2)
+    array-borrow-prefix-message slice-aggregate-decode-fitting decode-fitting-requires enum-told enum-told-2 refused-with-requires
+    returns array-share-prefix-message slice-aggregate-move-message move-message-requires same-length returns-2)
