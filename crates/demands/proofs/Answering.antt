@@ -20,7 +20,7 @@ use Rattle.jobs.specs.Table.{twice}
 use Rattle.payloads.specs.Payload.{carriesJob}
 use Rattle.jobcodec.specs.DemandThree.{isRefusal}
 use Rattle.jobcodec.specs.JobWrite.{whereOpen}
-use Rattle.lent.specs.Jobs.{hasTableLen, slotsFit, withTable}
+use Rattle.lent_jobs.specs.Jobs.{hasTableLen, slotsFit, withTable}
 use Rattle.demands.specs.Orders.{ownOf, wordRead, jobRead, prescriptionRead}
 use Rattle.demands.specs.DemandOne.{AnswersBy}
 

@@ -15,11 +15,11 @@ use Rattle.decoder.specs.Exported.{Exported, exportedAnswer, exportedUnder}
 use Rattle.jobcodec.specs.DemandThree.{isRefusal}
 use Rattle.jobcodec.specs.JobRead.{withhold}
 use Rattle.lent.specs.Covering.{CoverLent, coverBytesUnder}
-use Rattle.lent.specs.Jobs.{jobWriteBytesUnder, jobReadBytesUnder}
+use Rattle.lent_jobs.specs.Jobs.{jobWriteBytesUnder, jobReadBytesUnder}
 use Rattle.lent.specs.Words.{encodeBytesUnder}
-use Rattle.lent.specs.Table.{tableLen, statesKnown, tableIn}
+use Rattle.lent_jobs.specs.Table.{tableLen, statesKnown, tableIn}
 use Rattle.lent.specs.Check.{verifyBytesUnder}
-use Rattle.lent.specs.Calls.{CallLent, called, calledAs, callBytesOut}
+use Rattle.lent_jobs.specs.Calls.{CallLent, called, calledAs, callBytesOut}
 use Rattle.lent.specs.Figures.{FiguresLent, figuresLentUnder}
 use Rattle.demands.specs.Orders.{wordWrite, covering, jobWrite, call, callOnBytes, lentFigures}
 use Rattle.demands.proofs.Answering.{keep, done, tested, Owns, Begins, BeginsJob}

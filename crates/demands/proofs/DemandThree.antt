@@ -29,9 +29,9 @@ use Rattle.jobcodec.specs.DemandThree.{Claim}
 use Rattle.jobcodec.specs.JobRead.{JobRead, jobReadUnder}
 use Rattle.jobcodec.proofs.DemandThree.{follows-figures}
 use Rattle.exports.specs.Follows.{answersOn, bytesAfter}
-use Rattle.lent.specs.Table.{tableIn}
+use Rattle.lent_jobs.specs.Table.{tableIn}
 use Rattle.exports.proofs.Follows.{bytes-left, bytes-follow}
-use Rattle.lent.proofs.JobLaws.{read-whole}
+use Rattle.lent_jobs.proofs.JobLaws.{read-whole}
 use Rattle.records.specs.Session.{Session, atStart, maxRecords, nextSession}
 use Rattle.lines.specs.Lines.{refusalLine, letterS, letterL, letterW, letterR}
 use Rattle.records.specs.Records.{recordHeadLen, isMarked, isEmpty, isWhole, letterOf, current, payloadLenOf, recordLen, readable, reach, figuresIn}

@@ -21,8 +21,8 @@ use Rattle.jobcodec.specs.JobWrite.{jobStatus}
 use Rattle.moving.specs.Resize.{hasRoom}
 use Rattle.moving.specs.Move.{payloadBytes, moveJob, moveMessage, moveRead, sameFigures, moveUnder}
 use Rattle.moving.specs.Move as Move
-use Rattle.lent.specs.Table.{tableIn}
-use Rattle.lent.specs.Jobs.{hasTableLen, slotsFit}
+use Rattle.lent_jobs.specs.Table.{tableIn}
+use Rattle.lent_jobs.specs.Jobs.{hasTableLen, slotsFit}
 use Rattle.lent_moving.specs.Moves.{moveBytesUnder}
 use Rattle.demands.specs.Orders.{ownOf, moveAccepted, moving}
 use Rattle.demands.specs.DemandOne.{AnswersBy}

@@ -32,7 +32,7 @@ use Rattle.prescriptioncodec.specs.PrescriptionRead.{HandedOut, handPrescriptio
 use Rattle.lent_prescriptions.specs.Eyes.{marksOf, powersOf, powersLent, answerLent, transposeLent, PowerLent, equivalentLentAs, equivalentLent}
 use Rattle.lent_prescriptions.specs.Prescriptions.{handedMarks, handedPowers, haveRoom, prescriptionWriteBytesUnder, prescriptionReadLent}
 use Rattle.lent_prescriptions.specs.Prescriptions.{prescriptionReadBytesUnder}
-use Rattle.lent.specs.Table.{tableIn}
+use Rattle.lent_jobs.specs.Table.{tableIn}
 use Rattle.demands.specs.Orders.{prescriptionAlone, prescriptionWrite, prescriptionLent}
 use Rattle.demands.specs.DemandOne.{AnswersBy, AnswersLent}
 use Rattle.demands.proofs.Answering.{keep, done, tested, where-open, job-tests, Owns, by-own, BeginsJob, with-table, one-more, Writes}

@@ -36,11 +36,11 @@ use Rattle.prescriptioncodec.specs.PrescriptionRead.{prescriptionReadUnder}
 use Rattle.moving.specs.Move.{moveUnder}
 use Rattle.lanes.specs.Outcomes.{interleaveUnder, deinterleaveUnder}
 use Rattle.verifier.specs.Verify.{Verdict, agreeing, verdictRefusal, verifyUnder}
-use Rattle.lent.specs.Calls.{callBytesOut}
+use Rattle.lent_jobs.specs.Calls.{callBytesOut}
 use Rattle.lent.specs.Check.{differs, verdictNumber, verifyBytesUnder}
 use Rattle.lent.specs.Covering.{coverBytesUnder}
 use Rattle.lent.specs.Figures.{figuresLentUnder}
-use Rattle.lent.specs.Jobs.{jobWriteBytesUnder, jobReadBytesUnder}
+use Rattle.lent_jobs.specs.Jobs.{jobWriteBytesUnder, jobReadBytesUnder}
 use Rattle.lent.specs.Words.{encodeBytesUnder}
 use Rattle.lent_moving.specs.Moves.{moveBytesUnder}
 use Rattle.lent_prescriptions.specs.Eyes.{PowersLent, transposeLent, equivalentLent}

@@ -21,8 +21,8 @@ use Rattle.payloads.specs.Payload.{jobNumber}
 use Rattle.jobcodec.specs.DemandThree.{Claim}
 use Rattle.jobcodec.specs.JobRead.{JobRead}
 use Rattle.exports.specs.Follows.{answersOn, bytesAfter, has32Bits}
-use Rattle.lent.specs.Jobs.{jobReadBytesUnder}
-use Rattle.lent.specs.Table.{TableOf}
+use Rattle.lent_jobs.specs.Jobs.{jobReadBytesUnder}
+use Rattle.lent_jobs.specs.Table.{TableOf}
 use Rattle.lines.specs.Lines.{refusalLine, letterS, letterL, letterR}
 use Rattle.records.specs.Records.{recordHeadLen, isMarked, letterOf, payloadLenOf, figuresIn, longFiguresIn}
 use Rattle.transfer.specs.Steps.{stopped, readStep, stepOut}

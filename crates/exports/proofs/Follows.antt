@@ -21,10 +21,10 @@ use Rattle.jobs.specs.Table.{finishAt, restored, reinstateAt, holdAt, releaseAt
 use Rattle.ledger.specs.Calls.{callOut, answersFrom, tableFrom}
 use Rattle.ledger.specs.Simulation.{Start, empty, zero-open, zero-cancelled, zero-opened-cancelled, zero-on-hold-cancelled}
 use Rattle.ledger.proofs.Simulates.{simulation-from-start}
-use Rattle.lent.specs.Table.{numberFits, IsTable, TableOf}
-use Rattle.lent.proofs.TableBack.{table-back, empty-bytes, empty-table}
-use Rattle.lent.specs.Calls.{CallLent, calledAs}
-use Rattle.lent.proofs.CallLaws.{as-called}
+use Rattle.lent_jobs.specs.Table.{numberFits, IsTable, TableOf}
+use Rattle.lent_jobs.proofs.TableBack.{table-back, empty-bytes, empty-table}
+use Rattle.lent_jobs.specs.Calls.{CallLent, calledAs}
+use Rattle.lent_jobs.proofs.CallLaws.{as-called}
 use Rattle.exports.specs.Follows.{callOn, answersOn, bytesAfter, EmptyBytes, has32Bits, BytesFollow}
 
 -- ---- A call leaves a table, and a refused one the table that it found

@@ -12,8 +12,8 @@ use Rattle.jobs.specs.declared.Entry.{Entry}
 use Rattle.jobs.specs.Jobs.{Call}
 use Rattle.ledger.specs.Simulation.{Start, Follows}
 use Rattle.jobs.specs.Table.{emptyTable, callAs}
-use Rattle.lent.specs.Table.{tableLen, tableIn, TableOf}
-use Rattle.lent.specs.Calls.{CallLent, callBytesOut}
+use Rattle.lent_jobs.specs.Table.{tableLen, tableIn, TableOf}
+use Rattle.lent_jobs.specs.Calls.{CallLent, callBytesOut}
 
 -- `burgzemi_open`, `_cancel`, `_finish`, `_reinstate`, `_hold` or `_release`, by the kind of the call
 abbrev pub callOn : List ℕ → Call → CallLent

@@ -2,8 +2,8 @@
 // an unknown state too. Assumes nothing.
 ghost use mathlib.Core.Path.{_≡_};
 ghost use Rattle.jobs.specs.Table.{openOut, cancelOut, finishOut, reinstateOut, holdOut, releaseOut};
-ghost use Rattle.lent.specs.Calls.{called, callBytesOut};
-use lent::calls;
+ghost use Rattle.lent_jobs.specs.Calls.{called, callBytesOut};
+use lent_jobs::calls;
 
 // Opens a job. Refusals: 3 1 17 12 13 15.
 #[no_mangle]

@@ -10,14 +10,14 @@ ghost use Rattle.lanes.specs.Outcomes.{unfilled, interleaveUnder, deinterleaveU
 ghost use Rattle.lent.specs.Check.{verifyBytesUnder, verdictNumber};
 ghost use Rattle.lent.specs.Covering.{coverLent, coverBytesUnder};
 ghost use Rattle.lent.specs.Figures.{figuresLent, figuresLentUnder};
-ghost use Rattle.lent.specs.Jobs.{jobWriteBytesUnder, jobReadBytesUnder};
+ghost use Rattle.lent_jobs.specs.Jobs.{jobWriteBytesUnder, jobReadBytesUnder};
 ghost use Rattle.lent.specs.Words.{encodeBytesUnder};
 ghost use Rattle.lent_prescriptions.specs.Eyes.{eyeFrom, powersLent};
 ghost use Rattle.lent_prescriptions.specs.Prescriptions.{prescriptionFrom, prescriptionWriteBytesUnder, prescriptionReadBytesUnder};
 use codes::Figures;
 use lent::check;
 use lent::figures;
-use lent::job;
+use lent_jobs::job;
 use lent::starts;
 use lent::words;
 use lent_prescriptions::prescriptions;

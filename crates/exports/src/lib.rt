@@ -9,12 +9,12 @@ ghost use Rattle.lanes.specs.Outcomes.{unfilled, interleaveOut, deinterleaveOut
 ghost use Rattle.lent.specs.Check.{verifyBytesUnder, verdictNumber};
 ghost use Rattle.lent.specs.Covering.{coverLent, coverBytesOut};
 ghost use Rattle.lent.specs.Figures.{figuresLent, figuresLentUnder};
-ghost use Rattle.lent.specs.Jobs.{jobWriteBytesOut, jobReadBytesOut};
+ghost use Rattle.lent_jobs.specs.Jobs.{jobWriteBytesOut, jobReadBytesOut};
 ghost use Rattle.lent.specs.Words.{encodeBytesOut};
 use codes::Figures;
 use lent::check;
 use lent::figures;
-use lent::job;
+use lent_jobs::job;
 use lent::starts;
 use lent::words;
 use params::Params;

@@ -1,5 +1,5 @@
 -- Laws of words on bytes, under any figures. Assumes nothing.
-use mathlib.Core.Path.{_≡_}
+use mathlib.Core.Path.{_≡_, ap₂}
 use mathlib.Core.Logic.{_≢_}
 use mathlib.Core.Bool.{true}
 use mathlib.Core.List.{List}
@@ -10,7 +10,7 @@ use lib.ListN.{length}
 use Rattle.refusals.specs.Refusals.{must, wrongLength}
 use Rattle.combinatorics.proofs.Cases.{by-eq, by-bool, eqb-same, eqb-other, leb-holds}
 use Rattle.cells.specs.Figures.{maxBursts}
-use Rattle.cells.specs.Outcomes.{Coding, Held, held, unserved, figuresUnder, unwritten, encodeUnder}
+use Rattle.cells.specs.Outcomes.{Coding, Held, held, unserved, figuresUnder, Encoded, unwritten, encodeUnder}
 use Rattle.cells.proofs.Outcomes.{refused-alike}
 use Rattle.lent.specs.Starts.{startsFrom, placementFrom}
 use Rattle.lent.specs.Words.{encodeBytesUnder}
@@ -54,3 +54,9 @@ module _ (d : Coding) (starts ms out : List ℕ) where
     pub encode-placed : length starts ≡ 2 * d .bursts → encodeBytesUnder d starts ms out ≡ encodeUnder d (held (startsFrom starts)) ms out
     unfolding encodeBytesUnder
     encode-placed e = rw (range, fit, eqb-same (length starts) (2 * d .bursts) e)
+
+-- ---- Word write's answer and word
+
+-- what a caller of word write is told: the answer, and what the lent word then holds
+pub all-told : {w : List ℕ} {n : ℕ} (o : Encoded) → w ≡ o .word → n ≡ o .answer → unwritten w n ≡ o
+all-told o = ap₂ (λ (w : List ℕ) (n : ℕ). unwritten w n)

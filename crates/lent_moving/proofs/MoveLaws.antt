@@ -21,7 +21,7 @@ use Rattle.moving.specs.Move.{moveRead, move, sameFigures, moveUnder}
 use Rattle.moving.specs.Given.{BothReady}
 use Rattle.moving.specs.Both.{fromFigures}
 use Rattle.moving.proofs.Figures.{alike-same}
-use Rattle.lent.specs.Table.{tableLen, statesKnown, tableIn}
+use Rattle.lent_jobs.specs.Table.{tableLen, statesKnown, tableIn}
 use Rattle.lent_moving.specs.Moves.{moveBytesUnder}
 use Rattle.lent_moving.specs.Given.{moveWithoutTable}
 

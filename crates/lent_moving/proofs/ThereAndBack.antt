@@ -8,7 +8,7 @@ use Rattle.codes.specs.Bridge.{codingOf}
 use Rattle.moving.specs.Move.{moveUnder}
 use Rattle.moving.specs.ThereAndBack.{Returned}
 use Rattle.moving.proofs.Figures.{there-and-back}
-use Rattle.lent.specs.Table.{tableIn}
+use Rattle.lent_jobs.specs.Table.{tableIn}
 use Rattle.lent_moving.specs.Moves.{moveBytesUnder}
 use Rattle.lent_moving.specs.ThereAndBack.{ThereAndBackBytes}
 use Rattle.lent_moving.proofs.MoveLaws.{bytes-whole, accepted-table}

@@ -10,8 +10,8 @@ use Rattle.construction_a.specs.Outcomes.{coding as codingA}
 use Rattle.larsson.specs.Outcomes.{coding as codingLarsson}
 use Rattle.payloads.specs.Payload.{carriesJob}
 use Rattle.moving.specs.Move.{sameFigures, moveUnder}
-use Rattle.lent.specs.Table.{tableIn}
-use Rattle.lent.specs.Jobs.{hasTableLen, slotsFit}
+use Rattle.lent_jobs.specs.Table.{tableIn}
+use Rattle.lent_jobs.specs.Jobs.{hasTableLen, slotsFit}
 
 -- "1 2 10 3", where 3 stands for the bytes of the table too
 unfoldable pub moveBytesUnder : Coding → Coding → List ℕ → List ℕ → List ℕ → Encoded

@@ -7,7 +7,7 @@ ghost use Rattle.params.specs.Bridge.{given};
 ghost use Rattle.lent_moving.specs.Moves.{moveBytesUnder, toConstructionABytes, toLarssonBytes};
 ghost use Rattle.lent_moving.specs.Given.{moveWithoutTable};
 use codes::Figures;
-use lent::table;
+use lent_jobs::table;
 use moving::both::BothAnswer;
 use moving::both::both_fit;
 use params::Params;

@@ -27,13 +27,13 @@ use Rattle.prescription.specs.Outcomes.{Answered}
 use Rattle.prescriptioncodec.specs.PrescriptionWrite.{numberLen, numberBytes, prescriptionWriteUnder}
 use Rattle.prescriptioncodec.specs.PrescriptionRead.{HandedOut, prescriptionReading, prescriptionReadUnder}
 use Rattle.lent_prescriptions.specs.Eyes.{eyeKind, eyeAxis, eyeSphere, eyeCylinder, powersLent, answerLent}
-use Rattle.lent.specs.Jobs.{withoutTable}
+use Rattle.lent_jobs.specs.Jobs.{withoutTable}
 use Rattle.lent_prescriptions.specs.Prescriptions.{prescriptionWriteBytesUnder, handedMarks, handedPowers, haveRoom, prescriptionReadLent}
 use Rattle.lent_prescriptions.specs.Prescriptions.{prescriptionReadBytesUnder, withoutRoom}
 use Rattle.lent.specs.Starts.{placementFrom}
-use Rattle.lent.specs.Table.{tableLen, statesKnown, tableIn}
+use Rattle.lent_jobs.specs.Table.{tableLen, statesKnown, tableIn}
 use Rattle.lent_prescriptions.proofs.Filling.{stored-all}
-use Rattle.lent.proofs.WithTable.{other-table, unknown-state, whole-table, whole-write}
+use Rattle.lent_jobs.proofs.WithTable.{other-table, unknown-state, whole-table, whole-write}
 
 -- ---- Marks
 

@@ -26,12 +26,12 @@ use Rattle.prescription.specs.Eyes.{prescriptionFits}
 use Rattle.prescriptioncodec.specs.Laws.{ReadBackUnder}
 use Rattle.prescriptioncodec.specs.PrescriptionWrite.{prescriptionWriteUnder}
 use Rattle.prescriptioncodec.proofs.RoundTrip.{prescriptions-read-back}
-use Rattle.lent.specs.Jobs.{hasTableLen, slotsFit}
+use Rattle.lent_jobs.specs.Jobs.{hasTableLen, slotsFit}
 use Rattle.lent_prescriptions.specs.Eyes.{powersLent}
 use Rattle.lent_prescriptions.specs.Prescriptions.{prescriptionWriteBytesUnder, handedMarks, handedPowers, haveRoom, prescriptionReadBytesUnder}
 use Rattle.lent_prescriptions.specs.Prescriptions.{LentReadsBack}
 use Rattle.lent.specs.Starts.{startsFrom}
-use Rattle.lent.specs.Table.{tableLen, statesKnown, tableIn}
+use Rattle.lent_jobs.specs.Table.{tableLen, statesKnown, tableIn}
 use Rattle.lent_prescriptions.proofs.PrescriptionLaws.{read-with-room, read-whole}
 use Rattle.lent.proofs.StartLaws.{length-starts}
 

@@ -23,9 +23,9 @@ use Rattle.prescription.specs.Eyes.{prescriptionFits}
 use Rattle.prescriptioncodec.specs.PrescriptionWrite.{numberBytes, prescriptionWriteUnder}
 use Rattle.prescriptioncodec.specs.PrescriptionRead.{prescriptionReadUnder}
 use Rattle.lent_prescriptions.specs.Eyes.{marksOf, powersOf, PowersLent, powersLent, answerLent}
-use Rattle.lent.specs.Jobs.{withTable, withoutTable}
+use Rattle.lent_jobs.specs.Jobs.{withTable, withoutTable}
 use Rattle.lent.specs.Starts.{startsFrom}
-use Rattle.lent.specs.Table.{tableIn}
+use Rattle.lent_jobs.specs.Table.{tableIn}
 
 -- "Both eyes and the pupil distance make one prescription"
 abbrev pub prescriptionFrom : Eye → Eye → Float → Prescription

@@ -12,7 +12,7 @@ use crate::eyes;
 use codes::Figures;
 use jobs::JobTable;
 use lent::starts;
-use lent::table;
+use lent_jobs::table;
 use prescription::eyes::Eye;
 use prescription::texts::Prescription;
 use prescriptioncodec::ReadAnswer;

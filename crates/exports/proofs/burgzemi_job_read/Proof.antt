@@ -1,6 +1,6 @@
 -- `burgzemi_job_read` meets its contract: the inner function's, under Construction A's figures. Assumes nothing.
 use borrow.Author.Needs.{needs}
-use Rattle.lent.specs.Jobs.{jobReadBytesOut}
+use Rattle.lent_jobs.specs.Jobs.{jobReadBytesOut}
 use Rattle.exports.proofs.burgzemi_job_read.Statement.{statement}
 use Rattle.exports.proofs.burgzemi_job_read.Tie as tie
 

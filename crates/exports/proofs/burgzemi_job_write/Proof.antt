@@ -1,6 +1,6 @@
 -- `burgzemi_job_write` meets its contract: the inner function's, under Construction A's figures. Assumes nothing.
 use borrow.Author.Needs.{needs}
-use Rattle.lent.specs.Jobs.{jobWriteBytesOut}
+use Rattle.lent_jobs.specs.Jobs.{jobWriteBytesOut}
 use Rattle.exports.proofs.burgzemi_job_write.Statement.{statement}
 use Rattle.exports.proofs.burgzemi_job_write.Tie as tie
 

@@ -10,8 +10,7 @@ use Rattle.codes.proofs.Layouts.{in-order, numbers-in}
 use Rattle.placements.specs.Bridge.{heldAs}
 use Rattle.codes.proofs.Covering.{room-in}
 use Rattle.lent.proofs.StartLaws.{starts-read}
-use Rattle.lent.proofs.WithTable.{all-told}
-use Rattle.lent.proofs.WordLaws.{encode-length, encode-placed}
+use Rattle.lent.proofs.WordLaws.{all-told, encode-length, encode-placed}
 use Rattle.lent.proofs.words.encode_laid.Statement.{statement}
 use Rattle.lent.proofs.words.encode_laid.Tie as tie
 

@@ -10,7 +10,7 @@ use Rattle.jobs.specs.Slots.{entries}
 use Rattle.prescriptioncodec.specs.PrescriptionWrite.{prescriptionWriteUnder}
 use Rattle.lent_prescriptions.proofs.PrescriptionLaws.{write-other, write-state, write-whole}
 use borrow.Author.Needs.{needs}
-use Rattle.lent.proofs.WithTable.{all-told}
+use Rattle.lent.proofs.WordLaws.{all-told}
 use Rattle.lent_prescriptions.proofs.prescriptions.write.Statement.{statement}
 use Rattle.lent_prescriptions.proofs.prescriptions.write.Tie as tie
 

@@ -1,0 +1,5 @@
+pub mod TableLaws
+pub mod TableBack
+pub mod CallLaws
+pub mod WithTable
+pub mod JobLaws
