@@ -17,9 +17,9 @@ ghost use Rattle.lent_prescriptions.specs.Prescriptions.{prescriptionFrom, pres
 use codes::Figures;
 use lent::check;
 use lent::figures;
-use lent_jobs::job;
 use lent::starts;
 use lent::words;
+use lent_jobs::job;
 use lent_prescriptions::prescriptions;
 use params::Params;
 

@@ -14,9 +14,9 @@ ghost use Rattle.lent.specs.Words.{encodeBytesOut};
 use codes::Figures;
 use lent::check;
 use lent::figures;
-use lent_jobs::job;
 use lent::starts;
 use lent::words;
+use lent_jobs::job;
 use params::Params;
 
 pub mod calls;

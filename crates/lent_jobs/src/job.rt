@@ -4,9 +4,9 @@ ghost use Rattle.cells.specs.Outcomes.{unwritten};
 ghost use Rattle.codes.specs.Bridge.{codingOf};
 ghost use Rattle.jobcodec.specs.Given.{seen};
 ghost use Rattle.lent_jobs.specs.Jobs.{jobWriteBytesUnder, jobReadBytesUnder};
-use lent::starts;
 use crate::table;
 use codes::Figures;
+use lent::starts;
 use refusals::Refusal;
 
 // Job write: the word of a placement and a payload whose job the table has open. Refusals: 1 2 10 3 5 17 12 23 14.
