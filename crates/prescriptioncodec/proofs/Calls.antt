@@ -23,7 +23,6 @@ use Rattle.jobs.specs.declared.Entry.{Entry}
 use Rattle.jobs.specs.Table.{twice}
 use Rattle.payloads.specs.Payload.{carriesJob}
 use Rattle.jobcodec.specs.Given.{ServesTable, ReadyUnder}
-use Rattle.jobcodec.specs.JobWrite.{jobWriteUnder}
 use Rattle.jobcodec.proofs.Calls.{carries-not}
 use Rattle.jobcodec.proofs.Outcomes.{both-false, figures-refused}
 use Rattle.prescription.specs.declared.texts.Prescription.{Prescription}
@@ -31,6 +30,7 @@ use Rattle.prescription.specs.Eyes.{Prescribed, prescribedOf}
 use Rattle.prescription.specs.Stored.{textOf, storedLen}
 use Rattle.prescriptioncodec.specs.PrescriptionWrite.{numberLen, numberBytes, prescriptionPayload, minPrescriptionLen, writeOpen, writePrescribed, asJob}
 use Rattle.prescriptioncodec.specs.PrescriptionWrite.{prescriptionWriteUnder}
+use Rattle.prescriptioncodec.specs.Laws.{WritesJob}
 
 -- the text of t bytes has t
 pub text-length : (t : ℕ) (x : Prescribed) → storedLen ≤ t → length (textOf t x) ≡ t
@@ -55,9 +55,7 @@ payload-length K n x h =
     total : (K : ℕ) → 17 ≤ K → 4 + (K - 4) ≡ K
     total K h = omega arith
 
-pub writes-job : (d : Coding) (es : List Entry) (at : Held) (n : ℕ) (p : Prescription) (x : Prescribed) (out : List ℕ)
-    → minPrescriptionLen ≤ payloadLen (d .codec .alphabet) (d .codec .messageLen) → prescribedOf p ≡ some x
-    → prescriptionWriteUnder d es at n p out ≡ jobWriteUnder d es at (prescriptionPayload (payloadLen (d .codec .alphabet) (d .codec .messageLen)) n x) out
+pub writes-job : WritesJob
 writes-job d es at n p x out h e =
     let c = d .codec in
     let k = c .messageLen in

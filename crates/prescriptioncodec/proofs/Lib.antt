@@ -1,4 +1,5 @@
 pub mod Calls
 pub mod Payload
 pub mod Reading
+pub mod ReadsJob
 pub mod RoundTrip
