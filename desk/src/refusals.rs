@@ -10,8 +10,9 @@ pub const REFUSALS: [(u8, &str, &str); 24] = [
     (
         2,
         "the figures don't fit",
-        "a shorter b, fewer bursts or a longer strip; one long burst has figures of its own, `long`; with m 7 or 8 there can \
-         be too many placements, which a shorter strip or a longer b mends; a move needs figures that fit both codes",
+        "a shorter b, fewer bursts or a longer strip; with m 7 or 8 there can be too many placements, and then a longer b, \
+         fewer bursts or a shorter strip: m 7 fits up to n 1999, m 8 up to n 999, by the Larsson code up to 3343 and 1631; \
+         one long burst has figures of its own, `long`; a move needs figures that fit both codes",
     ),
     (
         3,

@@ -174,8 +174,9 @@ fn copy_long(to: &mut [u8], from: &[u8], len: usize, size: usize)
     copy_by(&mut to[rest..], &from[rest..], size);
 }
 
-// The first `size` symbols, at most MOST. They go by way of a local array, so that the compiler need not fear that the two overlap: where it
-// knows the size it makes one move of this.
+// The first `size` symbols, at most MOST. They go by way of a local array, so that the compiler need not fear that the two overlap. Where it
+// knows the size it makes one move of this: the compiled writer has no such array, and stores each symbol straight into the word. A test
+// counts its stores (`writer-stores/test`).
 fn copy_by(to: &mut [u8], from: &[u8], size: usize)
     requires { ⌜ (size ≤ length (now to)) × (size ≤ length (now from)) × (size ≤ 64) ⌝ }
     ensures { λ _. ⌜ take size (now (to .exit)) ≡ take size (now (from .entry)) ⌝ }
