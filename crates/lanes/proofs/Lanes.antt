@@ -9,19 +9,19 @@ use lib.Arith.{digits-lt}
 use lib.Dec.{leb, ltb, eqb}
 use lib.ListN.{length, getD, replicate}
 use lib.Seq.{take-at}
-use Rattle.refusals.specs.Refusals.{served}
+use Rattle.refusals.specs.Refusals.{served, uncovered}
 use Rattle.combinatorics.specs.Bursts.{apart, placements, coverRank}
 use Rattle.combinatorics.specs.Lists.{all, allBelow}
 use Rattle.combinatorics.specs.Stretch.{bit}
 use Rattle.combinatorics.proofs.Bursts.{of-placed}
-use Rattle.combinatorics.proofs.Cases.{by-bool, eqb-same, leb-holds, le-of}
+use Rattle.combinatorics.proofs.Cases.{by-le, by-bool, eqb-same, leb-holds, leb-fails, le-of}
 use Rattle.combinatorics.proofs.Cover.{Cover, cover-is, of-covers}
 use Rattle.combinatorics.proofs.Lists.{both, at-below, below-more}
 use Rattle.combinatorics.proofs.ShortSets.{Short, Shorts, short-covered}
 use Rattle.combinatorics.proofs.Members.{length-tabulate, tabulate-at}
 use Rattle.combinatorics.proofs.Stretch.{bit-le}
 use Rattle.cells.specs.Codec.{Codec, accepted, Word, WritesWords, Exact}
-use Rattle.cells.specs.Outcomes.{Coding, inUse, held, defectAt}
+use Rattle.cells.specs.Outcomes.{Coding, inUse, held, defectAt, coverUnder}
 use Rattle.cells.specs.Figures.{Params, maxBursts, isPlacement}
 use Rattle.construction_a.specs.DemandTwo.{constructionA}
 use Rattle.construction_a.proofs.Figures.{Served, serve}
@@ -192,6 +192,29 @@ record LanesCode (k : Coding) : Type 0 where
   exact : Exact (k .codec)
   found : 2 ≤ k .codec .foundBound
 
+-- what the planner covers can be covered
+all-covered : (k : Coding) → LanesCode k → (d : ℕ) (map : List ℕ) → IsMap d (k .codec .wordLen) map
+    → ((j : ℕ) → j < d → coverUnder k (wordMap d (k .codec .wordLen) map j) .answer ≡ served)
+    → AllCovered (k .codec .wordLen) (k .bursts) (k .burstLen) d map
+all-covered k code d map given-map answers j hj =
+    let n = k .codec .wordLen in
+    let map-of = wordMap d n map j in
+    let v = coverRank n (k .bursts) (k .burstLen) (defectAt map-of) in
+    let t = placements n (k .bursts) (k .burstLen) in
+    by-le (suc v) t (λ _. v < t) (λ l. l)
+    (λ l.
+    let six : coverUnder k map-of .answer ≡ uncovered =
+    rw (
+      code .range,
+      code .fit,
+      eqb-same (length map-of) n (length-map d n map given-map j hj),
+      map-bits d n map given-map j,
+      code .counts,
+      leb-fails (suc v) t l,
+    ) in
+    let z : uncovered ≡ served = sym six ∙ answers j hj in
+    absurd (omega arith))
+
 module _ (k : Coding) (code : LanesCode k) (d : ℕ) (map : List ℕ) (given-map : IsMap d (k .codec .wordLen) map)
     (coverable : AllCovered (k .codec .wordLen) (k .bursts) (k .burstLen) d map) where
   read-under : LanesReadUnder k d map
@@ -319,14 +342,16 @@ code-of f i h =
       found = omega (arith, small f i .alphabet-least, more-found f);
     }
 
--- for any map whose lanes can all be covered
+-- for any map whose words' maps the planner covers
 pub lanes-read-by : (f : Figures) (d : ℕ) (map : List ℕ) → codingOf f .inRange ≡ true → codingOf f .fits ≡ true → IsMap d (codingOf f .codec .wordLen) map
-    → AllCovered (codingOf f .codec .wordLen) (codingOf f .bursts) (codingOf f .burstLen) d map → LanesReadUnder (codingOf f) d map
-lanes-read-by f d map i h given-map coverable = read-under (codingOf f) (code-of f i h) d map given-map coverable
+    → ((j : ℕ) → j < d → coverUnder (codingOf f) (wordMap d (codingOf f .codec .wordLen) map j) .answer ≡ served) → LanesReadUnder (codingOf f) d map
+lanes-read-by f d map i h given-map answers =
+    let code = code-of f i h in
+    read-under (codingOf f) code d map given-map (all-covered (codingOf f) code d map given-map answers)
 
 pub lanes-read : LanesRead
 lanes-read f d ss i h wear =
     let k = codingOf f in
     let n = k .codec .wordLen in
     let held-by = code-of f i h .bursts in
-    lanes-read-by f d (stripMap d n ss) i h (strip-map d n ss) (covered n (k .bursts) (k .burstLen) d ss (held-by .some) (held-by .room) wear)
+    read-under k (code-of f i h) d (stripMap d n ss) (strip-map d n ss) (covered n (k .bursts) (k .burstLen) d ss (held-by .some) (held-by .room) wear)

@@ -1,0 +1,4 @@
+pub mod Filling
+pub mod Covering
+pub mod Tests
+pub mod Chain

@@ -1,0 +1,2 @@
+pub mod LanesTrip
+pub mod LaneByLane
