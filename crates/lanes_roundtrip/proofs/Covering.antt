@@ -1,7 +1,7 @@
 -- A test of each lane, one after another, and what a word's answer says. Assumes nothing.
 use mathlib.Core.Path.{_≡_, refl}
 use mathlib.Core.Bool.{Bool, true, false}
-use Prim.Native.Nat.{ℕ, zero, suc, _+_, _-_, _≤_, _<_}
+use Prim.Native.Nat.{ℕ, zero, suc, _+_, _≤_, _<_, _-_}
 use native.Mathlib.Omega.{arith}
 use Rattle.combinatorics.specs.Lists.{all}
 use Rattle.combinatorics.specs.Stretch.{tabulate, consecutive}

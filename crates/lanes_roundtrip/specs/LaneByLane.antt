@@ -13,7 +13,7 @@ use Rattle.cells.specs.Outcomes.{Coding, encodeUnder, coverUnder, decodedFrom, 
 use Rattle.codes.specs.declared.WordLayout.{WordLayout}
 use Rattle.codes.specs.Given.{codingIn, Serves}
 use Rattle.lanes.specs.Interleaving.{inDepth, lane}
-use Rattle.lanes_roundtrip.specs.LanesTrip.{sizedLanes, symbolsLanes}
+use Rattle.lanes_roundtrip.specs.LanesRoundTrip.{lanesSized, lanesInAlphabet}
 
 -- a layout that serves, and words of n symbols for d lanes
 pub record LaneParts (l : WordLayout) (d : ℕ) (words : List ℕ) : Type 0 where
@@ -45,13 +45,13 @@ pub record ReadsLanes (k : Coding) (n sent d : ℕ) (words messages : List ℕ) 
       → decodeUnder k (lane n j words) out ≡ decodedFrom (k .burstLen) out (accepted (starts j) (lane sent j messages))
 
 -- a byte of the map and a symbol of damage for each cell
-pub record DefectsLent (map damage strip : List ℕ) : Type 0 where
-  pub map-len : length map ≡ length strip
-  pub damage-len : length damage ≡ length strip
+pub record DefectsLent (map damage interleaved : List ℕ) : Type 0 where
+  pub map-len : length map ≡ length interleaved
+  pub damage-len : length damage ≡ length interleaved
 
 -- what has passed the tests 1 2 18 3 4
-pub record LanesLent (l : WordLayout) (d : ℕ) (map messages damage words strip read : List ℕ) : Type 0 where
+pub record LanesLent (l : WordLayout) (d : ℕ) (map messages damage words interleaved read : List ℕ) : Type 0 where
   pub serves : Serves l
   pub depth : inDepth d ≡ true
-  pub sizes : sizedLanes (codingIn l) d (length map) (length messages) (length damage) (length words) (length strip) (length read) ≡ true
-  pub symbols : symbolsLanes (codingIn l) map messages damage ≡ true
+  pub sizes : lanesSized (codingIn l) d map messages damage words interleaved read ≡ true
+  pub symbols : lanesInAlphabet (codingIn l) map messages damage ≡ true

@@ -1,2 +1,2 @@
-pub mod LanesTrip
+pub mod LanesRoundTrip
 pub mod LaneByLane

@@ -4,15 +4,15 @@ ghost use Rattle.cells.specs.Outcomes.{defectAt};
 ghost use Rattle.roundtrip.specs.Damage.{damaged};
 ghost use Rattle.lanes_roundtrip.specs.LaneByLane.{DefectsLent};
 
-// The symbols of `damage` stand in the strip wherever the map has a defect.
-pub fn spoil_defects(map: &[u8], damage: &[u8], strip: &mut [u8])
-    requires { ⌜ DefectsLent (now map) (now damage) (now strip) ⌝ }
-    ensures { λ _. ⌜ now (strip .exit) ≡ damaged (defectAt (now (map .entry))) (now (damage .entry)) (now (strip .entry)) ⌝ }
+// The symbols of `damage` stand in the interleaved word wherever the map has a defect.
+pub fn spoil_defects(map: &[u8], damage: &[u8], interleaved: &mut [u8])
+    requires { ⌜ DefectsLent (now map) (now damage) (now interleaved) ⌝ }
+    ensures { λ _. ⌜ now (interleaved .exit) ≡ damaged (defectAt (now (map .entry))) (now (damage .entry)) (now (interleaved .entry)) ⌝ }
 {
     let mut x: usize = 0;
-    while x < strip.len() {
+    while x < interleaved.len() {
         if map[x] == 1 {
-            strip[x] = damage[x];
+            interleaved[x] = damage[x];
         }
         x += 1;
     }

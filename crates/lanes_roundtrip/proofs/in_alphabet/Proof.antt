@@ -1,5 +1,5 @@
 -- `in_alphabet` meets its contract, test by test. Assumes nothing.
-use mathlib.Core.Path.{_≡_, sym, ap, _∙_}
+use mathlib.Core.Path.{sym, ap, _∙_}
 use Prim.Native.Nat.{ℕ}
 use borrow.Author.Needs.{needs}
 use borrow.Author.Tests.{not-true, not-false}
@@ -16,7 +16,7 @@ all-below-requires c κs = search needs
 returns : tie.Need-returns
 returns c =
     let a = c .before .before .before .before .before .args in
-    no-bits (codingIn (a .layout)) (a .map .now) (a .messages .now) (a .damage .now) (sym (c .before .all-below .ensures) ∙ not-true _ (c .if1 .taken))
+    no-bits (codingIn (a .layout)) (a .map .now) (a .sent .now) (a .damage .now) (sym (c .before .all-below .ensures) ∙ not-true _ (c .if1 .taken))
 
 all-below-requires-2 : tie.Need-all-below-requires-2
 all-below-requires-2 c κs = search needs
@@ -26,7 +26,7 @@ returns-2 c =
     let first = c .before .before in
     let s = first .before .before .before .before .before in
     let a = s .args in
-    no-symbols (codingIn (a .layout)) (a .map .now) (a .messages .now) (a .damage .now) (a .layout .q) (numbers-in (a .layout) (s .pre) .alphabet-is)
+    no-symbols (codingIn (a .layout)) (a .map .now) (a .sent .now) (a .damage .now) (a .layout .q) (numbers-in (a .layout) (s .pre) .alphabet-is)
     (sym (first .before .all-below .ensures) ∙ not-false _ (first .if1 .left)) (sym (c .before .all-below2 .ensures) ∙ not-true _ (c .if2 .taken))
 
 found-bound-requires : tie.Need-found-bound-requires
@@ -43,7 +43,7 @@ returns-3 c =
     let a = s .args in
     c .all-below3 .ensures
     ∙ ap (λ (q : ℕ). allBelow q (a .damage .now)) (c .before .found-bound .ensures ∙ sym (found-in (a .layout) (s .pre)))
-    ∙ by-damage (codingIn (a .layout)) (a .map .now) (a .messages .now) (a .damage .now) (a .layout .q) (numbers-in (a .layout) (s .pre) .alphabet-is)
+    ∙ by-damage (codingIn (a .layout)) (a .map .now) (a .sent .now) (a .damage .now) (a .layout .q) (numbers-in (a .layout) (s .pre) .alphabet-is)
     (sym (first .before .all-below .ensures) ∙ not-false _ (first .if1 .left)) (sym (second .before .all-below2 .ensures) ∙ not-false _ (second .if2 .left))
 
 pub in-alphabet-spec : {M : Type 1} → statement M

@@ -1,12 +1,12 @@
 -- `lanes_round_trip` meets its contract: figures that don't serve are refused as alone, and the others have a layout. Assumes nothing.
-use mathlib.Core.Path.{_≡_, sym, ap, _∙_}
+use mathlib.Core.Path.{sym, ap, _∙_}
 use borrow.Author.Needs.{needs}
 use Rattle.cells.specs.Outcomes.{Coding}
 use Rattle.codes.specs.Answer.{figuredAs, ServesAs}
 use Rattle.codes.specs.Bridge.{codingOf}
 use Rattle.codes.proofs.Answered.{serves}
-use Rattle.lanes_roundtrip.specs.LanesTrip.{LanesTrip, lanesTripUnder}
-use Rattle.lanes_roundtrip.proofs.Chain.{covers-wear}
+use Rattle.lanes_roundtrip.specs.LanesRoundTrip.{LanesRoundTrip, lanesRoundTripUnder}
+use Rattle.lanes_roundtrip.proofs.Chain.{covers-defects}
 use Rattle.lanes_roundtrip.proofs.Tests.{trip-unfit}
 use Rattle.lanes_roundtrip.proofs.lanes_round_trip.Statement.{statement}
 use Rattle.lanes_roundtrip.proofs.lanes_round_trip.Tie as tie
@@ -35,11 +35,11 @@ returns c =
     let asked = c .before .before .before in
     let a = asked .before .before .before .before .before .before .before .args in
     let number = c .before .answer .given in
-    let outcome = trip-unfit (codingOf (a .figures)) (a .depth) (a .map .now) (a .messages .now) (a .damage .now) (a .words .now) (a .strip .now)
+    let outcome = trip-unfit (codingOf (a .figures)) (a .depth) (a .map .now) (a .sent .now) (a .damage .now) (a .words .now) (a .interleaved .now)
     (a .read .now) (number .0 .0) (sym (asked .layout .ensures .0) ∙ ap figuredAs (number .1)) in (
       outcome,
-      covers-wear (a .figures) (a .depth) (a .map .now) (a .messages .now) (a .damage .now) (a .words .now) (a .strip .now) (a .read .now) (number .0 .0)
-          (ap (λ (o : LanesTrip). o .answer) outcome),
+      covers-defects (a .figures) (a .depth) (a .map .now) (a .sent .now) (a .damage .now) (a .words .now) (a .interleaved .now) (a .read .now) (number .0 .0)
+          (ap (λ (o : LanesRoundTrip). o .answer) outcome),
     )
 
 same-length : tie.Need-same-length
@@ -57,11 +57,11 @@ returns-2 c =
     let told = run .before .before .before .before .before in
     let a = told .before .before .before .before .before .before .before .before .before .args in
     let outcome = run .fitting-round-trip .ensures
-    ∙ ap (λ (k : Coding). lanesTripUnder k (a .depth) (a .map .now) (a .messages .now) (a .damage .now) (a .words .now) (a .strip .now) (a .read .now))
+    ∙ ap (λ (k : Coding). lanesRoundTripUnder k (a .depth) (a .map .now) (a .sent .now) (a .damage .now) (a .words .now) (a .interleaved .now) (a .read .now))
     (learnt told .0) in (
       outcome,
-      covers-wear (a .figures) (a .depth) (a .map .now) (a .messages .now) (a .damage .now) (a .words .now) (a .strip .now) (a .read .now)
-          (run .fitting-round-trip .result) (ap (λ (o : LanesTrip). o .answer) outcome),
+      covers-defects (a .figures) (a .depth) (a .map .now) (a .sent .now) (a .damage .now) (a .words .now) (a .interleaved .now) (a .read .now)
+          (run .fitting-round-trip .result) (ap (λ (o : LanesRoundTrip). o .answer) outcome),
     )
 
 pub lanes-round-trip-spec : {M : Type 1} → statement M

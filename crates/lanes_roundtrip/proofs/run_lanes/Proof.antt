@@ -1,5 +1,5 @@
 -- `run_lanes` meets its contract: the calls of the law leave what their definitions say. Assumes nothing.
-use mathlib.Core.Path.{_≡_, sym, ap, _∙_}
+use mathlib.Core.Path.{sym, ap, _∙_}
 use borrow.Author.Needs.{needs}
 use borrow.Author.Tests.{not-true, not-false}
 use Rattle.lanes.specs.Outcomes.{Rearranged}
@@ -17,7 +17,7 @@ all-covered-requires c κs =
     record {
       serves = s .pre .serves;
       words-len = c .before .before .words .given
-          ∙ words-room (a .layout) (a .depth) (a .map .now) (a .messages .now) (a .damage .now) (a .words .now) (a .strip .now) (a .read .now) (s .pre);
+          ∙ words-room (a .layout) (a .depth) (a .map .now) (a .sent .now) (a .damage .now) (a .words .now) (a .interleaved .now) (a .read .now) (s .pre);
     }
 
 same-length : tie.Need-same-length
@@ -29,12 +29,12 @@ returns c =
     let taken = tested .before .before .before .before in
     let s = taken .before .before .before .before .before .before .before .before in
     let a = s .args in
-    when-uncovered (a .layout) (a .depth) (a .map .now) (a .messages .now) (a .damage .now) (a .words .now) (a .strip .now) (a .read .now) (s .pre)
+    when-uncovered (a .layout) (a .depth) (a .map .now) (a .sent .now) (a .damage .now) (a .words .now) (a .interleaved .now) (a .read .now) (s .pre)
     (taken .deinterleave-fitting .last .1 .1 .1 .0) (tested .all-covered .result)
     (ap (λ (o : Rearranged). o .buffer) (taken .deinterleave-fitting .ensures)) (tested .all-covered .ensures) (not-true _ (c .if1 .taken))
 
-write-strip-requires : tie.Need-write-strip-requires
-write-strip-requires c κs =
+write-interleaved-requires : tie.Need-write-interleaved-requires
+write-interleaved-requires c κs =
     let put = c .before .before .before .before .before .before in
     let s = put .before .before .before .before .before .before .before .before .before in
     let a = s .args in
@@ -42,9 +42,9 @@ write-strip-requires c κs =
       parts = record {
         serves = s .pre .serves;
         words-len = put .words .given
-            ∙ words-room (a .layout) (a .depth) (a .map .now) (a .messages .now) (a .damage .now) (a .words .now) (a .strip .now) (a .read .now) (s .pre);
+            ∙ words-room (a .layout) (a .depth) (a .map .now) (a .sent .now) (a .damage .now) (a .words .now) (a .interleaved .now) (a .read .now) (s .pre);
       };
-      messages-len = messages-room (a .layout) (a .depth) (a .map .now) (a .messages .now) (a .damage .now) (a .words .now) (a .strip .now) (a .read .now)
+      messages-len = messages-room (a .layout) (a .depth) (a .map .now) (a .sent .now) (a .damage .now) (a .words .now) (a .interleaved .now) (a .read .now)
           (s .pre);
     }
 
@@ -54,12 +54,12 @@ spoil-defects-requires c κs =
     let s = put .before .before .before .before .before .before .before .before .before .before
     .before .before .before .before .before .before .before .before .before in
     let a = s .args in
-    let z = sizes (a .layout) (a .depth) (a .map .now) (a .messages .now) (a .damage .now) (a .words .now) (a .strip .now) (a .read .now) (s .pre) in
-    let strip-is = sym (put .strip .given ∙ z .strip-len) in
+    let z = sizes (a .layout) (a .depth) (a .map .now) (a .sent .now) (a .damage .now) (a .words .now) (a .interleaved .now) (a .read .now) (s .pre) in
+    let strip-is = sym (put .interleaved .given ∙ z .strip-len) in
     record { map-len = z .map-len ∙ strip-is; damage-len = z .damage-len ∙ strip-is }
 
-read-strip-requires : tie.Need-read-strip-requires
-read-strip-requires c κs =
+read-interleaved-requires : tie.Need-read-interleaved-requires
+read-interleaved-requires c κs =
     let again = c .before .before .before .before .before .before .before .before .before .before in
     let first = again .before .before .before .before .before .before .before .before in
     let s = first .before .before .before .before .before .before .before .before .before in
@@ -68,9 +68,10 @@ read-strip-requires c κs =
       parts = record {
         serves = s .pre .serves;
         words-len = again .words2 .given ∙ first .words .given
-            ∙ words-room (a .layout) (a .depth) (a .map .now) (a .messages .now) (a .damage .now) (a .words .now) (a .strip .now) (a .read .now) (s .pre);
+            ∙ words-room (a .layout) (a .depth) (a .map .now) (a .sent .now) (a .damage .now) (a .words .now) (a .interleaved .now) (a .read .now) (s .pre);
       };
-      messages-len = read-room (a .layout) (a .depth) (a .map .now) (a .messages .now) (a .damage .now) (a .words .now) (a .strip .now) (a .read .now) (s .pre);
+      messages-len = read-room (a .layout) (a .depth) (a .map .now) (a .sent .now) (a .damage .now) (a .words .now) (a .interleaved .now) (a .read .now)
+          (s .pre);
     }
 
 same-length-2 : tie.Need-same-length-2
@@ -94,17 +95,18 @@ returns-2 c =
     let taken = first .before in
     let s = taken .before .before .before .before .before .before .before .before in
     let a = s .args in
-    when-covered (a .layout) (a .depth) (a .map .now) (a .messages .now) (a .damage .now) (a .words .now) (a .strip .now) (a .read .now) (s .pre)
+    when-covered (a .layout) (a .depth) (a .map .now) (a .sent .now) (a .damage .now) (a .words .now) (a .interleaved .now) (a .read .now) (s .pre)
     (taken .deinterleave-fitting .last .1 .1 .1 .0) (tested .all-covered .result)
     (ap (λ (o : Rearranged). o .buffer) (taken .deinterleave-fitting .ensures)) (tested .all-covered .ensures) (not-false _ (passed .if1 .left))
-    (writing .write-strip .last .1 .1 .1 .1 .0) (spoiling .spoil-defects .last .1 .1 .0) (writing .write-strip .last .1 .1 .1 .0)
-    (reading .read-strip .last .1 .1 .1 .0) (reading .read-strip .last .1 .1 .1 .1 .0) (reading .read-strip .result)
-    (writing .write-strip .ensures) (spoiling .spoil-defects .ensures) (again .words2 .given ∙ first .words .given) (reading .read-strip .ensures .0)
-    (reading .read-strip .ensures .1)
+    (writing .write-interleaved .last .1 .1 .1 .1 .0) (spoiling .spoil-defects .last .1 .1 .0) (writing .write-interleaved .last .1 .1 .1 .0)
+    (reading .read-interleaved .last .1 .1 .1 .0) (reading .read-interleaved .last .1 .1 .1 .1 .0) (reading .read-interleaved .result)
+    (writing .write-interleaved .ensures) (spoiling .spoil-defects .ensures) (again .words2 .given ∙ first .words .given)
+    (reading .read-interleaved .ensures .0)
+    (reading .read-interleaved .ensures .1)
 
 pub run-lanes-spec : {M : Type 1} → statement M
 run-lanes-spec =
     tie.close
     (tie.spec
-    deinterleave-fitting-requires all-covered-requires same-length returns write-strip-requires spoil-defects-requires read-strip-requires
+    deinterleave-fitting-requires all-covered-requires same-length returns write-interleaved-requires spoil-defects-requires read-interleaved-requires
     same-length-2 same-length-3 same-length-4 returns-2)

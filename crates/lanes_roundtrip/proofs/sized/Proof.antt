@@ -1,5 +1,4 @@
 -- `sized` meets its contract, length by length. Assumes nothing.
-use Prim.Native.Nat.{ℕ}
 use native.Mathlib.Nat.{mul-le-mul-right}
 use native.Mathlib.Omega.{arith}
 use Rattle.codes.specs.Given.{codingIn}
@@ -17,8 +16,8 @@ mul-cells c =
       mul-le-mul-right {m = s .args .depth} {n = 16} (s .args .layout .n) (s .pre .1),
     )
 
-mul-sent : tie.Need-mul-sent
-mul-sent c =
+mul-symbols : tie.Need-mul-symbols
+mul-symbols c =
     let s = c .before .before in
     omega (
       arith,
@@ -31,7 +30,8 @@ returns c =
     let s = c .before .before .before in
     let a = s .args in
     let is = numbers-in (a .layout) (s .pre .0) in
-    no-map (codingIn (a .layout)) (a .depth) (a .layout .n) (a .layout .«message_len») (a .map) (a .messages) (a .damage) (a .words) (a .strip) (a .read)
+    no-map (codingIn (a .layout)) (a .depth) (a .layout .n) (a .layout .«message_len») (a .map .now) (a .sent .now) (a .damage .now)
+    (a .words .now) (a .interleaved .now) (a .read .now)
     (is .word-is) (is .len-is) (c .if1 .taken)
 
 returns-2 : tie.Need-returns-2
@@ -39,7 +39,8 @@ returns-2 c =
     let s = c .before .before .before .before in
     let a = s .args in
     let is = numbers-in (a .layout) (s .pre .0) in
-    no-messages (codingIn (a .layout)) (a .depth) (a .layout .n) (a .layout .«message_len») (a .map) (a .messages) (a .damage) (a .words) (a .strip) (a .read)
+    no-messages (codingIn (a .layout)) (a .depth) (a .layout .n) (a .layout .«message_len») (a .map .now) (a .sent .now) (a .damage .now)
+    (a .words .now) (a .interleaved .now) (a .read .now)
     (is .word-is) (is .len-is) (c .before .if1 .left) (c .if2 .taken)
 
 returns-3 : tie.Need-returns-3
@@ -47,7 +48,8 @@ returns-3 c =
     let s = c .before .before .before .before .before in
     let a = s .args in
     let is = numbers-in (a .layout) (s .pre .0) in
-    no-damage (codingIn (a .layout)) (a .depth) (a .layout .n) (a .layout .«message_len») (a .map) (a .messages) (a .damage) (a .words) (a .strip) (a .read)
+    no-damage (codingIn (a .layout)) (a .depth) (a .layout .n) (a .layout .«message_len») (a .map .now) (a .sent .now) (a .damage .now)
+    (a .words .now) (a .interleaved .now) (a .read .now)
     (is .word-is) (is .len-is) (c .before .before .if1 .left) (c .before .if2 .left) (c .if3 .taken)
 
 returns-4 : tie.Need-returns-4
@@ -55,7 +57,8 @@ returns-4 c =
     let s = c .before .before .before .before .before .before in
     let a = s .args in
     let is = numbers-in (a .layout) (s .pre .0) in
-    no-words (codingIn (a .layout)) (a .depth) (a .layout .n) (a .layout .«message_len») (a .map) (a .messages) (a .damage) (a .words) (a .strip) (a .read)
+    no-words (codingIn (a .layout)) (a .depth) (a .layout .n) (a .layout .«message_len») (a .map .now) (a .sent .now) (a .damage .now)
+    (a .words .now) (a .interleaved .now) (a .read .now)
     (is .word-is) (is .len-is) (c .before .before .before .if1 .left) (c .before .before .if2 .left) (c .before .if3 .left) (c .if4 .taken)
 
 returns-5 : tie.Need-returns-5
@@ -63,7 +66,8 @@ returns-5 c =
     let s = c .before .before .before .before .before .before .before in
     let a = s .args in
     let is = numbers-in (a .layout) (s .pre .0) in
-    no-strip (codingIn (a .layout)) (a .depth) (a .layout .n) (a .layout .«message_len») (a .map) (a .messages) (a .damage) (a .words) (a .strip) (a .read)
+    no-strip (codingIn (a .layout)) (a .depth) (a .layout .n) (a .layout .«message_len») (a .map .now) (a .sent .now) (a .damage .now)
+    (a .words .now) (a .interleaved .now) (a .read .now)
     (is .word-is) (is .len-is) (c .before .before .before .before .if1 .left) (c .before .before .before .if2 .left) (c .before .before .if3 .left)
     (c .before .if4 .left) (c .if5 .taken)
 
@@ -72,9 +76,10 @@ returns-6 c =
     let s = c .before .before .before .before .before .before .before in
     let a = s .args in
     let is = numbers-in (a .layout) (s .pre .0) in
-    by-read (codingIn (a .layout)) (a .depth) (a .layout .n) (a .layout .«message_len») (a .map) (a .messages) (a .damage) (a .words) (a .strip) (a .read)
+    by-read (codingIn (a .layout)) (a .depth) (a .layout .n) (a .layout .«message_len») (a .map .now) (a .sent .now) (a .damage .now)
+    (a .words .now) (a .interleaved .now) (a .read .now)
     (is .word-is) (is .len-is) (c .before .before .before .before .if1 .left) (c .before .before .before .if2 .left) (c .before .before .if3 .left)
     (c .before .if4 .left) (c .if5 .left)
 
 pub sized-spec : {M : Type 1} → statement M
-sized-spec = tie.close (tie.spec mul-cells mul-sent returns returns-2 returns-3 returns-4 returns-5 returns-6)
+sized-spec = tie.close (tie.spec mul-cells mul-symbols returns returns-2 returns-3 returns-4 returns-5 returns-6)

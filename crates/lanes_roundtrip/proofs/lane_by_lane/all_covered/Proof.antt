@@ -2,7 +2,7 @@
 use mathlib.Core.Path.{_≡_, sym, ap, _∙_}
 use mathlib.Core.Bool.{Bool}
 use mathlib.Core.List.{List}
-use Prim.Native.Nat.{ℕ, _+_, _*_, _-_, _≤_}
+use Prim.Native.Nat.{ℕ, _+_, _*_, _≤_, _-_}
 use native.Mathlib.Omega.{arith}
 use borrow.Author.Needs.{needs}
 use lib.Dec.{eqb}
@@ -15,7 +15,6 @@ use Rattle.cells.specs.Outcomes.{Covered, coverUnder}
 use Rattle.codes.specs.Given.{codingIn}
 use Rattle.codes.specs.declared.WordLayout.{WordLayout}
 use Rattle.lanes.specs.Interleaving.{lane}
-use Rattle.lanes_roundtrip.specs.LaneByLane.{allCovered}
 use Rattle.lanes_roundtrip.proofs.Covering.{passes-on, fails-here, none-left}
 use Rattle.lanes_roundtrip.proofs.Filling.{lane-within, part-is-lane}
 use Rattle.lanes_roundtrip.proofs.lane_by_lane.all_covered.Statement.{statement}

@@ -1,5 +1,5 @@
 -- `read_lane` meets its contract: the number of what word read answers. Assumes nothing.
-use mathlib.Core.Path.{sym, ap, _∙_}
+use mathlib.Core.Path.{ap, _∙_}
 use borrow.Author.Needs.{needs}
 use Rattle.cells.specs.Outcomes.{Decoded, answerNumber}
 use Rattle.lanes_roundtrip.proofs.Covering.{same-number}

@@ -1,12 +1,12 @@
 -- `read_lanes` meets its contract: the lanes so far hold their messages. Assumes nothing.
 use mathlib.Core.Path.{_≡_, refl, sym, ap, _∙_}
 use mathlib.Core.List.{List}
-use Prim.Native.Nat.{ℕ, _+_, _*_, _-_, _≤_, _<_}
+use Prim.Native.Nat.{ℕ, _+_, _*_, _≤_, _<_, _-_}
 use native.Mathlib.Omega.{arith}
 use borrow.Author.Needs.{needs}
 use lib.ListN.{length}
 use Rattle.refusals.specs.Refusals.{served}
-use Rattle.cells.specs.Outcomes.{Coding, Decoded, answerNumber, decodeUnder}
+use Rattle.cells.specs.Outcomes.{Decoded, answerNumber, decodeUnder}
 use Rattle.codes.specs.Given.{codingIn}
 use Rattle.codes.specs.declared.WordLayout.{WordLayout}
 use Rattle.lanes.specs.Interleaving.{lane}

@@ -1,7 +1,7 @@
 -- `write_lanes` meets its contract: the lanes so far hold their words, and the others their maps. Assumes nothing.
-use mathlib.Core.Path.{_≡_, sym, ap, ap₂, _∙_}
+use mathlib.Core.Path.{sym, ap₂, _∙_}
 use mathlib.Core.List.{List}
-use Prim.Native.Nat.{ℕ, _+_, _*_, _-_, _≤_}
+use Prim.Native.Nat.{ℕ, _+_, _*_, _≤_, _-_}
 use native.Mathlib.Omega.{arith}
 use borrow.Author.Needs.{needs}
 use lib.ListN.{length}
@@ -95,7 +95,8 @@ loop-again c =
     let g = wordOf (a .layout) (a .messages .now) (a .words .now) in
     let map-is = part-is-lane n (l .j) (l .words) ∙ l .inv .1 .rest (l .j) (omega arith) (omega (arith, t .loop-test .taken)) in (
       omega arith,
-      filled-on n (a .depth) g (a .words .now) (l .j) (l .words) (written .write-lane .last .1 .1 .0) (omega (arith, t .loop-test .taken)) (l .inv .1) (written .write-lane .ensures .1)
+      filled-on n (a .depth) g (a .words .now) (l .j) (l .words) (written .write-lane .last .1 .1 .0) (omega (arith, t .loop-test .taken))
+          (l .inv .1) (written .write-lane .ensures .1)
           (written .write-lane .ensures .0
           ∙ ap₂ (λ (message map : List ℕ). coverWord (codingIn (a .layout)) message map) (part-is-lane k (l .j) (a .messages .now)) map-is),
     )
