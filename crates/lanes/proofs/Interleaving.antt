@@ -115,6 +115,16 @@ words-below q (suc d) k g h =
     all-append (λ x. ltb x q) (g k) (flatMap g (consecutive d (suc k))) (h k (omega arith) (omega arith))
     (words-below q d (suc k) g (λ x a b. h x (omega arith) (omega arith)))
 
+-- each of them is a lane
+pub lane-of-words : (n d j : ℕ) (g : ℕ → List ℕ) → ((x : ℕ) → x < d → length (g x) ≡ n) → j < d → lane n j (flatMap g (consecutive d 0)) ≡ g j
+lane-of-words n d j g long hj =
+    let words = flatMap g (consecutive d 0) in
+    let whole = length-lane n d j words (length-words n d 0 g (λ x _ l. long x (omega arith))) hj in
+    let z : 0 + j ≡ j = omega arith in
+    ext-getD 0 (lane n j words) (g j) (whole ∙ sym (long j hj))
+    (λ i l. lane-at n j i words (omega (arith, whole))
+    ∙ words-at n d 0 j i g (λ x _ l. long x (omega arith)) hj (omega (arith, whole)) ∙ ap (λ (x : ℕ). getD (g x) i 0) z)
+
 -- ---- "strip cell t holds symbol t/d (rounded down) of word t mod d"
 
 -- symbol i of word j is the strip's cell i × d + j

@@ -32,7 +32,7 @@ module _ (a k : ℕ) (xs part : List ℕ) (room : a + k ≤ length xs) (long : l
       let e : a + x ≡ length (take a xs) + x = omega (arith, length-take-le a xs (omega arith)) in
       rw e (getD-append-add (take a xs) (part ++ drop k (drop a xs)) x 0)
 
-  put-inside : (x : ℕ) → x < k → getD (putMid a k xs part) (a + x) 0 ≡ getD part x 0
+  pub put-inside : (x : ℕ) → x < k → getD (putMid a k xs part) (a + x) 0 ≡ getD part x 0
   put-inside x l = put-behind x ∙ List·getD-append part (drop k (drop a xs)) 0 x (omega arith)
 
   put-past : (x : ℕ) → getD (putMid a k xs part) (a + (k + x)) 0 ≡ getD xs (a + (k + x)) 0

@@ -32,7 +32,7 @@ pub fn interleave(figures: Figures, depth: u32, words: &[u8], strip: &mut [u8]) 
 }
 
 // The same for figures that fit. Refusals: 18 3 4.
-fn interleave_fitting(layout: WordLayout, depth: u32, words: &[u8], strip: &mut [u8]) -> u8
+pub fn interleave_fitting(layout: WordLayout, depth: u32, words: &[u8], strip: &mut [u8]) -> u8
     requires { ⌜ Serves layout ⌝ }
     ensures { λ r. ⌜ unfilled (now (strip .exit)) r ≡ interleaveUnder (codingIn layout) depth (now (words .entry)) (now (strip .entry)) ⌝ }
 {
@@ -56,7 +56,7 @@ pub fn deinterleave(figures: Figures, depth: u32, strip: &[u8], words: &mut [u8]
 }
 
 // The same for figures that fit. Refusals: 18 3 4.
-fn deinterleave_fitting(layout: WordLayout, depth: u32, strip: &[u8], words: &mut [u8]) -> u8
+pub fn deinterleave_fitting(layout: WordLayout, depth: u32, strip: &[u8], words: &mut [u8]) -> u8
     requires { ⌜ Serves layout ⌝ }
     ensures { λ r. ⌜ unfilled (now (words .exit)) r ≡ deinterleaveUnder (codingIn layout) depth (now (strip .entry)) (now (words .entry)) ⌝ }
 {

@@ -1,0 +1,5 @@
+pub mod Filling
+pub mod Covering
+pub mod Tests
+pub mod Chain
+mod Examples

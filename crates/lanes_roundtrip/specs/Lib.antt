@@ -1,0 +1,2 @@
+pub mod LanesRoundTrip
+pub mod LaneByLane
