@@ -225,7 +225,7 @@ static unsigned read_word(struct figures f, const uint8_t *word, size_t word_len
     unsigned answer = figures_alone(f, figures, BURGZEMI_FIGURES_LEN);
     if (answer != BURGZEMI_SERVED)
         return answer;
-    size_t message_len = figures[BURGZEMI_K], starts_len = 2 * (size_t)f.m;
+    size_t message_len = figures[BURGZEMI_FIGURE_MESSAGE], starts_len = 2 * (size_t)f.m;
     answer = decode(f, word, word_len, message, message_len, starts, starts_len);
     if (answer == BURGZEMI_SERVED)
         print_accepted(starts, starts_len, message, message_len);

@@ -56,7 +56,7 @@ static void misfit(const char *what, unsigned wanted, enum code code, uint32_t n
 static size_t payload_len(enum code code, uint32_t n, uint32_t q, uint32_t m, uint32_t b)
 {
     uint64_t figures[BURGZEMI_FIGURES_LEN];
-    return ANY(figures, figures, BURGZEMI_FIGURES_LEN) == BURGZEMI_SERVED ? figures[BURGZEMI_PAYLOAD_LEN] : 0;
+    return ANY(figures, figures, BURGZEMI_FIGURES_LEN) == BURGZEMI_SERVED ? figures[BURGZEMI_FIGURE_PAYLOAD] : 0;
 }
 
 /* ---- Word write: n 30, q 2, m 1, b 3; start 12, message all 1 */

@@ -49,7 +49,7 @@ enum burgzemi_answer {
     /* from the input */
     BURGZEMI_INVALID = 1,      /* a figure out of range, or a job table with one number twice or with an unknown state */
     BURGZEMI_UNFIT = 2,        /* the figures don't fit the code */
-    BURGZEMI_LENGTH = 3,       /* a list, a placement or a buffer has another length than the figures give */
+    BURGZEMI_LENGTH = 3,       /* a list, a placement or a buffer has another length than the call needs */
     BURGZEMI_SYMBOL = 4,       /* a symbol of q or more; in a found word a value above q; a byte above 1 in a defect map */
     BURGZEMI_STARTS = 5,       /* starts too close, descending, or past the end */
     BURGZEMI_UNCOVERED = 6,    /* no placement covers the defect map */
@@ -65,8 +65,8 @@ enum burgzemi_answer {
     BURGZEMI_SURPLUS = 22,     /* bytes of a moved payload that have no room on the other strip aren't all 0 */
     /* from the state of the job table */
     BURGZEMI_CANCELLED = 12,   /* the job number is cancelled */
-    BURGZEMI_ALREADY_OPEN = 13,
-    BURGZEMI_NOT_OPEN = 14,
+    BURGZEMI_ALREADY_OPEN = 13, /* the job number that is opened is open already, or on hold */
+    BURGZEMI_NOT_OPEN = 14,    /* the job number is not in the table */
     BURGZEMI_FULL = 15,        /* 64 numbers are in the table, open, on hold or cancelled, and a new one is needed */
     BURGZEMI_NUMBER_ZERO = 17, /* job number 0 is no job: opened, written, or cancelled where the table doesn't hold it */
     BURGZEMI_NOT_CANCELLED = 20, /* the job number that is reinstated is not cancelled */
@@ -102,7 +102,7 @@ enum burgzemi_answer {
  * shortest block of fewer than b + r symbols. k is n - m * (b + p + r - 1).
  *
  * Construction B: the word is cut into three parts, each of them one block. The first 1 + r symbols of one part, the index block, spell where in another
- * part the burst ends, counted from that part's begin. r is the least number with which they can spell n / 3 values, rounded up. 2 is for a b above n / 3,
+ * part the burst ends, counted from that part's start. r is the least number with which they can spell n / 3 values, rounded up. 2 is for a b above n / 3,
  * or for an r that is not below n / 3, both rounded down. k is n - b - r - 2.
  *
  * Larsson code: the word has 2 * m + 1 sub-blocks of R symbols. The first is at position 0, the last at the end of the word, with gaps between them as
@@ -120,12 +120,14 @@ enum burgzemi_answer {
 #define BURGZEMI_MAX_WORD 4096
 #define BURGZEMI_MAX_BURSTS 8
 
-/* What figures alone give, and where each of them stands. */
+/* Figures alone are lent so many numbers, and each stands in its place. */
 #define BURGZEMI_FIGURES_LEN 4
-#define BURGZEMI_PLACEMENTS 0 /* how many placements there are, at most 9223372036854775807 */
-#define BURGZEMI_R 1          /* r, and the Larsson code's R */
-#define BURGZEMI_K 2          /* k, the symbols of a message */
-#define BURGZEMI_PAYLOAD_LEN 3 /* K, the bytes of a payload */
+enum burgzemi_figure {
+    BURGZEMI_FIGURE_PLACEMENTS, /* how many placements there are, at most 9223372036854775807 */
+    BURGZEMI_FIGURE_R,          /* r, and the Larsson code's R */
+    BURGZEMI_FIGURE_MESSAGE,    /* k, the symbols of a message */
+    BURGZEMI_FIGURE_PAYLOAD     /* K, the bytes of a payload */
+};
 
 /* The most words that lie side by side: BURGZEMI_MAX_DEPTH * BURGZEMI_MAX_WORD bytes hold any strip of them. */
 #define BURGZEMI_MAX_DEPTH 16
@@ -181,7 +183,7 @@ enum burgzemi_answer {
 /*
  * Starts are positions from 0, ascending, 2 bytes each, high byte first. Each buffer comes with its own length, counted in what it holds: bytes, numbers or
  * doubles. Nothing past that length is read or written. Buffers of one call must not overlap. No buffer is NULL, not even where its length is 0. A buffer
- * that is only written need not be initialised. A refusal leaves every buffer as it was.
+ * that is only written need not be initialised. A refusal leaves every buffer as it was; of a double that is a NaN, that it is one.
  *
  * Each function always returns and touches no other memory, which is what its proof says. It keeps nothing between calls, so that several
  * threads may call it at once with buffers of their own.
@@ -440,10 +442,13 @@ uint8_t burgzemi_larsson_deinterleave(uint32_t n, uint32_t q, uint32_t m, uint32
  * open or cancelled: it can then be finished, cancelled, reinstated, held or released as any other.
  */
 
-/* Opens a number, which takes a free slot. Refusals: 3 1 17 12 13 15, where 17 is for every opening of 0 and 13 for a number on hold too. */
+/* Opens a number, which takes the first free slot. Refusals: 3 1 17 12 13 15, where 17 is for every opening of 0 and 13 for a number on hold too. */
 uint8_t burgzemi_open(uint8_t *table, size_t table_len, uint32_t number);
 
-/* Cancels a number, also one that the table doesn't hold. Refusals: 3 1 17 12 15, where 17 is for a 0 that the table doesn't hold. */
+/*
+ * Cancels a number, also one that the table doesn't hold, which takes the first free slot. Refusals: 3 1 17 12 15, where 17 is for a 0 that the table doesn't
+ * hold.
+ */
 uint8_t burgzemi_cancel(uint8_t *table, size_t table_len, uint32_t number);
 
 /* Finishes an open number, and frees its slot. Refusals: 3 1 12 23 14. */

@@ -51,7 +51,7 @@ static uint8_t write_larsson(struct figures f, size_t k)
 
 static uint8_t measure_copy(struct figures f, uint64_t *figures)
 {
-    figures[BURGZEMI_K] = f.n;
+    figures[BURGZEMI_FIGURE_MESSAGE] = f.n;
     return 0;
 }
 
@@ -108,10 +108,10 @@ static int written(const struct code *code, struct figures f)
         starts[2 * i] = start >> 8;
         starts[2 * i + 1] = start & 255;
     }
-    for (size_t i = 0; i < figures[BURGZEMI_K]; i++)
+    for (size_t i = 0; i < figures[BURGZEMI_FIGURE_MESSAGE]; i++)
         message[i] = i % f.q;
     mark = 1;
-    answer = code->write(f, figures[BURGZEMI_K]);
+    answer = code->write(f, figures[BURGZEMI_FIGURE_MESSAGE]);
     mark = 0;
     return answer == 0;
 }

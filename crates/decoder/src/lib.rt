@@ -8,7 +8,7 @@ ghost use Rattle.construction_a.specs.Reading.{written, readRank};
 ghost use Rattle.params.specs.Given.{figuresOf, blocksCoding, BlocksServe, HeadsOf};
 ghost use Rattle.placements.specs.Bridge.{startsIn};
 ghost use Rattle.stretches.specs.ByBlock.{Tables};
-ghost use Rattle.decoder.specs.Answer.{decodedAs};
+ghost use Rattle.decoder.specs.Answer.{wordNumber, decodedAs};
 ghost use Rattle.decoder.specs.Reader.{readMessage, WordLent, RankRead, Located};
 use params::Layout;
 use params::Spells;
@@ -27,6 +27,16 @@ pub mod starts;
 pub enum WordAnswer {
     Accepted(u64),
     Refused(u8),
+}
+
+// The number of a refused word, 0 for an accepted one.
+pub fn refused_with(answer: WordAnswer) -> u8
+    ensures { λ r. ⌜ r ≡ wordNumber answer ⌝ }
+{
+    match answer {
+        WordAnswer::Accepted(_) => Refusal::NONE,
+        WordAnswer::Refused(number) => number,
+    }
 }
 
 // The answer, and the placement beside it, with no starts where the word is refused.

@@ -6,10 +6,8 @@ ghost use lib.ListN.{length};
 ghost use Rattle.refusals.specs.Refusals.{served};
 ghost use Rattle.codes.specs.Given.{codingIn, Serves};
 ghost use Rattle.cells.specs.Outcomes.{answerNumber, decodeUnder};
-ghost use Rattle.decoder.specs.Answer.{wordNumber};
 ghost use Rattle.lanes_roundtrip.specs.LaneByLane.{LaneParts, LaneMessages, allCovered, coverWord, coverWords, ReadsLanes};
 use codes::WordLayout;
-use decoder::WordAnswer;
 use refusals::Refusal;
 
 // Whether each of `depth` maps of n bytes can be covered: otherwise refusal 6.
@@ -90,15 +88,5 @@ fn read_lane(layout: WordLayout, word: &[u8], message: &mut [u8]) -> u8
 {
     let read = codes::decode_fitting(layout, word, message);
     let answer = read.answer;
-    refused_with(answer)
-}
-
-// The number of a refused word, 0 for an accepted one.
-fn refused_with(answer: WordAnswer) -> u8
-    ensures { λ r. ⌜ r ≡ wordNumber answer ⌝ }
-{
-    match answer {
-        WordAnswer::Accepted(_) => Refusal::NONE,
-        WordAnswer::Refused(number) => number,
-    }
+    decoder::refused_with(answer)
 }

@@ -192,7 +192,7 @@ fn read_message(
 {
     let answer = jobcodec::read_spelled(layout, word, message);
     let WordAnswer::Accepted(_) = answer else {
-        return ReadAnswer::Refused(jobcodec::refused_with(answer));
+        return ReadAnswer::Refused(decoder::refused_with(answer));
     };
     hand_out(table, layout.q, message, payload)
 }

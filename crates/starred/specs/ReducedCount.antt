@@ -3,22 +3,23 @@
 use mathlib.Core.Path.{_≡_}
 use mathlib.Core.Bool.{true, _&&_}
 use mathlib.Core.List.{List, [], _∷_}
-use Prim.Native.Nat.{ℕ, _-_, _/_}
+use Prim.Native.Nat.{ℕ, _-_, _*_}
+use lib.Dec.{ltb}
 use Rattle.combinatorics.specs.Bursts.{apart}
 use Rattle.combinatorics.specs.Examples.{Example, example, comesTrue}
 use Rattle.combinatorics.specs.Lists.{all, sameList}
-use Rattle.combinatorics.specs.Stretch.{count, sum}
+use Rattle.combinatorics.specs.Stretch.{bit, count, sum}
 use Rattle.cells.specs.Digits.{span, places}
 use Rattle.cells.specs.Figures.{Params, params, placementCount, leastTail}
-use Rattle.construction_a.specs.Figures.{parts, blockMin, indexTail}
+use Rattle.construction_a.specs.Figures.{blockMin, indexTail}
 use Rattle.construction_a.specs.Writing.{indexBlocks}
 
 abbrev f : Params
 f = params 60 17 2 10
 
--- the reduced count: the placements outside the I-blocks' part
+-- the reduced count: the placements in a word that is shorter by m blocks of the least length, those of the I-blocks
 abbrev reduced : ℕ
-reduced = placementCount (params (f .n - f .n / parts f) (f .q) (f .m) (f .b))
+reduced = placementCount (params (f .n - f .m * blockMin f) (f .q) (f .m) (f .b))
 
 -- the placements whose I-blocks are these blocks
 abbrev sharing : List ℕ → ℕ
@@ -30,8 +31,9 @@ reducedCount =
     example (reduced ∷ leastTail (f .q) (f .m) reduced (blockMin f) ∷ []) (231 ∷ 0 ∷ [])
     -- ".. yet 410 placements share the first part as their I-blocks, .."
     ∷ example (sharing (0 ∷ 1 ∷ []) ∷ []) (410 ∷ [])
-    -- ".. and two symbols other than the fixed one spell 256 values."
+    -- ".. and two symbols other than the fixed one spell 256 values.": fewer
     ∷ example (span (f .q) (places (f .m) 0) ∷ []) (256 ∷ [])
+    ∷ example (bit (ltb (span (f .q) (places (f .m) 0)) (sharing (0 ∷ 1 ∷ []))) ∷ []) (1 ∷ [])
     -- T itself, and its r
     ∷ example (placementCount f ∷ indexTail f ∷ []) (861 ∷ 1 ∷ [])
     ∷ []
