@@ -96,7 +96,7 @@ static const struct code *code_of(const char *name)
     exit(2);
 }
 
-/* One word, its bursts as far apart as they go; whether it was written. */
+/* One word, its bursts evenly spread; whether it was written. */
 static int written(const struct code *code, struct figures f)
 {
     uint64_t figures[BURGZEMI_FIGURES_LEN];

@@ -5,7 +5,7 @@ A transcript is an indented block whose first line begins with '$ '. Each such l
 it. Where the desk's greeting follows, the desk is started on a terminal, and the lines that begin with its prompt are typed there one after another.
 All transcripts of a document are run in one folder, which is empty at first but for `desk/run`, the program itself, `desk/evening` and `desk/tests`.
 With --fill what is printed is put into the documents, and is then to be read. Without, every command of the desk and every refusal but 11 has to occur in the
-documents together: 11 is for records and for letters of calls, and the desk sends neither.
+documents together: 11 is for records, and the desk sends none.
 """
 import difflib
 import os
