@@ -43,7 +43,7 @@ use Rattle.transfer.specs.Program.{nextRecord, behind}
 use Rattle.transfer.proofs.Program.{step-counts, printedOn, printed-goes}
 use Rattle.transfer.proofs.Serving.{step-unreadable, step-serves, serve-S, serve-L, serve-R}
 use Rattle.demands.specs.DemandThree.{BytesClaimed, sessionAfter, allServed, isAccepted, figuresCarried, figuresAfter, callsIn, callLines, answerLines}
-use Rattle.demands.specs.DemandThree.{SessionClaim, ReadAfter, SessionClaimed}
+use Rattle.demands.specs.DemandThree.{SessionClaim, StopsAfter, ReadAfter, SessionClaimed}
 
 -- ---- A program in C
 
@@ -240,10 +240,15 @@ module _ (before : List (List ℕ)) (reading : List ℕ) (h : allServed atStart 
             printed = prints;
           }
 
+    is-stopped : readable last reading ≡ false → StopsAfter before reading
+    is-stopped = step-unreadable last reading (some-bytes reading is-R) (omega (arith, made .count, few))
+
     read-after : (x : Option Figures) → current (last .figures) ≡ x → ReadAfter before reading x
     unfolding readable recordLen kindOf
-    read-after none e = step-unreadable last reading (some-bytes reading is-R) (omega (arith, made .count, few)) (rw (marked, is-R, e))
-    read-after (some f) e = λ whole. (_, _, is-claimed f e whole)
+    read-after none e = is-stopped (rw (marked, is-R, e))
+    read-after (some f) e =
+        let len = recordHeadLen + codingOf f .codec .wordLen in
+        ((λ whole. (_, _, is-claimed f e whole)), (λ cut. is-stopped (rw (marked, is-R, e) (eqb-other (length reading) len cut))))
 
 pub session-claimed : SessionClaimed
 session-claimed before reading h few marked is-R =

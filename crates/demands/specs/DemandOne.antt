@@ -4,11 +4,11 @@
 -- moves. Assumes nothing.
 use mathlib.Core.Path.{_≡_}
 use mathlib.Core.Logic.{_≢_}
-use mathlib.Core.Bool.{true, false}
+use mathlib.Core.Bool.{Bool, true, false, _&&_}
 use mathlib.Core.List.{List, [], _∷_}
 use mathlib.Core.Option.{Option, none}
 use Prim.Native.Nat.{ℕ}
-use lib.Dec.{eqb}
+use lib.Dec.{eqb, ltb}
 use lib.Ieee.{Float}
 use Rattle.refusals.specs.Refusals.{served}
 use Rattle.combinatorics.specs.Lists.{all, any}
@@ -45,9 +45,9 @@ use Rattle.lent.specs.Words.{encodeBytesUnder}
 use Rattle.lent_moving.specs.Moves.{moveBytesUnder}
 use Rattle.lent_prescriptions.specs.Eyes.{PowersLent, transposeLent, equivalentLent}
 use Rattle.lent_prescriptions.specs.Prescriptions.{prescriptionWriteBytesUnder, prescriptionReadBytesUnder}
-use Rattle.records.specs.Session.{Session, nextSession}
+use Rattle.records.specs.Session.{Session, maxRecords, nextSession}
 use Rattle.lines.specs.Lines.{refusalLine, servedLine}
-use Rattle.records.specs.Records.{letterOf}
+use Rattle.records.specs.Records.{letterOf, isEmpty, readable}
 use Rattle.transfer.specs.Steps.{Step, stopped, ended, goesOn, stepOut}
 use Rattle.demands.specs.Orders.{ownOf, figuresAlone, lentFigures, wordWrite, covering, wordRead, rearrangement, jobWrite, jobRead, moving}
 use Rattle.demands.specs.Orders.{prescriptionAlone, prescriptionWrite, prescriptionRead, prescriptionLent, call, callByLetter, callOnBytes}
@@ -80,15 +80,22 @@ abbrev pub ListAnswers : List ℕ → ListSaid → List ℕ → List ℕ → Lis
 ListAnswers order (listRefused a) answers out o = AnswersBy {A = List ℕ × List ℕ} listOfCalls a (answers, out) (o .answers, o .payload)
 ListAnswers order (jobAnswer a) answers out o = AnswersBy order a out (o .payload)
 
+-- neither "A wrong mark, unknown letter, cut record, W or R before an accepted S" nor "any record after the 4294967295th"
+abbrev pub isTaken : Session → List ℕ → Bool
+isTaken s bytes = ltb (s .count) maxRecords && readable s bytes
+
 -- A step of the transfer program answers by its line: "the letter, 0 or the refusal". A refused record changes neither figures nor table; only the count
 -- of records goes on.
-pub data StepAnswers (s : Session) (letter : ℕ) : Step → Type 0 where
+pub data StepAnswers (s : Session) (bytes : List ℕ) : Step → Type 0 where
   -- "end of input prints "end""
-  at-end : StepAnswers s letter (ended s)
-  -- "prints "stop 11" and ends"
-  stops : StepAnswers s letter (stopped s)
-  refuses : (a : ℕ) → isRefusal a ≡ true → StepAnswers s letter (goesOn (nextSession s (s .figures) (s .table)) (refusalLine letter a))
-  serves : (f : Option Figures) (es : List Entry) (fields : List (List ℕ)) → StepAnswers s letter (goesOn (nextSession s f es) (servedLine letter fields))
+  at-end : isEmpty bytes ≡ true → StepAnswers s bytes (ended s)
+  -- one that is not taken "prints "stop 11" and ends"
+  stops : isEmpty bytes ≡ false → isTaken s bytes ≡ false → StepAnswers s bytes (stopped s)
+  -- "It prints one line a record": one that is taken is refused or served
+  refuses : isTaken s bytes ≡ true → (a : ℕ) → isRefusal a ≡ true
+      → StepAnswers s bytes (goesOn (nextSession s (s .figures) (s .table)) (refusalLine (letterOf bytes) a))
+  serves : isTaken s bytes ≡ true → (f : Option Figures) (es : List Entry) (fields : List (List ℕ))
+      → StepAnswers s bytes (goesOn (nextSession s f es) (servedLine (letterOf bytes) fields))
 
 pub record DemandOne : Type 0 where
   -- ---- Words, under the figures of each code. Nothing is lent to "figures alone"; a refused covering or reading has no start beside it.
@@ -168,7 +175,7 @@ pub record DemandOne : Type 0 where
   pub prescription-read-bytes : (f : Figures) (table w marks : List ℕ) (powers : List Float)
       → AnswersLent (prescriptionRead (ownOf f)) marks powers (prescriptionReadBytesUnder (codingOf f) table w marks powers)
   -- ---- The transfer program
-  pub step : (s : Session) (bytes : List ℕ) → StepAnswers s (letterOf bytes) (stepOut s bytes)
+  pub step : (s : Session) (bytes : List ℕ) → StepAnswers s bytes (stepOut s bytes)
   -- ---- "Each number comes under its condition and under no other": those of the table as the ledger has them, 6 where no placement covers the map,
   -- and 7, 8, 9, 19 and 21 as the found word has them. The others' conditions are the tests in the outcomes themselves.
   pub table-conditions : Simulation

@@ -1,6 +1,7 @@
 -- Demand 3 in the terms of those who call: a program in C, and whoever sends records to the transfer program. The claim is that of
 -- jobcodec/specs/DemandThree. The proofs are `bytes-claimed` and `session-claimed` of proofs/DemandThree.antt. Assumes nothing.
 use mathlib.Core.Path.{_≡_}
+use mathlib.Core.Logic.{_≢_}
 use mathlib.Core.Bool.{Bool, true, not, cond, _&&_, _||_}
 use mathlib.Core.List.{List, [], _∷_}
 use mathlib.Core.Option.{Option, none, some}
@@ -87,11 +88,16 @@ pub record SessionClaim (before : List (List ℕ)) (f : Figures) (reading answer
   pub answered : callLines atStart before ≡ answerLines before answers
   pub printed : let s = sessionAfter atStart before in stepOut s reading ≡ readStep s r
 
--- an R by the figures in force: "W or R before an accepted S .. prints "stop 11" and ends"; "R (read) n bytes"
+-- "prints "stop 11" and ends"
+abbrev pub StopsAfter : List (List ℕ) → List ℕ → Type 0
+StopsAfter before reading = let s = sessionAfter atStart before in stepOut s reading ≡ stopped s
+
+-- an R by the figures in force: "W or R before an accepted S" stops; "R (read) n bytes", and one of any other length stops: a "cut record", or too long
 abbrev pub ReadAfter : List (List ℕ) → List ℕ → Option Figures → Type 0
-ReadAfter before reading none = let s = sessionAfter atStart before in stepOut s reading ≡ stopped s
+ReadAfter before reading none = StopsAfter before reading
 ReadAfter before reading (some f) =
-    length reading ≡ recordHeadLen + codingOf f .codec .wordLen → (answers : List ℕ) × (r : JobRead) × SessionClaim before f reading answers r
+    let len = recordHeadLen + codingOf f .codec .wordLen in
+    (length reading ≡ len → (answers : List ℕ) × (r : JobRead) × SessionClaim before f reading answers r) × (length reading ≢ len → StopsAfter before reading)
 
 -- every R that is not "any record after the 4294967295th": the records before it are any that the program serves
 abbrev pub SessionClaimed : Type 0
