@@ -1,11 +1,13 @@
 // The ways to choose things: every count and rank asks for them here. The table of choices has those that are asked for most. Assumes nothing.
+#![tactic(auto)]
+
 ghost use Rattle.std.specs.Prelude.{◌≡◌, ◌*◌, ◌/◌, ◌≤◌, ltb};
 ghost use Rattle.combinatorics.specs.Choose.{choose as ways};
 ghost use Rattle.cells.specs.Figures.{max_count, count_out, max_word, max_bursts};
 ghost use Rattle.binomials.specs.Limits.{max_taken, most_things, counted_as};
 
 // A count: its value, or that it exceeds the largest that is given.
-#[derive(Drop)]
+#[derive(Clone, Copy)]
 pub enum CountAnswer {
     Ways(u64),
     TooMany,
@@ -27,7 +29,7 @@ const MAX_TAKEN: u64 = 5;
 pub fn count(n: u64, k: u64) -> CountAnswer
     requires { (n ≤ max_word) × (k ≤ max_bursts) }
     ensures value { counted_as result ≡ count_out (ways n k) }
-    ensures* limit { do ⌜ (← (⟦CountAnswer::MAX⟧).entry) ≡ max_count ⌝ }
+    ensures limit { CountAnswer.MAX ≡ max_count }
 {
     if too_many(n, k) {
         return CountAnswer::TooMany;

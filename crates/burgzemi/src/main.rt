@@ -1,4 +1,6 @@
 // The transfer program: does what `turns` wants of the system, until it wants nothing more. Of what a read gives it assumes no more than its length.
+#![tactic(auto)]
+
 ghost use Rattle.turns.specs.State.{Buffers};
 ghost use Rattle.burgzemi.specs.Finished.{Finished};
 

@@ -33,6 +33,9 @@ spelled-below q (lead ∷ xs) (d ∷ ds) l (a, b, c) zero = omega arith
 spelled-below q (plain ∷ xs) (d ∷ ds) l (a, b, c) zero = omega arith
 spelled-below q (lead ∷ xs) (d ∷ ds) l (a, b, c) (suc x) = spelled-below q xs ds l c x
 spelled-below q (plain ∷ xs) (d ∷ ds) l (a, b, c) (suc x) = spelled-below q xs ds l c x
+spelled-below q [] (d ∷ ds) l h x = elim h [ ]
+spelled-below q (lead ∷ xs) [] l h x = elim h [ ]
+spelled-below q (plain ∷ xs) [] l h x = elim h [ ]
 
 pub pos-right : (a b v : ℕ) → v < a * b → 0 < b
 pos-right a zero v h = absurd (omega arith)
@@ -63,6 +66,8 @@ value-lt q [] [] h = omega arith
 value-lt q (x ∷ xs) (d ∷ ds) (a, b, c) =
     let e : d - offset x < radix q x = omega arith in
     digits_lt e (value-lt q xs ds c)
+value-lt q [] (d ∷ ds) h = elim h [ ]
+value-lt q (x ∷ xs) [] h = elim h [ ]
 
 pub spell-value : (q : ℕ) (xs : List Place) (ds : List ℕ) → Spelled q xs ds → spell q xs (value q xs ds) ≡ ds
 unfolding span spell value
@@ -71,6 +76,8 @@ spell-value q (x ∷ xs) (d ∷ ds) (a, b, c) =
     let l = value-lt q xs ds c in
     let e : offset x + (d - offset x) ≡ d = omega arith in
     rw (digits_div (d - offset x) l, digits_mod (d - offset x) l, e, spell-value q xs ds c)
+spell-value q [] (d ∷ ds) h = elim h [ ]
+spell-value q (x ∷ xs) [] h = elim h [ ]
 
 pub span-group : (q r : ℕ) (rest : List Place) → span q (replicate r plain ++ rest) ≡ q ^ r * span q rest
 unfolding span

@@ -1,4 +1,6 @@
 // The codes that a word can have: their figures, the layout that these give, and word write, word read and covering under any of them. Assumes nothing.
+#![tactic(auto)]
+
 ghost use Rattle.std.specs.Prelude.{◌≡◌};
 ghost use Rattle.cells.specs.Outcomes.{answer_number, figures_under, encode_under, cover_under, decode_under};
 ghost use Rattle.placements.specs.Bridge.{held_as, covered_as};
@@ -15,7 +17,7 @@ use params::{Layout, LayoutAnswer, Params};
 use placements::{CoverAnswer, Placement, unplaced};
 
 // The figures of each code: Construction A, Construction B, and the Larsson code of the older trays.
-#[derive(Drop)]
+#[derive(Clone, Copy)]
 pub enum Figures {
     Ranked(Params),
     Long(LongParams),
@@ -23,7 +25,7 @@ pub enum Figures {
 }
 
 // A code's own layout: by blocks, as both constructions have it, or by sub-blocks.
-#[derive(Drop)]
+#[derive(Clone, Copy)]
 pub enum Laid {
     Blocks(Layout),
     SubBlocks(LarssonLayout),
@@ -31,7 +33,7 @@ pub enum Laid {
 
 // The figures of a word that can be laid out, and k, which every code has; beside them the code's own layout. Construction B has one burst. Positions and
 // lengths are usize, values u64.
-#[derive(Drop)]
+#[derive(Clone, Copy)]
 pub struct WordLayout {
     pub n: usize,
     pub q: u64,
@@ -42,7 +44,7 @@ pub struct WordLayout {
 }
 
 // What "figures alone" answers.
-#[derive(Drop)]
+#[derive(Clone, Copy)]
 pub enum FiguresAnswer {
     Fit(WordLayout),
     Refused(u8),

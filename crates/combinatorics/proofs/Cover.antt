@@ -99,11 +99,15 @@ rank_right d (t ∷ ts) = choose (t - length ts * d) (suc (length ts)) + rank_ri
 
 below_length : (ss ts : List ℕ) → Below ss ts → length ss ≡ length ts
 below_length [] [] h = refl
+below_length [] (t ∷ ts) h = elim h [ ]
+below_length (s ∷ ss) [] h = elim h [ ]
 below_length (s ∷ ss) (t ∷ ts) (l, h) = ap suc (below_length ss ts h)
 
 pub below-rank : (d : ℕ) (ss ts : List ℕ) → Below ss ts → rank_right d ss ≤ rank_right d ts
 unfolding rank_right
 below-rank d [] [] h = omega arith
+below-rank d [] (t ∷ ts) h = elim h [ ]
+below-rank d (s ∷ ss) [] h = elim h [ ]
 below-rank d (s ∷ ss) (t ∷ ts) (l, h) =
     let k : s - length ts * d ≤ t - length ts * d = omega arith in
     rw (below_length ss ts h) (omega (arith, choose-mono (suc (length ts)) k, below-rank d ss ts h))

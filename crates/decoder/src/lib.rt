@@ -1,4 +1,6 @@
 // The word reader of both constructions: from a found word to its rank, its placement and its message, or the refusal. Assumes nothing.
+#![tactic(auto)]
+
 ghost use Rattle.std.specs.Prelude.{◌≡◌, List, ℕ, take};
 ghost use Rattle.cells.specs.Outcomes.{unread as unreadAs, decoded_from, decode_under};
 ghost use Rattle.construction_a.specs.Reading.{written, read_rank};
@@ -20,7 +22,7 @@ mod offset;
 pub mod starts;
 
 // What a found word is answered with: its rank where it is accepted, or the refusal.
-#[derive(Drop)]
+#[derive(Clone, Copy)]
 pub enum WordAnswer {
     Accepted(u64),
     Refused(u8),
@@ -37,7 +39,7 @@ pub fn refused_with(answer: WordAnswer) -> u8
 }
 
 // The answer, and the placement beside it, with no starts where the word is refused.
-#[derive(Drop)]
+#[derive(Clone, Copy)]
 pub struct Decoded {
     pub answer: WordAnswer,
     pub placement: Placement,

@@ -1,4 +1,6 @@
 // The word writer of both constructions: the rank's digits, and the walk that fills the word. Assumes nothing.
+#![tactic(auto)]
+
 ghost use Rattle.std.specs.Prelude.{◌≡◌};
 ghost use Rattle.cells.specs.Outcomes.{encode_under};
 ghost use Rattle.params.specs.Given.{blocks_coding, BlocksServe};

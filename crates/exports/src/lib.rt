@@ -1,5 +1,7 @@
 // The entry points for programs in other languages, on numbers and lent bytes, numbers and floats. Each answers 0 or the refusal, which leaves every lent
 // buffer as it was; the check of a word has 255 for "no" besides. Assumes nothing.
+#![tactic(auto)]
+
 ghost use Rattle.std.specs.Prelude.{◌≡◌};
 ghost use Rattle.cells.specs.Figures.{params};
 ghost use Rattle.construction_a.specs.Outcomes.{unwritten, coding};

@@ -16,14 +16,14 @@ use params::Layout;
 use placements::Placement;
 
 // The index blocks read, ascending, where a listed pattern shows them.
-#[derive(Drop)]
+#[derive(Clone, Copy)]
 pub struct IndexBlocks {
     pub found: bool,
     pub blocks: [u8; Placement::MAX],
 }
 
 // Numbers taken in ascending order: how many, and the first two of them.
-#[derive(Drop)]
+#[derive(Clone, Copy)]
 struct Candidates {
     count: usize,
     first: usize,

@@ -1,4 +1,6 @@
 // The job table (document 01's book), by value. Assumes nothing.
+#![tactic(auto)]
+
 ghost use Rattle.std.specs.Prelude.{◌≡◌, ◌+◌, drop};
 ghost use Rattle.jobs.specs.Jobs.{slot_count, is_job};
 ghost use Rattle.jobs.specs.Table.{is_free, empty_table, open_out, cancel_out, finish_out, reinstate_out, hold_out, release_out, decide, turn_open_at};
@@ -10,7 +12,7 @@ pub mod by_letter;
 mod twice;
 
 // What a number was before its cancellation.
-#[derive(Drop)]
+#[derive(Clone, Copy)]
 pub enum Before {
     WasAbsent,
     WasOpen,
@@ -18,7 +20,7 @@ pub enum Before {
 }
 
 // What a slot holds. A number is any of 32 bits. 0 is no job; a table holds it only where it was put there before it was refused.
-#[derive(Drop)]
+#[derive(Clone, Copy)]
 pub enum Entry {
     Free,
     Open(u32),
@@ -27,26 +29,26 @@ pub enum Entry {
 }
 
 // A place of the table.
-#[derive(Drop)]
+#[derive(Clone, Copy)]
 pub struct Slot {
     pub entry: Entry,
 }
 
 // The table of jobs, slot by slot. A new number takes the first free slot.
-#[derive(Drop)]
+#[derive(Clone, Copy)]
 pub struct JobTable {
     pub slots: [Slot; JobTable::SLOTS],
 }
 
 // The answer to a call, 0 or a refusal, and the table that holds afterwards.
-#[derive(Drop)]
+#[derive(Clone, Copy)]
 pub struct TableAnswer {
     pub answer: u8,
     pub table: JobTable,
 }
 
 // What a search through the slots looks for.
-#[derive(Drop)]
+#[derive(Clone, Copy)]
 enum Sought {
     FreeSlot,
     Number(u32),
@@ -58,7 +60,7 @@ impl JobTable {
     // The table that holds no number.
     pub fn empty() -> Self
         ensures table { entries result ≡ empty_table }
-        ensures* limit { do ⌜ (← (⟦JobTable::SLOTS⟧).entry) ≡ slot_count ⌝ }
+        ensures limit { JobTable.SLOTS ≡ slot_count }
     {
         JobTable {
             slots: [Slot { entry: Entry::Free }; JobTable::SLOTS],

@@ -1,4 +1,6 @@
 // Words side by side on one strip: laid so, and taken apart again. Assumes nothing.
+#![tactic(auto)]
+
 ghost use Rattle.std.specs.Prelude.{◌≡◌, List, ℕ, length};
 ghost use Rattle.codes.specs.Bridge.{coding_of};
 ghost use Rattle.codes.specs.Given.{coding_in, Serves};

@@ -1,5 +1,7 @@
 // The law of lanes as one function on lent buffers: the map taken apart, a cover and a word for each lane, the words side by side, damage at the defects,
 // and the interleaved word taken apart and read. Assumes nothing.
+#![tactic(auto)]
+
 ghost use Rattle.std.specs.Prelude.{◌≡◌, List, ℕ, ◌≤◌};
 ghost use Rattle.refusals.specs.Refusals.{served};
 ghost use Rattle.codes.specs.Bridge.{coding_of};

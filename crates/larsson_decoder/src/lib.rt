@@ -1,4 +1,6 @@
 // The Larsson code's word reader: from a found word to its rank, its placement and its message, or the refusal. Assumes nothing.
+#![tactic(auto)]
+
 ghost use Rattle.std.specs.Prelude.{◌≡◌, []};
 ghost use Rattle.cells.specs.Codec.{accepted};
 ghost use Rattle.cells.specs.Outcomes.{decoded_from, decode_under};

@@ -15,7 +15,7 @@ use sub_blocks::held::{agrees, value_of};
 use sub_blocks::majority::majority_block;
 
 // The answer so far: the rank, or the refusal. Beside a rank stand its placement and the kinds of the sub-blocks.
-#[derive(Drop)]
+#[derive(Clone, Copy)]
 pub struct Located {
     pub answer: WordAnswer,
     pub placement: Placement,

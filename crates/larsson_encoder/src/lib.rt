@@ -1,4 +1,6 @@
 // The Larsson code's word writer, and what fills the word. Assumes nothing.
+#![tactic(auto)]
+
 ghost use Rattle.std.specs.Prelude.{◌≡◌};
 ghost use Rattle.cells.specs.Outcomes.{encode_under};
 ghost use Rattle.larsson.specs.Outcomes.{coding};

@@ -1,4 +1,6 @@
 // The figures of the Larsson code (document 02, "The older trays"), and "figures alone": the layout that they give, or the refusal. Assumes nothing.
+#![tactic(auto)]
+
 ghost use Rattle.std.specs.Prelude.{◌≡◌, true, ◌*◌, ◌≤◌};
 ghost use Rattle.cells.specs.Outcomes.{figures_under};
 ghost use Rattle.cells.specs.Figures.{params, in_range, max_count, placement_count_of};
@@ -14,7 +16,7 @@ pub mod starts;
 
 // The figures of a word that can be laid out, and what follows from them: T, R (the symbols of a sub-block), the symbols of all the gaps, and k.
 // Positions and lengths are usize, values u64.
-#[derive(Drop)]
+#[derive(Clone, Copy)]
 pub struct LarssonLayout {
     pub n: usize,
     pub q: u64,
@@ -27,7 +29,7 @@ pub struct LarssonLayout {
 }
 
 // What "figures alone" answers.
-#[derive(Drop)]
+#[derive(Clone, Copy)]
 pub enum LarssonAnswer {
     Fit(LarssonLayout),
     Refused(u8),

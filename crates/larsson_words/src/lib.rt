@@ -1,5 +1,7 @@
 // Words of the Larsson code, filled and taken apart by the walk over their blocks: sub-block i and the gap behind it are block i. Where R is 0 there is
 // nothing to walk. Assumes nothing.
+#![tactic(auto)]
+
 ghost use Rattle.std.specs.Prelude.{◌≡◌, ◌≤◌};
 ghost use Rattle.cells.specs.Cells;
 ghost use Rattle.cells.specs.Cells.{pick};

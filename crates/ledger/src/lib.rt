@@ -1,4 +1,6 @@
 // The replay of a list of calls on the job table, from lent letters and numbers to lent answers. Assumes nothing.
+#![tactic(auto)]
+
 ghost use Rattle.std.specs.Prelude.{◌≡◌, false, List, ◌+◌};
 ghost use Rattle.refusals.specs.Refusals.{served};
 ghost use Rattle.combinatorics.specs.Lists.{all};

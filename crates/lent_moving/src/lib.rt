@@ -1,5 +1,7 @@
 // Moving a job from a strip of one code to a strip of another for programs in other languages, with the job table as bytes. Inner functions of `exports`.
 // Assumes nothing.
+#![tactic(auto)]
+
 ghost use Rattle.std.specs.Prelude.{◌≡◌};
 ghost use Rattle.cells.specs.Outcomes.{unwritten};
 ghost use Rattle.codes.specs.Bridge.{coding_of};

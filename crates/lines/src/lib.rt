@@ -1,4 +1,6 @@
 // The lines that are printed, put together field by field in a lent line. Assumes nothing.
+#![tactic(auto)]
+
 ghost use Rattle.std.specs.Prelude.{◌≡◌, [], ◌∷◌, ◌+◌, ◌*◌, ◌≤◌, length, take, drop};
 ghost use Rattle.cells.specs.Figures.{max_word};
 ghost use Rattle.text.specs.Text.{decimal, hex, overwrite};

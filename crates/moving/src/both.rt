@@ -11,7 +11,7 @@ use params::bytes;
 use refusals::Refusal;
 
 // The layouts of both codes, that of the strip that is read first, or the refusal.
-#[derive(Drop)]
+#[derive(Clone, Copy)]
 pub enum BothAnswer {
     Fit(WordLayout, WordLayout),
     Refused(u8),

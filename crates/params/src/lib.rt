@@ -1,4 +1,6 @@
 // The parameters of a code word (document 01's figures), and "figures alone": the layout that they give, or the refusal. Assumes nothing.
+#![tactic(auto)]
+
 ghost use Rattle.std.specs.Prelude.{◌≡◌, true, ◌*◌, ◌≤◌, ◌<◌};
 ghost use Rattle.cells.specs.Figures.{params, in_range, max_count, placement_count_of};
 ghost use Rattle.construction_a.specs.Figures.{parts as parts_of};
@@ -19,7 +21,7 @@ pub mod long;
 pub mod tail;
 
 // The figures as a caller passes them: any numbers.
-#[derive(Drop)]
+#[derive(Clone, Copy)]
 pub struct Params {
     pub n: u32,
     pub q: u32,
@@ -28,7 +30,7 @@ pub struct Params {
 }
 
 // What the index blocks spell: the rank of the placement (Construction A), or how far into its part the one burst ends (Construction B).
-#[derive(Drop)]
+#[derive(Clone, Copy)]
 pub enum Spells {
     Rank,
     EndOffset,
@@ -36,7 +38,7 @@ pub enum Spells {
 
 // The figures of a word that can be laid out, and document 01's p, T, r and k, in this order, which follow from them; Construction B has one burst
 // and three parts, which are its blocks. Positions and lengths are usize, values u64.
-#[derive(Drop)]
+#[derive(Clone, Copy)]
 pub struct Layout {
     pub n: usize,
     pub q: u64,
@@ -50,7 +52,7 @@ pub struct Layout {
 }
 
 // What "figures alone" answers.
-#[derive(Drop)]
+#[derive(Clone, Copy)]
 pub enum LayoutAnswer {
     Fit(Layout),
     Refused(u8),

@@ -10,7 +10,7 @@ use crate::{Layout, LayoutAnswer, Params, Spells, tail};
 use refusals::Refusal;
 
 // The figures as a caller passes them: any numbers.
-#[derive(Drop)]
+#[derive(Clone, Copy)]
 pub struct LongParams {
     pub n: u32,
     pub q: u32,

@@ -1,5 +1,7 @@
 // Payloads: bytes spelled into the symbols of a message, and read back. Inner functions of job writing and job reading: what they ask for is tested
 // there. Assumes nothing.
+#![tactic(auto)]
+
 ghost use Rattle.std.specs.Prelude.{◌≡◌, true, ◌≤◌, length, replicate};
 ghost use Rattle.cells.specs.Digits.{plain, spell, value};
 ghost use Rattle.payloads.specs.Payload.{job_number, message_of, payload_in, spells_payload};

@@ -1,4 +1,6 @@
 // Placements: which are valid, their rank, the placement of a rank, and the placement of least rank that covers a defect map. Assumes nothing.
+#![tactic(auto)]
+
 ghost use Rattle.std.specs.Prelude.{◌≡◌, true, [], ◌+◌, ◌-◌, ◌≤◌, ◌<◌, max, length};
 ghost use Rattle.combinatorics.specs.Bursts.{apart, placements, rank_of, starts_of};
 ghost use Rattle.combinatorics.specs.Choose.{choose};
@@ -16,7 +18,7 @@ pub mod starts;
 
 // "A placement is held as six starts and the count in use"; document 02, ticket 11: "Raise .. a placement's starts to eight." Starts past the
 // count are 0 in an answer and unread in a call.
-#[derive(Drop)]
+#[derive(Clone, Copy)]
 pub struct Placement {
     pub starts: [u16; Placement::MAX],
     pub count: u32,
@@ -28,7 +30,7 @@ impl Placement {
 
     // No burst at all: what stands beside a refusal.
     pub fn none() -> Self
-        ensures* limit { do ⌜ (← (⟦Placement::MAX⟧).entry) ≡ max_bursts ⌝ }
+        ensures limit { Placement.MAX ≡ max_bursts }
         ensures placement { held_as result ≡ held [] }
     {
         Placement {
@@ -105,7 +107,7 @@ impl Placement {
 }
 
 // The last of so many bursts: its reduced start, and its share of their rank.
-#[derive(Drop)]
+#[derive(Clone, Copy)]
 struct LastBurst {
     reduced: u64,
     share: u64,
@@ -144,7 +146,7 @@ fn last_burst(below: u64, number: u64, rank: u64) -> LastBurst
 }
 
 // The answer of covering, 0 or a refusal, and the placement beside it, with no starts where the answer is a refusal.
-#[derive(Drop)]
+#[derive(Clone, Copy)]
 pub struct CoverAnswer {
     pub answer: u8,
     pub placement: Placement,
@@ -184,7 +186,7 @@ pub fn unplaced(number: u8) -> CoverAnswer
 }
 
 // Whether some placement covers the map, and the one of least rank that does.
-#[derive(Drop)]
+#[derive(Clone, Copy)]
 pub struct Covering {
     pub covered: bool,
     pub placement: Placement,

@@ -5,7 +5,7 @@ ghost use Rattle.prescription.specs.Counts.{PowerOfTwo, count_as, size_in, bits_
 ghost use Rattle.prescription.specs.Stored.{count_in};
 
 // A float as a whole number of parts, below 32768 in size; a negative one by the bits of a signed 16-bit number.
-#[derive(Drop)]
+#[derive(Clone, Copy)]
 pub enum Count {
     Whole(u16),
     Part,

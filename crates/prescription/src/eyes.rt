@@ -9,7 +9,7 @@ use crate::fields::StoredAnswer;
 use refusals::Refusal;
 
 // An eye: plano, a sphere with its power, or a toric. Powers are dioptres, an axis is in degrees.
-#[derive(Drop)]
+#[derive(Clone, Copy)]
 pub enum Eye {
     Plano,
     Sphere(f64),
@@ -21,14 +21,14 @@ pub enum Eye {
 }
 
 // An eye that keeps the rules, or the refusal.
-#[derive(Drop)]
+#[derive(Clone, Copy)]
 pub enum EyeAnswer {
     Kept(Eye),
     Refused(u8),
 }
 
 // Dioptres, or the refusal.
-#[derive(Drop)]
+#[derive(Clone, Copy)]
 pub enum PowerAnswer {
     Power(f64),
     Refused(u8),

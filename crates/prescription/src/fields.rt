@@ -14,7 +14,7 @@ use refusals::Refusal;
 const EIGHTHS: u16 = 8;
 
 // An eye's four fields; sphere and cylinder are the bits of signed counts of eighths.
-#[derive(Drop)]
+#[derive(Clone, Copy)]
 pub struct StoredEye {
     pub kind: u8,
     pub sphere: u16,
@@ -29,7 +29,7 @@ impl StoredEye {
     pub const MAX_AXIS: u8 = 180;
 }
 
-#[derive(Drop)]
+#[derive(Clone, Copy)]
 pub enum StoredAnswer {
     Kept(StoredEye),
     Refused,

@@ -23,7 +23,7 @@ const STORED_LEN: usize = 13;
 const HALVES: u16 = 2;
 
 // Both eyes, and the pupil distance in millimetres.
-#[derive(Drop)]
+#[derive(Clone, Copy)]
 pub struct Prescription {
     pub right: Eye,
     pub left: Eye,
@@ -31,7 +31,7 @@ pub struct Prescription {
 }
 
 // A prescription that keeps the rules, or the refusal.
-#[derive(Drop)]
+#[derive(Clone, Copy)]
 pub enum PrescriptionAnswer {
     Kept(Prescription),
     Refused(u8),

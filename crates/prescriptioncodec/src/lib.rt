@@ -1,4 +1,6 @@
 // Writing and reading prescriptions: a job's number and its prescription in a word, where the table has the job open. Assumes nothing.
+#![tactic(auto)]
+
 ghost use Rattle.std.specs.Prelude.{◌≡◌, ◌≤◌, length};
 ghost use Rattle.cells.specs.Outcomes.{unwritten};
 ghost use Rattle.codes.specs.Bridge.{coding_of};
@@ -29,7 +31,7 @@ const MAX_LEN: usize = Params::MAX_WORD as usize;
 const SHORT_LEN: usize = Params::SHORT_WORD as usize;
 
 // A job's number and its prescription, or the refusal.
-#[derive(Drop)]
+#[derive(Clone, Copy)]
 pub enum ReadAnswer {
     Handed(u32, Prescription),
     Refused(u8),

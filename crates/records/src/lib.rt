@@ -1,4 +1,6 @@
 // The records that the transfer program takes: what is kept between them, how long each is, and what its bytes say. Assumes nothing.
+#![tactic(auto)]
+
 ghost use Rattle.std.specs.Prelude.{◌≡◌, ◌+◌, ◌*◌, ◌≤◌, ◌<◌, length};
 ghost use Rattle.std.proofs.Math.Option.{some};
 ghost use Rattle.combinatorics.specs.Stretch.{tabulate};
@@ -19,14 +21,14 @@ use symbols::numbers;
 use symbols::numbers::NUMBER_BYTES;
 
 // The figures of the last accepted S or L.
-#[derive(Drop)]
+#[derive(Clone, Copy)]
 pub enum LastFigures {
     Missing,
     Accepted(Figures),
 }
 
 // Those figures with their layout.
-#[derive(Drop)]
+#[derive(Clone, Copy)]
 pub enum CurrentAnswer {
     Missing,
     Laid(Figures, WordLayout),
@@ -34,14 +36,14 @@ pub enum CurrentAnswer {
 
 // What is known of a session's figures and table, so that many records need not find it anew: the last accepted figures with their layout, and
 // whether the table holds a number twice.
-#[derive(Drop)]
+#[derive(Clone, Copy)]
 pub struct Known {
     pub current: CurrentAnswer,
     pub twice: bool,
 }
 
 // What is kept between two records: figures, job table, and how many records were served.
-#[derive(Drop)]
+#[derive(Clone, Copy)]
 pub struct Session {
     pub figures: LastFigures,
     pub table: JobTable,
@@ -99,9 +101,9 @@ impl Session {
     // The session before the first record.
     pub fn start() -> Self
         ensures session { session_of result ≡ at_start }
-        ensures* records { do ⌜ (← (⟦Session::MAX_RECORDS⟧).entry) ≡ max_records ⌝ }
-        ensures* longest { do ⌜ (← (⟦Session::MAX_RECORD⟧).entry) ≡ max_record ⌝ }
-        ensures* room { do ⌜ (← (⟦Session::MAX_LINE⟧).entry) ≡ max_line ⌝ }
+        ensures records { Session.MAX_RECORDS ≡ max_records }
+        ensures longest { Session.MAX_RECORD ≡ max_record }
+        ensures room { Session.MAX_LINE ≡ max_line }
     {
         Session {
             figures: LastFigures::Missing,

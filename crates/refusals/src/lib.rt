@@ -1,11 +1,13 @@
 // The refusal numbers of documents 01 and 02, one name each. Assumes nothing.
+#![tactic(auto)]
+
 ghost use Rattle.std.specs.Prelude.{◌≡◌};
 ghost use Rattle.refusals.specs.Refusals.{served, invalid, unfit, wrong_length, bad_symbol, bad_starts, uncovered, no_pattern, value_too_large, disagrees};
 ghost use Rattle.refusals.specs.Refusals.{bad_payload, bad_record, bad_prescription, bad_depth, erased, no_majority, surplus_bytes, job_cancelled};
 ghost use Rattle.refusals.specs.Refusals.{already_open, not_open, table_full, number_zero, not_cancelled, job_held, not_held, refusals};
 
 // The numbers stand under this name; 0 stands for an accepted call.
-#[derive(Drop)]
+#[derive(Clone, Copy)]
 pub struct Refusal {}
 
 impl Refusal {
@@ -64,31 +66,31 @@ impl Refusal {
     // Both lists, in each document 01's numbers and behind them document 02's. Its contract ties each name here to that of specs/.
     pub fn all() -> [u8; 24]
         ensures list { result ≡ refusals }
-        ensures* do_value { do ⌜ (← (⟦Refusal::NONE⟧).entry) ≡ served ⌝ }
-        ensures* do_value_2 { do ⌜ (← (⟦Refusal::INVALID⟧).entry) ≡ invalid ⌝ }
-        ensures* do_value_3 { do ⌜ (← (⟦Refusal::UNFIT⟧).entry) ≡ unfit ⌝ }
-        ensures* do_value_4 { do ⌜ (← (⟦Refusal::LENGTH⟧).entry) ≡ wrong_length ⌝ }
-        ensures* do_value_5 { do ⌜ (← (⟦Refusal::SYMBOL⟧).entry) ≡ bad_symbol ⌝ }
-        ensures* do_value_6 { do ⌜ (← (⟦Refusal::STARTS⟧).entry) ≡ bad_starts ⌝ }
-        ensures* do_value_7 { do ⌜ (← (⟦Refusal::UNCOVERED⟧).entry) ≡ uncovered ⌝ }
-        ensures* do_value_8 { do ⌜ (← (⟦Refusal::PATTERN⟧).entry) ≡ no_pattern ⌝ }
-        ensures* do_value_9 { do ⌜ (← (⟦Refusal::VALUE⟧).entry) ≡ value_too_large ⌝ }
-        ensures* do_value_10 { do ⌜ (← (⟦Refusal::DISAGREES⟧).entry) ≡ disagrees ⌝ }
-        ensures* do_value_11 { do ⌜ (← (⟦Refusal::PAYLOAD⟧).entry) ≡ bad_payload ⌝ }
-        ensures* do_value_12 { do ⌜ (← (⟦Refusal::RECORD⟧).entry) ≡ bad_record ⌝ }
-        ensures* do_value_13 { do ⌜ (← (⟦Refusal::PRESCRIPTION⟧).entry) ≡ bad_prescription ⌝ }
-        ensures* do_value_14 { do ⌜ (← (⟦Refusal::DEPTH⟧).entry) ≡ bad_depth ⌝ }
-        ensures* do_value_15 { do ⌜ (← (⟦Refusal::ERASED⟧).entry) ≡ erased ⌝ }
-        ensures* do_value_16 { do ⌜ (← (⟦Refusal::MAJORITY⟧).entry) ≡ no_majority ⌝ }
-        ensures* do_value_17 { do ⌜ (← (⟦Refusal::SURPLUS⟧).entry) ≡ surplus_bytes ⌝ }
-        ensures* do_value_18 { do ⌜ (← (⟦Refusal::CANCELLED⟧).entry) ≡ job_cancelled ⌝ }
-        ensures* do_value_19 { do ⌜ (← (⟦Refusal::ALREADY_OPEN⟧).entry) ≡ already_open ⌝ }
-        ensures* do_value_20 { do ⌜ (← (⟦Refusal::NOT_OPEN⟧).entry) ≡ not_open ⌝ }
-        ensures* do_value_21 { do ⌜ (← (⟦Refusal::FULL⟧).entry) ≡ table_full ⌝ }
-        ensures* do_value_22 { do ⌜ (← (⟦Refusal::NUMBER_ZERO⟧).entry) ≡ number_zero ⌝ }
-        ensures* do_value_23 { do ⌜ (← (⟦Refusal::NOT_CANCELLED⟧).entry) ≡ not_cancelled ⌝ }
-        ensures* do_value_24 { do ⌜ (← (⟦Refusal::HELD⟧).entry) ≡ job_held ⌝ }
-        ensures* do_value_25 { do ⌜ (← (⟦Refusal::NOT_HELD⟧).entry) ≡ not_held ⌝ }
+        ensures none { Refusal.NONE ≡ served }
+        ensures invalid { Refusal.INVALID ≡ invalid }
+        ensures unfit { Refusal.UNFIT ≡ unfit }
+        ensures length { Refusal.LENGTH ≡ wrong_length }
+        ensures symbol { Refusal.SYMBOL ≡ bad_symbol }
+        ensures starts { Refusal.STARTS ≡ bad_starts }
+        ensures uncovered { Refusal.UNCOVERED ≡ uncovered }
+        ensures pattern { Refusal.PATTERN ≡ no_pattern }
+        ensures value { Refusal.VALUE ≡ value_too_large }
+        ensures disagrees { Refusal.DISAGREES ≡ disagrees }
+        ensures payload { Refusal.PAYLOAD ≡ bad_payload }
+        ensures record { Refusal.RECORD ≡ bad_record }
+        ensures prescription { Refusal.PRESCRIPTION ≡ bad_prescription }
+        ensures depth { Refusal.DEPTH ≡ bad_depth }
+        ensures erased { Refusal.ERASED ≡ erased }
+        ensures majority { Refusal.MAJORITY ≡ no_majority }
+        ensures surplus { Refusal.SURPLUS ≡ surplus_bytes }
+        ensures cancelled { Refusal.CANCELLED ≡ job_cancelled }
+        ensures already_open { Refusal.ALREADY_OPEN ≡ already_open }
+        ensures not_open { Refusal.NOT_OPEN ≡ not_open }
+        ensures full { Refusal.FULL ≡ table_full }
+        ensures number_zero { Refusal.NUMBER_ZERO ≡ number_zero }
+        ensures not_cancelled { Refusal.NOT_CANCELLED ≡ not_cancelled }
+        ensures held { Refusal.HELD ≡ job_held }
+        ensures not_held { Refusal.NOT_HELD ≡ not_held }
     {
         [
             Refusal::INVALID,

@@ -1,4 +1,6 @@
 // Writing, damage inside the bursts and reading back, as one function on lent buffers. Assumes nothing.
+#![tactic(auto)]
+
 ghost use Rattle.std.specs.Prelude.{◌≡◌};
 ghost use Rattle.combinatorics.specs.Bursts.{in_burst};
 ghost use Rattle.codes.specs.Bridge.{coding_of};

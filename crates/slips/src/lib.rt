@@ -1,5 +1,7 @@
 // Reading a strip, and the same strip with symbols of its message altered (document 02, "What a slip can spoil"), as one function on lent buffers.
 // Assumes nothing.
+#![tactic(auto)]
+
 ghost use Rattle.std.specs.Prelude.{◌≡◌};
 ghost use Rattle.cells.specs.Outcomes.{decode_under};
 ghost use Rattle.codes.specs.Bridge.{coding_of};
@@ -10,7 +12,7 @@ use codes::Figures;
 use decoder::Decoded;
 
 // What two found words are answered with.
-#[derive(Drop)]
+#[derive(Clone, Copy)]
 pub struct BothDecoded {
     pub first: Decoded,
     pub second: Decoded,

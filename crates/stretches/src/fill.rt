@@ -41,7 +41,7 @@ pub fn fill_cells(
 
 // How far a word is filled: up to a position, with so many index blocks and so much of the message, past so many bursts. The next one starts at
 // `stop`, which is carried along, as most blocks have none.
-#[derive(Drop)]
+#[derive(Clone, Copy)]
 struct Filling {
     at: usize,
     indexed: usize,

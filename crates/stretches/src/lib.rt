@@ -1,5 +1,7 @@
 // The walk over a word's cells, block by block, by tables of its blocks: of Constructions A and B, and of the Larsson code. Its laws are in
 // proofs/ByBlock. Assumes nothing.
+#![tactic(auto)]
+
 ghost use Rattle.std.specs.Prelude.{◌≡◌};
 ghost use Rattle.placements.specs.Bridge.{starts_in};
 ghost use Rattle.params.specs.Given.{Shaped};
@@ -14,7 +16,7 @@ pub mod taking;
 
 // A word of n symbols with m bursts of b, cut into blocks. An index block's head holds `head_len` digits, and the digits of the next index block stand
 // `digit_step` further on in the list that is lent: 0 where each holds the same.
-#[derive(Drop)]
+#[derive(Clone, Copy)]
 pub struct Walk {
     pub n: usize,
     pub m: usize,

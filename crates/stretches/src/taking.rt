@@ -53,7 +53,7 @@ pub fn message_whole(walk: Walk, q: u64, at: Placement, whole: bool, word: &[u8]
 }
 
 // How far a word is taken apart: up to a position, so much of the message, past so many bursts. The next one starts at `stop`.
-#[derive(Drop)]
+#[derive(Clone, Copy)]
 struct Taking {
     at: usize,
     taken: usize,

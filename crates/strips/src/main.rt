@@ -1,5 +1,7 @@
 // Runs the bench strips that are not starred, strips at the limits of document 02, ticket 11, and word write on starred ones, and writes what the proved
 // functions answer, a line for each. Assumes nothing.
+#![tactic(auto)]
+
 use codes::{Figures, FiguresAnswer};
 use decoder::WordAnswer;
 use jobs::JobTable;

@@ -1,4 +1,6 @@
 // Lent symbols: tested, cleared and copied. Assumes nothing.
+#![tactic(auto)]
+
 ghost use Rattle.std.specs.Prelude.{◌≡◌, ◌&&◌, ℕ, ◌*◌, ◌≤◌, ◌<◌, ltb, length, take, replicate};
 ghost use Rattle.combinatorics.specs.Lists.{all_below};
 

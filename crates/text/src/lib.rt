@@ -1,4 +1,6 @@
 // Lines of text, put together piece by piece: each function overwrites a lent line from a position on and answers the position behind. Assumes nothing.
+#![tactic(auto)]
+
 ghost use Rattle.std.specs.Prelude.{◌≡◌, true, [], ◌∷◌, map, ◌+◌, ◌-◌, ◌*◌, ◌≤◌, ◌<◌, length, take};
 ghost use Rattle.combinatorics.specs.Lists.{all_below};
 ghost use Rattle.text.specs.Text.{decimal, hex_digit, hex, overwrite};

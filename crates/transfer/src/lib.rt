@@ -1,4 +1,6 @@
 // The transfer program, record by record: the step of one record, which makes a session of a session and prints a line. Assumes nothing.
+#![tactic(auto)]
+
 ghost use Rattle.std.specs.Prelude.{◌≡◌, true, false, ◌+◌, ◌≤◌, ◌<◌, length};
 ghost use Rattle.cells.specs.Outcomes.{figures_under};
 ghost use Rattle.jobs.specs.Letters.{kind_of, call_by};
@@ -24,7 +26,7 @@ const MAX_WORD: usize = Params::MAX_WORD as usize;
 const SHORT_WORD: usize = Params::SHORT_WORD as usize;
 
 // What a step answers: the session afterwards, how many bytes of the lent line are printed, and whether the program ends.
-#[derive(Drop)]
+#[derive(Clone, Copy)]
 pub struct StepAnswer {
     pub next: Session,
     pub len: usize,

@@ -1,5 +1,7 @@
 // The transfer program between two system calls: what is kept, what is wanted of the system next, and what its answers change. Nothing here reads or
 // writes. Assumes nothing.
+#![tactic(auto)]
+
 ghost use Rattle.std.specs.Prelude.{◌≡◌, cond, ◌+◌, ◌-◌, ◌≤◌, min, length, take, drop};
 ghost use Rattle.libc.specs.Io.{Moved};
 ghost use Rattle.text.specs.Text.{overwrite};
@@ -18,7 +20,7 @@ const BUFFER_LEN: usize = 65536;
 const MAX_REPEATS: u64 = u64::MAX;
 
 // What the program wants of the system: more input, all that is gathered written, or nothing any more.
-#[derive(Drop)]
+#[derive(Clone, Copy)]
 pub enum Wants {
     Read,
     Write,
@@ -26,7 +28,7 @@ pub enum Wants {
 }
 
 // How the input stands: it goes on, has ended, or a read failed; or the last line is gathered, and no more of it is looked at.
-#[derive(Drop)]
+#[derive(Clone, Copy)]
 pub enum Phase {
     Open,
     Ended,
@@ -36,7 +38,7 @@ pub enum Phase {
 
 // What is kept. Of the input buffer the bytes from `from` to `to` are not served yet; of the output buffer the first `gathered` bytes are not written yet.
 // So many interrupted reads may still be made again.
-#[derive(Drop)]
+#[derive(Clone, Copy)]
 pub struct State {
     pub session: Session,
     pub from: usize,

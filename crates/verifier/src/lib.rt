@@ -1,4 +1,6 @@
 // The check of a word against the placement and the message that it should hold (document 02, "Strips from the frame maker"). Assumes nothing.
+#![tactic(auto)]
+
 ghost use Rattle.std.specs.Prelude.{◌≡◌};
 ghost use Rattle.placements.specs.Bridge.{held_as};
 ghost use Rattle.codes.specs.Bridge.{coding_of};
@@ -15,7 +17,7 @@ use placements::bursts::cover_differences;
 use refusals::Refusal;
 
 // Whether the word agrees outside the bursts with the one that would be written, or the refusal.
-#[derive(Drop)]
+#[derive(Clone, Copy)]
 pub enum VerifyAnswer {
     Agrees,
     Differs,

@@ -1,0 +1,34 @@
+-- `JobTable::turn_open` meets its contract. Assumes nothing.
+use mathlib.Core.Path.{refl, ◌∙◌}
+use borrow.Author.Rules.{rules}
+use Rattle.jobs.specs.Table.{turn_open_at}
+use Rattle.jobs.specs.Slots.{entries}
+use Rattle.jobs.proofs.Decisions.{Decided, twice-refused, entry-decides}
+use Rattle.jobs.proofs.JobTable.turn_open.Goals as goal
+use Rattle.jobs.proofs.JobTable.turn_open.Goals.{After-lookup-entry}
+
+decided : (l : After-lookup-entry)
+    → let a = l.args in
+    Decided (turn_open_at a.next) (entries a.self) a.number l.lookup-entry.result
+decided l =
+    let a = l.args in
+    entry-decides (turn_open_at a.next) (entries a.self) a.number l.twice.ensures l.if-twice.false l.lookup-entry.ensures
+
+pub returns-then-twice : goal.returns-then-twice
+returns-then-twice c =
+    let a = c.args in
+    c.refuse.ensures ∙ twice-refused (turn_open_at a.next) (entries a.self) a.number c.twice.ensures c.if-twice.true
+
+pub returns-in-Cancelled : goal.returns-in-Cancelled
+returns-in-Cancelled c = c.refuse-in-Cancelled.ensures ∙ (decided (goal.at.returns-in-Cancelled c).After-lookup-entry).gives _ c.in-Cancelled.is
+
+pub returns-in-OnHold : goal.returns-in-OnHold
+returns-in-OnHold c = c.refuse-in-OnHold.ensures ∙ (decided (goal.at.returns-in-OnHold c).After-lookup-entry).gives _ c.in-OnHold.is
+
+pub returns-in-Open : goal.returns-in-Open
+returns-in-Open c =
+    let l = (goal.at.returns-in-Open c).After-lookup-entry in
+    c.put.ensures ∙ (decided l).stores l.args.next _ c.in-Open.is refl refl
+
+pub returns-in-Free : goal.returns-in-Free
+returns-in-Free c = c.refuse-in-Free.ensures ∙ (decided (goal.at.returns-in-Free c).After-lookup-entry).gives _ c.in-Free.is

@@ -1,0 +1,15 @@
+-- `copy_long` meets its contract: the symbols so far are copied, and the last move starts among them or right behind. Assumes nothing.
+use mathlib.Core.Path.{◌≡◌, refl, ◌∙◌}
+use Prim.Native.Nat.{◌-◌, ◌≤◌}
+use native.Mathlib.Omega.{arith}
+use borrow.Author.Rules.{rules}
+use lib.ListN.{length, take}
+use borrow.Rule.Slice.PartMut.{same_len_mid}
+use Rattle.symbols.proofs.Copied.{copied-turn, copied-last}
+use Rattle.symbols.proofs.copy_long.Given as goal
+
+abbrev pub invariant-loop-done : goal.invariant-loop-done
+invariant-loop-done l = (l.done ≤ l.len) × (length l.to ≡ length l.initial.to) × (take l.done l.to ≡ take l.done l.from)
+
+abbrev pub decreases-loop-done : goal.decreases-loop-done
+decreases-loop-done l = l.len - l.done
