@@ -4,15 +4,13 @@ use mathlib.Core.Path.{◌≡◌, sym, ap, ◌∙◌, fun_ext}
 use Prim.Native.Nat.{ℕ, zero, suc, ◌-◌, ◌*◌, ◌^◌, min}
 use native.Mathlib.Nat.{mul_assoc, pow-zero, pow-suc}
 use native.Mathlib.Omega.{arith}
-use borrow.Author.Rules.{rules}
 use lib.Dec.{leb}
 use Rattle.combinatorics.specs.Stretch.{first}
 use Rattle.cells.specs.Digits.{span, places}
 use Rattle.cells.proofs.Digits.{span-first, span-longer, span-places}
 use Rattle.cells.specs.Figures.{least_tail}
 use Rattle.params.proofs.Capped.{factors-capped, reached-alike}
-use Rattle.params.proofs.tail.least_tail.Statement.{statement}
-use Rattle.params.proofs.tail.least_tail.Tie as tie
+use Rattle.params.proofs.tail.least_tail.Goals as goal
 
 -- each further symbol is one more factor
 span-factors : (q blocks r : ℕ) → span q (places blocks r) ≡ (q - 1) ^ blocks * (q ^ blocks) ^ r
@@ -30,23 +28,8 @@ least-capped q blocks count limit =
     (factors-capped ((q - 1) ^ blocks) (q ^ blocks) count r)
     ∙ ap (leb count) (sym (span-factors q blocks r) ∙ span-places q blocks r)))
 
-capped-power-requires : tie.Need-capped-power-requires
-capped-power-requires c κs = search rules
-
-sub-capped-power : tie.Need-overflow-sub-capped-power
-sub-capped-power c = search rules
-
-capped-power-requires-2 : tie.Need-capped-power-requires-2
-capped-power-requires-2 c κs = search rules
-
-least-factors-requires : tie.Need-least-factors-requires
-least-factors-requires c κs = search rules
-
-returns : tie.Need-returns
+pub returns : goal.returns
 returns c =
-    let a = c.before.before.before.args in
-    c.least-factors.ensures ∙ (rw (c.before.capped-power2.ensures, c.before.before.capped-power.ensures)
+    let a = c.args in
+    c.least_factors.ensures ∙ (rw (c.capped_power-values.ensures, c.capped_power-step.ensures)
     (least-capped a.q a.blocks a.count a.limit))
-
-pub least-tail-spec : {M : Type 1} → statement M
-least-tail-spec = tie.close (tie.spec capped-power-requires sub-capped-power capped-power-requires-2 least-factors-requires returns)
