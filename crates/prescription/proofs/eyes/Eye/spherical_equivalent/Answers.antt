@@ -1,5 +1,5 @@
 -- `Eye::spherical_equivalent` meets its contract: half the cylinder and the sum are exact. Assumes nothing.
-use Rattle.std.proofs.Common.{sym, refl, ap, ◌∙◌}
+use Rattle.std.proofs.Common.{sym, refl, ap, ◌∙◌, rules}
 use lib.Ieee.{round, size, units, odd, of_bits}
 use Rattle.prescription.specs.declared.eyes.Eye.TheVariants.{Plano}
 use Rattle.prescription.specs.Fractions.{fraction}
@@ -24,7 +24,7 @@ pub returns-in-Sphere : goal.returns-in-Sphere
 returns-in-Sphere c =
     let is = c.in-Sphere.is in
     let i = sphere-told c.in-Kept.is c.stored-stored.ensures is in
-    sphere-equivalent c.in-Sphere.power i c.in-Sphere.known_told-1-own.given.0.1 ∙ ap equivalent_out (sym is)
+    sphere-equivalent c.in-Sphere.power i (search rules) ∙ ap equivalent_out (sym is)
 
 pub returns-in-Toric : goal.returns-in-Toric
 unfolding of_bits

@@ -1,5 +1,5 @@
 -- `Eye::transpose` meets its contract: the float sum and the negation are those of the counts. Assumes nothing.
-use Rattle.std.proofs.Common.{◌≡◌, sym, refl, ap, ◌∙◌}
+use Rattle.std.proofs.Common.{◌≡◌, sym, refl, ap, ◌∙◌, rules}
 use lib.Ieee.{binary64, add, neg}
 use Rattle.prescription.specs.declared.eyes.Eye.TheVariants.{Plano, Sphere, Toric}
 use Rattle.prescription.specs.Lens.{plano, sphere, toric, keeps, transposed}
@@ -36,7 +36,7 @@ returns-in-Sphere-clause-answer c =
     let is = c.in-Sphere.is in
     let i = sphere-told c.in-Kept.is c.stored-stored.ensures is in
     let l = sphere i.count in
-    let eye : Sphere p ≡ eye_of l = sphere-eye p i c.in-Sphere.known_told-1-own.given.0.1 in
+    let eye : Sphere p ≡ eye_of l = sphere-eye p i (search rules) in
     ap answered eye ∙ sym (transposes (Sphere p) l (sphere-lens p i)) ∙ ap transpose_out (sym is)
 
 pub returns-in-Sphere-clause-bits : goal.returns-in-Sphere-clause-bits
@@ -47,7 +47,7 @@ returns-in-Sphere-clause-bits c =
     let is = c.in-Sphere.is in
     let i = sphere-told c.in-Kept.is c.stored-stored.ensures is in
     let l = sphere i.count in
-    let eye : Sphere p ≡ eye_of l = sphere-eye p i c.in-Sphere.known_told-1-own.given.0.1 in
+    let eye : Sphere p ≡ eye_of l = sphere-eye p i (search rules) in
     restored self (Sphere p) l i.kept (is ∙ eye) eye
 
 pub returns-in-Toric-clause-answer : goal.returns-in-Toric-clause-answer
@@ -60,7 +60,7 @@ returns-in-Toric-clause-answer c =
     let a = c.in-Toric.axis in
     let l = toric i.s i.c a in
     let f : Toric (add binary64 x y) (neg y) c.turned.result ≡ eye_of (transposed l) =
-    ap (Toric (add binary64 x y) (neg y)) c.turned.ensures ∙ toric-transposed x y a i c.in-Toric.known_told-in-Toric-1-own.given.1.0.1 in ap answered f ∙ sym (transposes (Toric x y a) l (toric-lens x y a i))
+    ap (Toric (add binary64 x y) (neg y)) c.turned.ensures ∙ toric-transposed x y a i (search rules) in ap answered f ∙ sym (transposes (Toric x y a) l (toric-lens x y a i))
     ∙ ap transpose_out (sym is)
 
 pub returns-in-Toric-clause-bits : goal.returns-in-Toric-clause-bits
@@ -73,8 +73,8 @@ returns-in-Toric-clause-bits c =
     let a = c.in-Toric.axis in
     let l = toric i.s i.c a in
     let f : Toric (add binary64 x y) (neg y) c.turned.result ≡ eye_of (transposed l) =
-    ap (Toric (add binary64 x y) (neg y)) c.turned.ensures ∙ toric-transposed x y a i c.in-Toric.known_told-in-Toric-1-own.given.1.0.1 in restored self (Toric (add binary64 x y) (neg y) c.turned.result) l i.kept
-    (is ∙ toric-eye x y a i c.in-Toric.known_told-in-Toric-1-own.given.0.1 c.in-Toric.known_told-in-Toric-1-own.given.1.0.1) f
+    ap (Toric (add binary64 x y) (neg y)) c.turned.ensures ∙ toric-transposed x y a i (search rules) in restored self (Toric (add binary64 x y) (neg y) c.turned.result) l i.kept
+    (is ∙ toric-eye x y a i (search rules) (search rules)) f
 
 pub returns-in_default-clause-answer : goal.returns-in_default-clause-answer
 unfolding transpose_out
