@@ -3,7 +3,7 @@ use mathlib.Core.Path.{◌≡◌, sym, ap, ◌∙◌}
 use Prim.Native.Nat.{ℕ, ◌≤◌, ◌<◌}
 use native.Mathlib.Omega.{arith}
 use Rattle.combinatorics.proofs.Cases.{by_le}
-use Rattle.cells.specs.Figures.{Counted, counted, too_many, count_out, max_count}
+use Rattle.cells.specs.Figures.{counted, too_many, count_out, max_count}
 use Rattle.cells.proofs.Figures.{count-given, count-over}
 use Rattle.binomials.specs.Limits.{counted_as}
 use Rattle.binomials.specs.declared.CountAnswer.{CountAnswer}

@@ -1,9 +1,9 @@
 -- The ways to take things one after another: the orders of the same things times the ways to choose them, and both fit 64 bits. Assumes nothing.
-use mathlib.Core.Path.{◌≡◌, refl, sym, ap, ◌∙◌}
+use mathlib.Core.Path.{◌≡◌, refl, sym, ◌∙◌}
 use mathlib.Core.Bool.{false, true≢false}
 use Prim.Native.Nat.{ℕ, zero, suc, ◌+◌, ◌*◌, ◌-◌, ◌/◌, ◌≤◌, ◌<◌}
 use native.Mathlib.Numerals.{add-one}
-use native.Mathlib.Nat.{mul_assoc, mul-one, mul-le-mul, mul-div_cancel_left}
+use native.Mathlib.Nat.{mul_assoc, mul-le-mul, mul-div_cancel_left}
 use native.Mathlib.Omega.{arith}
 use lib.Dec.{ltb}
 use Rattle.combinatorics.specs.Choose.{choose}

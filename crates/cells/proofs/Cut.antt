@@ -8,7 +8,7 @@ use native.Mathlib.Decide.{le_ind}
 use native.Mathlib.Omega.{arith}
 use lib.Arith.{digits_div, digits_mod}
 use lib.Dec.{leb}
-use Rattle.combinatorics.specs.Stretch.{sum, bit, top}
+use Rattle.combinatorics.specs.Stretch.{sum, bit}
 use Rattle.combinatorics.proofs.Cases.{by_le}
 use Rattle.combinatorics.proofs.Stretch.{IsTop, top-is, top-only, sum-next}
 use Rattle.cells.specs.Cut.{piece_len, piece_start, block_at, block_head, block_with}

@@ -8,7 +8,7 @@ use native.Mathlib.Omega.{arith}
 use lib.Dec.{leb, ltb}
 use lib.ListN.{length, get_or}
 use Rattle.combinatorics.specs.Rank.{unrank}
-use Rattle.combinatorics.specs.Stretch.{sum, bit, count}
+use Rattle.combinatorics.specs.Stretch.{bit, count}
 use Rattle.combinatorics.specs.Bursts.{apart, in_burst, contracted, placements, reduce_from, expand_from, rank_of, starts_of}
 use Rattle.combinatorics.proofs.Cases.{by_le, by_bool, leb-holds, leb-fails}
 use Rattle.combinatorics.proofs.Stretch.{at-or-past, sum-append, count_none, count-all, count-ext}

@@ -1,7 +1,7 @@
 -- Covering: from the right, each burst ends at the last worn position that is left, or is the leftmost that leaves room for the others. This greedy
 -- choice covers whenever some placement does, and no placement that covers has a smaller rank. Assumes nothing.
 use mathlib.Core.Path.{◌≡◌, refl, sym, ap, ◌∙◌, subst}
-use mathlib.Core.Logic.{◌≢◌, ◌↔◌}
+use mathlib.Core.Logic.{◌↔◌}
 use mathlib.Core.Bool.{Bool, true, false, not, ◌||◌, ◌&&◌, true≢false, false≢true, or-false}
 use mathlib.Core.List.{List, [], ◌∷◌, reverse, reverse_aux, reverse-reverse}
 use Prim.Native.Nat.{ℕ, zero, suc, ◌+◌, ◌-◌, ◌*◌, ◌≤◌, ◌<◌, max}
@@ -10,7 +10,7 @@ use lib.Dec.{leb, ltb}
 use lib.ListN.{length, length-reverse}
 use Rattle.combinatorics.specs.Choose.{choose}
 use Rattle.combinatorics.specs.Rank.{rank_from}
-use Rattle.combinatorics.specs.Stretch.{has, first, last_end}
+use Rattle.combinatorics.specs.Stretch.{last_end}
 use Rattle.combinatorics.specs.Bursts.{in_burst, placements, reduce_from, rank_of, starts_of, covers, cover_rank}
 use Rattle.combinatorics.proofs.Cases.{by_le, by_bool}
 use Rattle.combinatorics.proofs.Choose.{choose-mono}

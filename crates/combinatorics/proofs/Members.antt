@@ -9,7 +9,7 @@ use native.Mathlib.Omega.{arith}
 use lib.Dec.{ltb}
 use lib.ListN.{length, get_or, take, drop, set, length-append}
 use lib.Seq.{take-nil, take_all, take-append-le, take-append_seam, drop_at, get_or-set_same, get_or-set_other}
-use Rattle.combinatorics.specs.Stretch.{sum, bit, count, firsts, keep_if, members, tabulate, top}
+use Rattle.combinatorics.specs.Stretch.{sum, bit, count, firsts, keep_if, members, tabulate}
 use Rattle.combinatorics.proofs.Cases.{by_le, by-eq, by_bool}
 use Rattle.combinatorics.proofs.Stretch.{same, at-or-past, sum-next, members-none}
 

@@ -10,7 +10,7 @@ use Rattle.combinatorics.proofs.Lists.{both}
 use Rattle.cells.specs.Digits.{span, places}
 use Rattle.cells.proofs.Digits.{span-places}
 use Rattle.cells.proofs.Figures.{Ranged, ranged, tail-enough, tail-least}
-use Rattle.cells.specs.Figures.{Params, max_bursts, max_count, counted, in_range}
+use Rattle.cells.specs.Figures.{Params, max_bursts, max_count, in_range}
 use Rattle.construction_a.specs.Figures.{parts}
 use Rattle.cells.specs.Figures.{placement_count_of, index_values}
 use Rattle.construction_a.specs.Figures.{block_min, index_tail_of, fits}

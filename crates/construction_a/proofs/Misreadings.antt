@@ -19,7 +19,7 @@ use Rattle.cells.specs.Codec.{Reading, accepted, refused}
 use Rattle.cells.specs.Digits.{span, spell, value, places}
 use Rattle.cells.specs.Erasures.{has_erasure}
 use Rattle.cells.specs.Figures.{params, least_tail}
-use Rattle.construction_a.specs.Figures.{blocks, parts, block_min, index_tail_of, head_of}
+use Rattle.construction_a.specs.Figures.{parts, block_min, index_tail_of, head_of}
 use Rattle.cells.specs.Round.{next, later}
 use Rattle.construction_a.specs.Writing.{becomes, with_burst, with_bursts, is_burst, part_count, part_with, chosen, beside, is_chosen, is_index_in}
 use Rattle.construction_a.specs.Writing.{is_index, index_blocks, is_fixed, kind_at, plan, word}

@@ -4,14 +4,13 @@ use mathlib.Core.Logic.{◌≢◌}
 use mathlib.Core.Bool.{Bool, true, false, not, ◌&&◌, true≢false}
 use mathlib.Core.List.{List, [], ◌∷◌}
 use mathlib.Core.Option.{Option, none, some}
-use Prim.Native.Nat.{ℕ, suc, ◌-◌, ◌*◌, ◌<◌}
+use Prim.Native.Nat.{ℕ, suc, ◌*◌, ◌<◌}
 use native.Mathlib.Omega.{arith}
 use lib.ListN.{length, get_or}
 use Rattle.refusals.specs.Refusals.{must, disagrees, value_too_large, erased}
-use Rattle.combinatorics.specs.Bursts.{in_burst}
-use Rattle.combinatorics.specs.Lists.{all_below, same_list}
+use Rattle.combinatorics.specs.Lists.{same_list}
 use Rattle.combinatorics.specs.Stretch.{has}
-use Rattle.combinatorics.proofs.Bursts.{Placed, rank-of-starts}
+use Rattle.combinatorics.proofs.Bursts.{rank-of-starts}
 use Rattle.combinatorics.proofs.Cases.{by_le, by_bool, eqb-true, eqb-false}
 use Rattle.combinatorics.proofs.Lists.{both, list_same}
 use Rattle.combinatorics.proofs.Members.{Each}

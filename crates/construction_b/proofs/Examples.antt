@@ -15,7 +15,7 @@ use Rattle.cells.specs.Plan.{cell_of}
 use Rattle.cells.specs.Figures.{least_tail}
 use Rattle.cells.specs.Round.{later, next}
 use Rattle.construction_b.specs.Figures.{in_range, part_min, part_most, placement_count_of, index_tail_of, fits, message_len_of}
-use Rattle.construction_b.specs.Writing.{burst_part, index_part, end_offset, plan, word_from, word}
+use Rattle.construction_b.specs.Writing.{burst_part, index_part, end_offset, plan, word_from}
 use Rattle.construction_b.specs.Reading.{looks_fixed, index_found, before, written, end_at, read_part, read}
 use Rattle.construction_b.specs.Outcomes.{figures_out, cover_out}
 use Rattle.construction_b.specs.Examples.{examples, ExamplesHold}

@@ -1,6 +1,6 @@
 -- What figures of Construction B in range that fit give: the facts that the other laws go by, that r is the least number of all that serves, and that T
 -- counts the placements. Assumes nothing.
-use mathlib.Core.Path.{◌≡◌, sym, ◌∙◌}
+use mathlib.Core.Path.{◌≡◌, sym}
 use mathlib.Core.Bool.{true, ◌&&◌, true≢false}
 use mathlib.Core.List.{List, [], ◌∷◌}
 use Prim.Native.Nat.{ℕ, zero, suc, ◌+◌, ◌-◌, ◌*◌, ◌/◌, ◌%◌, ◌≤◌, ◌<◌}
@@ -13,14 +13,14 @@ use Rattle.combinatorics.specs.Choose.{choose}
 use Rattle.combinatorics.specs.Rank.{rank_from}
 use Rattle.combinatorics.specs.Bursts.{apart, placements, reduce_from, rank_of}
 use Rattle.combinatorics.specs.Stretch.{bit}
-use Rattle.combinatorics.proofs.Cases.{by_le, leb-holds, eqb-true, le_of}
+use Rattle.combinatorics.proofs.Cases.{by_le, eqb-true, le_of}
 use Rattle.combinatorics.proofs.Bursts.{placed_of, of-placed}
 use Rattle.combinatorics.proofs.Lists.{both}
 use Rattle.cells.specs.Cut.{piece_len}
 use Rattle.cells.specs.Digits.{span, places}
 use Rattle.cells.proofs.Cut.{piece-next, piece-all, len-least}
 use Rattle.cells.proofs.Digits.{span-places}
-use Rattle.cells.specs.Figures.{max_word, max_alphabet, max_count, index_values, least_tail}
+use Rattle.cells.specs.Figures.{max_word, max_alphabet, max_count, index_values}
 use Rattle.cells.proofs.Figures.{tail-enough, tail-least}
 use Rattle.construction_b.specs.Figures.{LongParams, parts, head_of, part_len, part_min, part_most, in_range, is_placement, placement_count_of, index_tail_of, fits}
 use Rattle.construction_b.specs.Writing.{start_in, rank}

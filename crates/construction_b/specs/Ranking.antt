@@ -1,6 +1,6 @@
 -- What ranks, the B part, covers, r and k are under Construction B: statements about definitions that search, or that go by a formula. The proof of all is
 -- `faithful` of proofs/Ranking.antt. Assumes nothing.
-use Rattle.std.specs.Prelude.{◌≡◌, Bool, true, List, [], ◌∷◌, ℕ, suc, ◌+◌, ◌≤◌, ◌<◌}
+use Rattle.std.specs.Prelude.{◌≡◌, Bool, true, [], ◌∷◌, ℕ, ◌+◌, ◌≤◌, ◌<◌}
 use Rattle.combinatorics.specs.Stretch.{count}
 use Rattle.cells.specs.Cells.{message, is}
 use Rattle.cells.specs.Plan.{kind_in}

@@ -1,7 +1,7 @@
 -- What figures in range that fit give: R is the least number of all that serves, and where the sub-blocks stand. Assumes nothing.
 use mathlib.Core.Path.{◌≡◌, sym, ◌∙◌}
 use mathlib.Core.Bool.{Bool, true, false, ◌&&◌, true≢false}
-use Prim.Native.Nat.{ℕ, zero, suc, ◌+◌, ◌-◌, ◌*◌, ◌^◌, ◌≤◌, ◌<◌}
+use Prim.Native.Nat.{ℕ, zero, suc, ◌+◌, ◌*◌, ◌^◌, ◌≤◌, ◌<◌}
 use native.Mathlib.Nat.{mul-le-mul_left, pow-zero, pow-suc, pow-le-pow_left, pow-le-pow_right}
 use native.Mathlib.Decide.{le_ind}
 use native.Mathlib.Omega.{arith}

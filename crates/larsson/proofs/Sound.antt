@@ -5,12 +5,10 @@ use mathlib.Core.List.{List}
 use mathlib.Core.Option.{Option, none, some}
 use Prim.Native.Nat.{ℕ, suc, ◌<◌}
 use native.Mathlib.Omega.{arith}
-use lib.ListN.{length, get_or}
+use lib.ListN.{get_or}
 use Rattle.refusals.specs.Refusals.{must, value_too_large, disagrees, erased}
-use Rattle.combinatorics.specs.Bursts.{in_burst}
-use Rattle.combinatorics.specs.Lists.{all_below}
 use Rattle.combinatorics.specs.Majority.{is_value}
-use Rattle.combinatorics.proofs.Bursts.{Placed, rank-of-starts}
+use Rattle.combinatorics.proofs.Bursts.{rank-of-starts}
 use Rattle.combinatorics.proofs.Cases.{by_le, by_bool}
 use Rattle.combinatorics.proofs.Majority.{value-is}
 use Rattle.combinatorics.proofs.Members.{member-each, flat-same}
@@ -23,7 +21,7 @@ use Rattle.cells.proofs.Cells.{length-pick, pick-below, Clean, at-clean, clean-a
 use Rattle.cells.proofs.Codec.{not-accepted}
 use Rattle.cells.proofs.Erasures.{whole_below}
 use Rattle.cells.proofs.Figures.{Accepted}
-use Rattle.cells.specs.Figures.{Params, placement_count_of, rank, placement_of}
+use Rattle.cells.specs.Figures.{Params, placement_count_of, placement_of}
 use Rattle.larsson.specs.Figures.{sub_blocks, message_len_of}
 use Rattle.larsson.specs.Writing.{bears, bearers, kind_at, plan, rank_places, rank_digits, digits, word}
 use Rattle.larsson.specs.Reading.{sub_symbols, sub_value, found, agrees, read_value, read_from, read}

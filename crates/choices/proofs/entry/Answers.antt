@@ -1,7 +1,6 @@
 -- `entry` meets its contract: the rule at the entry that is read. Assumes nothing.
 use mathlib.Core.Path.{◌∙◌}
 use native.Mathlib.Omega.{arith}
-use borrow.Author.Rules.{rules}
 use Rattle.choices.proofs.Entries.{entry-is}
 use Rattle.choices.proofs.entry.Goals as goal
 

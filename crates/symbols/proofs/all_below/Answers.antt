@@ -2,7 +2,6 @@
 use mathlib.Core.Path.{◌≡◌, sym, ap, ◌∙◌}
 use Prim.Native.Nat.{ℕ}
 use native.Mathlib.Omega.{arith}
-use borrow.Author.Rules.{rules}
 use Rattle.combinatorics.specs.Lists.{all_below}
 use Rattle.combinatorics.proofs.Lists.{at-below}
 use Rattle.symbols.proofs.Bound.{none_below}

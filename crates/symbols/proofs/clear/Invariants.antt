@@ -1,12 +1,7 @@
 -- `clear` meets its contract: the first i symbols are 0. Assumes nothing.
-use mathlib.Core.Path.{◌≡◌, refl, ◌∙◌}
-use mathlib.Core.List.{List, [], ◌∷◌}
-use Prim.Native.Nat.{ℕ, ◌≤◌, ◌-◌}
-use native.Mathlib.Omega.{arith}
-use borrow.Author.Rules.{rules}
-use lib.ListN.{length, take, set, replicate, length-set, length-replicate, get_or-replicate}
-use lib.Seq.{take_all}
-use Rattle.combinatorics.proofs.Lists.{fill-turn, fill_done}
+use mathlib.Core.Path.{◌≡◌}
+use Prim.Native.Nat.{◌≤◌, ◌-◌}
+use lib.ListN.{length, take, replicate}
 use Rattle.symbols.proofs.clear.Given as goal
 
 abbrev pub invariant-loop-i : goal.invariant-loop-i

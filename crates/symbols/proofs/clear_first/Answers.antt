@@ -1,8 +1,6 @@
 -- `clear_first` meets its contract. Assumes nothing.
-use mathlib.Core.Path.{sym, ◌∙◌}
-use lib.ListN.{drop}
-use lib.Seq.{length-take-le}
-use Rattle.symbols.proofs.Copied.{first-zeros, cleared-front}
+use mathlib.Core.Path.{◌∙◌}
+use Rattle.symbols.proofs.Copied.{first-zeros}
 use borrow.Author.Rules.{rules}
 use Rattle.symbols.proofs.clear_first.Goals as goal
 

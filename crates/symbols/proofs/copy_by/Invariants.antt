@@ -1,11 +1,7 @@
 -- `copy_by` meets its contract: the first i symbols are in the room, then in their place. Assumes nothing.
-use mathlib.Core.Path.{◌≡◌, refl}
+use mathlib.Core.Path.{◌≡◌}
 use Prim.Native.Nat.{◌≤◌, ◌-◌}
-use native.Mathlib.Omega.{arith}
-use borrow.Author.Rules.{rules}
-use lib.ListN.{length, take, length-set}
-use Rattle.combinatorics.proofs.Lists.{fill-turn}
-use Rattle.symbols.proofs.Copied.{fill-over}
+use lib.ListN.{length, take}
 use Rattle.symbols.proofs.copy_by.Given as goal
 
 abbrev pub invariant-loop-i : goal.invariant-loop-i

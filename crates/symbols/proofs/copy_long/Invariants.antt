@@ -1,11 +1,7 @@
 -- `copy_long` meets its contract: the symbols so far are copied, and the last move starts among them or right behind. Assumes nothing.
-use mathlib.Core.Path.{◌≡◌, refl, ◌∙◌}
+use mathlib.Core.Path.{◌≡◌}
 use Prim.Native.Nat.{◌-◌, ◌≤◌}
-use native.Mathlib.Omega.{arith}
-use borrow.Author.Rules.{rules}
 use lib.ListN.{length, take}
-use borrow.Rule.Slice.PartMut.{same_len_mid}
-use Rattle.symbols.proofs.Copied.{copied-turn, copied-last}
 use Rattle.symbols.proofs.copy_long.Given as goal
 
 abbrev pub invariant-loop-done : goal.invariant-loop-done

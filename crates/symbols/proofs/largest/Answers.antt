@@ -1,13 +1,6 @@
 -- `largest` meets its contract: a bound over the largest so far and over the symbols from i on is one over all. Assumes nothing.
-use mathlib.Core.Path.{◌≡◌, refl, ◌∙◌}
-use mathlib.Core.Bool.{◌&&◌}
-use Prim.Native.Nat.{ℕ, suc, ◌-◌, ◌≤◌, ◌<◌}
+use mathlib.Core.Path.{◌∙◌}
 use native.Mathlib.Omega.{arith}
-use borrow.Author.Rules.{rules}
-use lib.Dec.{ltb}
-use lib.ListN.{length, drop}
-use Rattle.combinatorics.specs.Lists.{all_below}
-use Rattle.combinatorics.proofs.Cases.{leb-holds}
 use Rattle.symbols.proofs.Bound.{below-turn, below-done}
 use Rattle.symbols.proofs.largest.Goals as goal
 

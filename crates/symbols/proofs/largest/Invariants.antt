@@ -1,14 +1,10 @@
 -- `largest` meets its contract: a bound over the largest so far and over the symbols from i on is one over all. Assumes nothing.
-use mathlib.Core.Path.{◌≡◌, refl, ◌∙◌}
+use mathlib.Core.Path.{◌≡◌}
 use mathlib.Core.Bool.{◌&&◌}
-use Prim.Native.Nat.{ℕ, suc, ◌-◌, ◌≤◌, ◌<◌}
-use native.Mathlib.Omega.{arith}
-use borrow.Author.Rules.{rules}
+use Prim.Native.Nat.{ℕ, ◌-◌, ◌≤◌, ◌<◌}
 use lib.Dec.{ltb}
 use lib.ListN.{length, drop}
 use Rattle.combinatorics.specs.Lists.{all_below}
-use Rattle.combinatorics.proofs.Cases.{leb-holds}
-use Rattle.symbols.proofs.Bound.{below-turn, below-done}
 use Rattle.symbols.proofs.largest.Given as goal
 
 abbrev pub invariant-loop-i : goal.invariant-loop-i

@@ -1,5 +1,4 @@
 -- `JobTable::call` meets its contract. Assumes nothing.
-use borrow.Author.Rules.{rules}
 use Rattle.jobs.specs.Letters.{kind_of}
 use Rattle.jobs.proofs.Letters.{no_kind}
 use Rattle.jobs.proofs.JobTable.call.Goals as goal

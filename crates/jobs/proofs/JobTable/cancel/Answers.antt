@@ -1,7 +1,5 @@
 -- `JobTable::cancel` meets its contract. Assumes nothing.
 use mathlib.Core.Path.{refl, ◌∙◌}
-use borrow.Author.Rules.{rules}
-use borrow.Author.Tests.{not-true, not-false}
 use Rattle.jobs.specs.declared.Entry.TheVariants.{Cancelled}
 use Rattle.jobs.specs.declared.Before.TheVariants.{WasAbsent, WasOpen, WasOnHold}
 use Rattle.jobs.specs.Table.{cancel_at, add}

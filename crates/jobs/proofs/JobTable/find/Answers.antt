@@ -1,11 +1,10 @@
 -- `JobTable::find` meets its contract. The invariant: the first sought slot from `start` on is the first from `i` on. Assumes nothing.
 use mathlib.Core.Path.{◌≡◌, sym, ◌∙◌}
-use Prim.Native.Nat.{◌+◌, ◌-◌}
 use native.Mathlib.Omega.{arith}
 use borrow.Author.Rules.{rules}
-use lib.ListN.{length, drop}
+use lib.ListN.{length}
 use Rattle.jobs.specs.Jobs.{slot_count}
-use Rattle.jobs.specs.Slots.{entries, seeks, first_that}
+use Rattle.jobs.specs.Slots.{seeks}
 use Rattle.jobs.proofs.SlotLaws.{length-mapped, first-here, first-later, first-end}
 use Rattle.jobs.proofs.JobTable.find.Goals as goal
 

@@ -1,6 +1,5 @@
 -- `JobTable::hold` meets its contract. Assumes nothing.
 use mathlib.Core.Path.{◌∙◌}
-use borrow.Author.Rules.{rules}
 use Rattle.jobs.specs.Slots.{entries}
 use Rattle.jobs.proofs.Decisions.{hold-out}
 use Rattle.jobs.proofs.JobTable.hold.Goals as goal

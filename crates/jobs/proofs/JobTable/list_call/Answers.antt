@@ -1,10 +1,5 @@
 -- `JobTable::list_call` meets its contract. Assumes nothing.
-use mathlib.Core.Path.{sym, ap, ◌∙◌}
-use mathlib.Core.Option.{Option}
-use borrow.Author.Rules.{rules}
-use Rattle.jobs.specs.Jobs.{Kind}
-use Rattle.jobs.specs.Letters.{list_kind, call_by}
-use Rattle.jobs.specs.Slots.{entries}
+use Rattle.jobs.specs.Letters.{list_kind}
 use Rattle.jobs.proofs.Letters.{list-kind}
 use Rattle.jobs.proofs.JobTable.list_call.Goals as goal
 

@@ -1,7 +1,5 @@
 -- `JobTable::open` meets its contract. Assumes nothing.
 use mathlib.Core.Path.{◌≡◌, refl, ◌∙◌}
-use borrow.Author.Rules.{rules}
-use borrow.Author.Tests.{not-true, not-false}
 use Rattle.jobs.specs.declared.Entry.{Entry}
 use Rattle.jobs.specs.Table.{lookup, open_job, open_at, decide}
 use Rattle.jobs.specs.Slots.{entries}

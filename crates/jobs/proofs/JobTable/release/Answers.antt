@@ -1,6 +1,5 @@
 -- `JobTable::release` meets its contract. Assumes nothing.
 use mathlib.Core.Path.{refl, ◌∙◌}
-use borrow.Author.Rules.{rules}
 use Rattle.jobs.specs.declared.Entry.TheVariants.{Open}
 use Rattle.jobs.specs.Table.{release_at}
 use Rattle.jobs.specs.Slots.{entries}

@@ -2,15 +2,11 @@
 use mathlib.Core.Path.{◌≡◌, sym, ◌∙◌}
 use native.Mathlib.Omega.{arith}
 use borrow.Author.Rules.{rules}
-use lib.ListN.{length, get_or}
-use Prim.Native.Nat.{ℕ, ◌+◌, ◌-◌}
-use Rattle.jobs.specs.declared.Entry.{Entry}
-use Rattle.jobs.specs.declared.Entry.TheVariants.{Free}
-use Rattle.jobs.specs.declared.JobTable.{JobTable}
+use lib.ListN.{length}
+use Prim.Native.Nat.{◌-◌}
 use Rattle.jobs.specs.Jobs.{slot_count}
-use Rattle.jobs.specs.Slots.{entries}
 use Rattle.jobs.proofs.SlotLaws.{length-mapped}
-use Rattle.jobs.proofs.Marks.{Marked, unmarked, mark-within, none-marked, step_back, marks-next, marks-found, first}
+use Rattle.jobs.proofs.Marks.{none-marked, step_back, marks-next, marks-found}
 use Rattle.jobs.proofs.JobTable.twice_by.Goals as goal
 
 pub loop-i-init : goal.loop-i-init

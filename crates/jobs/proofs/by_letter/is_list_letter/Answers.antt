@@ -1,6 +1,5 @@
 -- `is_list_letter` meets its contract. Assumes nothing.
 use mathlib.Core.Path.{sym, ap, ◌∙◌}
-use borrow.Author.Rules.{rules}
 use Rattle.jobs.specs.Letters.{list_kind, known}
 use Rattle.jobs.proofs.Letters.{list-kind}
 use Rattle.jobs.proofs.by_letter.is_list_letter.Goals as goal
