@@ -1,5 +1,5 @@
 -- Within the former limits every count fits, so the same figures do. Assumes nothing.
-use mathlib.Core.Path.{◌≡◌, refl, ap}
+use mathlib.Core.Path.{◌≡◌, refl}
 use mathlib.Core.Bool.{◌&&◌}
 use Prim.Native.Nat.{◌-◌, ◌*◌, ◌≤◌, ◌<◌}
 use native.Mathlib.Nat.{le-mul_of_pos_right}
@@ -10,7 +10,7 @@ use Rattle.combinatorics.proofs.Cases.{by_le, leb-holds, eqb-other, le_of}
 use Rattle.combinatorics.proofs.Lists.{both}
 use Rattle.cells.specs.Figures.{Params, max_count, in_range, placement_count_of, max_word}
 use Rattle.construction_a.specs.Figures.{index_tail_of, block_min, fits}
-use Rattle.construction_a.specs.Former.{former_range, SameFigures}
+use Rattle.construction_a.specs.Former.{SameFigures}
 use Rattle.cells.proofs.Figures.{ranged}
 use Rattle.binomials.specs.Limits.{most_things}
 use Rattle.binomials.proofs.Bounds.{ways-fit}

@@ -1,11 +1,10 @@
 -- What a layout of Construction B gives: its words have the shape that inner functions ask for, with one burst and a part for a block. Assumes nothing.
-use mathlib.Core.Path.{◌≡◌, refl, sym, ap, ap₂, subst, ◌∙◌}
+use mathlib.Core.Path.{◌≡◌, sym, ap, ap₂, subst, ◌∙◌}
 use mathlib.Core.Bool.{true}
 use mathlib.Core.List.{List, [], ◌∷◌}
-use Prim.Native.Nat.{ℕ, ◌+◌, ◌-◌, ◌*◌, ◌≤◌, ◌<◌}
+use Prim.Native.Nat.{ℕ, ◌+◌, ◌≤◌}
 use native.Mathlib.Nat.{div-le_self}
 use native.Mathlib.Omega.{arith}
-use Rattle.cells.specs.Cells.{Cell}
 use Rattle.cells.specs.Plan.{plan_in, Spares}
 use Rattle.cells.specs.Figures.{Params, params, in_range, is_placement}
 use Rattle.construction_a.specs.Figures.{parts, block_min}
@@ -15,7 +14,7 @@ use Rattle.construction_b.specs.Figures as B
 use Rattle.construction_b.specs.Figures.{LongParams}
 use Rattle.construction_b.specs.Reading.{written}
 use Rattle.construction_b.specs.Writing.{start_in, plan}
-use Rattle.construction_b.proofs.Base.{as_base, parts_same, plan-same, written_same, framed-base}
+use Rattle.construction_b.proofs.Base.{as_base, plan-same, written_same, framed-base}
 use Rattle.construction_b.proofs.Figures.{Served, serve, placed-start}
 use Rattle.params.specs.declared.Layout.{Layout}
 use Rattle.params.specs.Given.{figures_of, long_of, LongLayoutFits, frame_of, Shaped}

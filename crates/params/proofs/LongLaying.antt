@@ -1,9 +1,9 @@
 -- Laying Construction B's figures out step by step: the numbers found are its L, T, r and k, and show whether the figures fit. Assumes nothing.
-use mathlib.Core.Path.{◌≡◌, refl, sym, ap, ◌∙◌}
+use mathlib.Core.Path.{◌≡◌, refl, sym}
 use mathlib.Core.Bool.{Bool, true, false, ◌&&◌}
 use Prim.Native.Nat.{ℕ, suc, ◌+◌, ◌-◌, ◌/◌, ◌≤◌, ◌<◌}
 use native.Mathlib.Omega.{arith}
-use lib.Dec.{leb, ltb}
+use lib.Dec.{leb}
 use Rattle.refusals.specs.Refusals.{unfit}
 use Rattle.combinatorics.proofs.Cases.{leb-holds, leb-fails}
 use Rattle.cells.specs.Outcomes.{figured, unserved, figures_under}

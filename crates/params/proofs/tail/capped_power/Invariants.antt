@@ -1,0 +1,10 @@
+-- `capped_power` meets its contract: after i turns the power is that of i factors, stopped at the cap. Assumes nothing.
+use mathlib.Core.Path.{◌≡◌}
+use Prim.Native.Nat.{◌-◌, ◌^◌, ◌≤◌, min}
+use Rattle.params.proofs.tail.capped_power.Given as goal
+
+abbrev pub invariant-loop-i : goal.invariant-loop-i
+invariant-loop-i l = (l.i ≤ l.times) × (l.power ≡ min (l.base ^ l.i) l.cap)
+
+abbrev pub decreases-loop-i : goal.decreases-loop-i
+decreases-loop-i l = l.times - l.i
