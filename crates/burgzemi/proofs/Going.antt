@@ -11,12 +11,11 @@ use lib.ListN.{length}
 use mir.Syntax.{w32, w64}
 use mir.Val.{SFits, to_z, of_z}
 use mir.ValLaws.{to_z-of_z}
-use Rattle.libc.specs.Io.{Moved}
 use Rattle.turns.specs.declared.State.{State}
 use Rattle.turns.specs.declared.Wants.{Wants}
 use Rattle.turns.specs.declared.Wants.TheVariants.{Read, Write, Stop}
 use Rattle.turns.specs.View.{buffer_len, View, wants_at, wants_of, is_servable, advance_out}
-use Rattle.turns.specs.State.{Buffers, WithinBuffers, view_of, Begun, WaitsInFront, after_read, after_write}
+use Rattle.turns.specs.State.{Buffers, WithinBuffers, view_of, Begun, WaitsInFront, after_read, after_write, Moved}
 use Rattle.turns.specs.Trace.{Event, written, unwritten, Answers, after_event, view_after, IsTrace}
 use Rattle.turns.proofs.Views.{waiting-length, gathered-length, view-begun, begun-within, event_of, view-read, event-fits, read-within, read-repeats}
 use Rattle.turns.proofs.Views.{view-written, write-within, written-fits}
