@@ -1,7 +1,5 @@
 -- What a caller learns of a layout that was answered. Assumes nothing.
 use mathlib.Core.Path.{◌≡◌, sym, ap, subst, ◌∙◌}
-use mathlib.Core.Bool.{true}
-use Prim.Native.Nat.{ℕ}
 use Rattle.cells.specs.Outcomes.{figures_under}
 use Rattle.cells.proofs.Outcomes.{figured-fits}
 use Rattle.cells.specs.Figures.{Params, in_range}

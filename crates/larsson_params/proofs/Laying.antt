@@ -1,7 +1,7 @@
 -- Laying the Larsson code's figures out step by step: the numbers found are its R, gaps and k, and show whether the figures fit. Assumes nothing.
 use mathlib.Core.Path.{◌≡◌, sym, ap, ◌∙◌, fun_ext}
 use mathlib.Core.Bool.{true}
-use Prim.Native.Nat.{ℕ, suc, ◌+◌, ◌-◌, ◌*◌, ◌/◌, ◌^◌, ◌≤◌, ◌<◌}
+use Prim.Native.Nat.{ℕ, ◌+◌, ◌-◌, ◌*◌, ◌/◌, ◌^◌, ◌≤◌, ◌<◌}
 use native.Mathlib.Nat.{mul_comm, le-div_iff_mul-le}
 use native.Mathlib.Numerals.{add-one}
 use native.Mathlib.Omega.{arith}
@@ -13,7 +13,7 @@ use Rattle.cells.specs.Outcomes.{figured, unserved, figures_under}
 use Rattle.cells.proofs.Outcomes.{figures-unfit, figures-served}
 use Rattle.cells.specs.Figures.{Params, max_count, in_range, placement_count_of}
 use Rattle.cells.proofs.Figures.{Ranged, ranged}
-use Rattle.larsson.specs.Figures.{sub_len_of, sub_blocks, gaps, gap_total_of, gap_len, fits, message_len_of}
+use Rattle.larsson.specs.Figures.{sub_len_of, sub_blocks, gap_total_of, gap_len, fits, message_len_of}
 use Rattle.larsson.specs.Outcomes.{coding}
 use Rattle.larsson.proofs.Figures.{Served, serve, fitting, unfitting}
 use Rattle.larsson.proofs.Walking.{message-room}

@@ -1,14 +1,14 @@
 -- What a layout of figures that fit gives: its bounds, and where its sub-blocks start. Assumes nothing.
-use mathlib.Core.Path.{◌≡◌, ◌∙◌}
+use mathlib.Core.Path.{◌≡◌}
 use mathlib.Core.List.{List}
-use Prim.Native.Nat.{ℕ, suc, ◌+◌, ◌*◌, ◌≤◌, ◌<◌}
+use Prim.Native.Nat.{ℕ, ◌+◌, ◌*◌, ◌≤◌, ◌<◌}
 use native.Mathlib.Nat.{mul_comm, le-mul_of_pos_right}
 use native.Mathlib.Omega.{arith}
 use lib.ListN.{get_or}
 use Rattle.cells.specs.Cut.{piece_start}
 use Rattle.cells.specs.Figures.{max_word}
 use Rattle.cells.proofs.Figures.{Ranged}
-use Rattle.larsson.specs.Figures.{sub_len_of, sub_blocks, sub_start}
+use Rattle.larsson.specs.Figures.{sub_blocks, sub_start}
 use Rattle.larsson.proofs.Figures.{Served, serve, sub_within}
 use Rattle.larsson_params.specs.declared.LarssonLayout.{LarssonLayout}
 use Rattle.larsson_params.specs.Given.{larsson_figures_of, LarssonLayoutFits, SubStartsOf}

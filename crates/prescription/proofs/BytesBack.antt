@@ -8,7 +8,7 @@ use Rattle.combinatorics.proofs.Lists.{both, below_at, all_same}
 use Rattle.prescription.specs.declared.fields.StoredEye.{StoredEye}
 use Rattle.prescription.specs.Lens.{Lens, plano, sphere, toric, keeps}
 use Rattle.prescription.specs.Eyes.{ruled, Prescribed, KeepsRules, prescribed_of, prescription_of, prescription_fits}
-use Rattle.prescription.specs.Outcomes.{answered, refused, or_refused, read_text_out, written_text, written_or, write_text_out}
+use Rattle.prescription.specs.Outcomes.{answered, or_refused, read_text_out, written_text, written_or, write_text_out}
 use Rattle.prescription.specs.Laws.{TextsReadBack}
 use Rattle.prescription.specs.declared.texts.Prescription.{Prescription}
 use Rattle.prescription.specs.Stored.{bits_of, count_in, fields, fields_of, lens_in, bytes_of, byte_at, fields_at, stored_len, text_of, prescribed_in}

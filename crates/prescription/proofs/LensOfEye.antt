@@ -1,5 +1,5 @@
 -- Eyes in memory: what they stand for, transposed and as a spherical equivalent, float by float. Assumes nothing.
-use Rattle.std.proofs.Common.{◌≡◌, ℕ, suc, ◌+◌, ◌*◌, ◌^◌, ◌<◌, ◌≤◌, Bool, true, false, ℤ, pos, negsuc, ◌+ℤ◌, nat_abs, sym, refl, ap, ◌∙◌, subst, zero-lt-suc, mul-one, arith, lit≤}
+use Rattle.std.proofs.Common.{◌≡◌, ℕ, suc, ◌*◌, ◌^◌, ◌<◌, ◌≤◌, Bool, true, false, ℤ, pos, negsuc, ◌+ℤ◌, nat_abs, sym, refl, ap, ◌∙◌, subst, zero-lt-suc, mul-one, arith, lit≤}
 use mathlib.Core.Option.{Option, none, some, none-ne-some}
 use lib.Ieee.{Float, fin, binary64, unlike, round, neg, add, mul, fits}
 use lib.Ieee.Exact.{HasValue}

@@ -1,6 +1,6 @@
 -- The bits of signed counts, and what they say of the lens that an eye in memory stands for. Assumes nothing.
 use Rattle.std.proofs.Common.{◌≡◌, ℕ, suc, ◌+◌, ◌-◌, ◌<◌, ◌≤◌, Bool, true, false, cond, not, ◌&&◌, eqb, ltb, leb, ℤ, pos, negsuc, ◌+ℤ◌, nat_abs, sym, refl, ap, ◌∙◌, zero-lt-suc, arith, ltb-false, ltb-true, le-ltb, lt-ltb}
-use mathlib.Core.Option.{Option, none, some, none-ne-some, some-injective}
+use mathlib.Core.Option.{Option, none, some, none-ne-some}
 use lib.IntN.{sub_ℕ}
 use borrow.Author.Tests.{lt-leb}
 use lib.Ieee.{Float, binary64, add}

@@ -1,5 +1,5 @@
 -- The text that a prescription is stored as. Assumes nothing.
-use Rattle.std.proofs.Common.{◌≡◌, ℕ, suc, ◌+◌, ◌-◌, ◌<◌, ◌≤◌, Bool, true, false, ◌&&◌, leb, List, ◌∷◌, ◌++◌, length, set, replicate, ℤ, pos, negsuc, nat_abs, sym, refl, ap, ◌∙◌, arith, length-set, le-leb}
+use Rattle.std.proofs.Common.{◌≡◌, ℕ, suc, ◌-◌, ◌<◌, ◌≤◌, Bool, true, false, ◌&&◌, leb, List, ◌∷◌, ◌++◌, length, set, replicate, ℤ, pos, negsuc, nat_abs, sym, refl, ap, ◌∙◌, arith, length-set, le-leb}
 use mathlib.Core.Option.{Option, none, some, none-ne-some}
 use borrow.Author.Tests.{lt-leb}
 use Rattle.refusals.specs.Refusals.{must, served, bad_prescription}

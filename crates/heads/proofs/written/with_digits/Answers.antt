@@ -1,0 +1,19 @@
+-- `with_digits` meets its contract: the first i digits are taken in. Assumes nothing.
+use Prim.Native.Nat.{◌-◌, ◌≤◌}
+use native.Mathlib.Omega.{arith}
+use borrow.Author.Rules.{rules}
+use lib.ListN.{length}
+use Rattle.heads.proofs.Valued.{Taken, taken_none, taken-plain, taken-all}
+use Rattle.heads.proofs.written.with_digits.Goals as goal
+
+pub loop-i-preserved : goal.loop-i-preserved
+loop-i-preserved c =
+    let t = c.loop-i in
+    let a = c.args in
+    (omega arith, rw c.with_digit-value.ensures (taken-plain a.q a.cap a.high c.requires.0 a.digits.now t.i t.value (omega arith) t.invariant.1))
+
+pub returns : goal.returns
+returns c =
+    let t = c.loop-i in
+    let a = c.args in
+    taken-all a.q a.cap a.high c.requires.0 a.digits.now t.i t.value (omega arith) t.invariant.1

@@ -1,0 +1,13 @@
+-- `with_digits` meets its contract: the first i digits are taken in. Assumes nothing.
+use Prim.Native.Nat.{◌-◌, ◌≤◌}
+use native.Mathlib.Omega.{arith}
+use borrow.Author.Rules.{rules}
+use lib.ListN.{length}
+use Rattle.heads.proofs.Valued.{Taken, taken_none, taken-plain, taken-all}
+use Rattle.heads.proofs.written.with_digits.Given as goal
+
+abbrev pub invariant-loop-i : goal.invariant-loop-i
+invariant-loop-i l = (l.i ≤ length l.digits) × Taken l.q l.cap l.high l.digits l.i l.value
+
+abbrev pub decreases-loop-i : goal.decreases-loop-i
+decreases-loop-i l = length l.digits - l.i

@@ -1,0 +1,13 @@
+-- `in_burst` meets its contract: the bursts before j don't have the position. Assumes nothing.
+use mathlib.Core.Path.{◌≡◌}
+use Prim.Native.Nat.{◌-◌, ◌≤◌}
+use lib.ListN.{drop}
+use Rattle.combinatorics.specs.Bursts.{in_burst}
+use Rattle.placements.specs.Bridge.{starts_in}
+use Rattle.placements.proofs.bursts.in_burst.Given as goal
+
+abbrev pub invariant-loop-j : goal.invariant-loop-j
+invariant-loop-j l = (l.j ≤ l.at.count) × (in_burst l.b (drop l.j (starts_in l.at)) l.x ≡ in_burst l.b (starts_in l.at) l.x)
+
+abbrev pub decreases-loop-j : goal.decreases-loop-j
+decreases-loop-j l = l.at.count - l.j

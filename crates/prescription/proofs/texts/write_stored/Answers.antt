@@ -1,0 +1,19 @@
+-- `write_stored` meets its contract: the distance decides. Assumes nothing.
+use Rattle.prescription.proofs.Writing.{short-distance, long-distance, right-distance}
+use Rattle.prescription.proofs.texts.write_stored.Goals as goal
+
+pub returns-then-halves : goal.returns-then-halves
+returns-then-halves c =
+    let a = c.args in
+    short-distance a.text.now a.right a.left a.halves c.if-halves.true
+
+pub returns-then-halves-2 : goal.returns-then-halves-2
+returns-then-halves-2 c =
+    let a = c.args in
+    long-distance a.text.now a.right a.left a.halves c.if-halves-2.true
+
+pub returns : goal.returns
+returns c =
+    let a = c.args in
+    right-distance a.text.now c.put_stored.new.text a.right a.left a.halves
+    c.if-halves.false c.if-halves-2.false c.put_stored.ensures
