@@ -5,6 +5,7 @@ ghost use Rattle.std.specs.Prelude.{◌≡◌, length};
 ghost use Rattle.turns.specs.View.{buffer_len};
 ghost use Rattle.turns.specs.State.{Buffers};
 ghost use Rattle.burgzemi.specs.Finished.{Finished};
+ghost use Rattle.burgzemi.specs.Served.{Served};
 
 use records::Session;
 use std::io::{Read, Write};
@@ -39,7 +40,8 @@ fn run<R: Read, W: Write>(
     line: &mut [u8; Session::MAX_LINE],
 ) -> State
     requires { Buffers input.old output.old }
-    ensures { Finished result input.new output.new }
+    ensures finished { Finished result input.new output.new }
+    ensures served { Served result input.new output.new (R.remaining reader.old) (R.remaining reader.new) (W.contents writer.old) (W.contents writer.new) }
 {
     let mut state = State::start();
     loop {
