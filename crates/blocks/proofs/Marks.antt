@@ -13,7 +13,7 @@ use Rattle.combinatorics.specs.Stretch.{count, first}
 use Rattle.combinatorics.proofs.Cases.{by_le, by-eq, eqb_same, eqb-other, eqb-false, leb-holds, leb-fails}
 use Rattle.combinatorics.proofs.Stretch.{first-in, first-false}
 use Rattle.cells.specs.Round.{next}
-use Rattle.construction_a.specs.Writing.{row, part_count, part_with, Chosen, whole, one_each, chosen, beside, is_chosen, is_index_in}
+use Rattle.construction_a.specs.Writing.{row, part_count, part_with, whole, one_each, chosen, beside, is_chosen, is_index_in}
 use Rattle.cells.proofs.Round.{next-lt}
 use Rattle.construction_a.proofs.Rule.{at_row, chosen_by}
 use Rattle.blocks.specs.Blocks.{burst_set, marked}

@@ -17,8 +17,7 @@ use Rattle.cells.specs.Erasures.{found_bound, has_erasure}
 use Rattle.cells.specs.Outcomes.{Coding, Held, held, unserved, figures_under, rank_is, refusal, Decoded, unread, decoded_from, decode_under}
 use Rattle.cells.proofs.Outcomes.{refused-alike}
 use Rattle.construction_a.specs.DemandTwo.{IndexRead}
-use Rattle.cells.specs.Figures.{Params, in_range, is_placement, placement_count_of, placement_of}
-use Rattle.construction_a.specs.Figures.{fits, message_len_of}
+use Rattle.cells.specs.Figures.{Params, is_placement, placement_count_of, placement_of}
 use Rattle.construction_a.specs.Outcomes.{coding}
 use Rattle.construction_a.specs.Reading.{written, agrees, read_rank, read}
 use Rattle.cells.proofs.Figures.{placed-starts}

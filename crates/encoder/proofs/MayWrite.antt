@@ -1,5 +1,5 @@
 -- Laws of a word writer's tests: what each of them answers, what a caller learns, and that they are word write's behind its figures. Assumes nothing.
-use mathlib.Core.Path.{◌≡◌, refl, sym, ap, ◌∙◌}
+use mathlib.Core.Path.{◌≡◌, refl, ap, ◌∙◌}
 use mathlib.Core.Logic.{◌≢◌}
 use mathlib.Core.Bool.{Bool, true, false, ◌&&◌}
 use mathlib.Core.List.{List}
@@ -12,7 +12,7 @@ use Rattle.combinatorics.specs.Bursts.{apart}
 use Rattle.combinatorics.specs.Lists.{all_below}
 use Rattle.combinatorics.proofs.Cases.{eqb_same, eqb-other, eqb-true}
 use Rattle.combinatorics.proofs.Lists.{both}
-use Rattle.cells.specs.Outcomes.{Coding, Held, in_use, Encoded, unwritten, encode_under}
+use Rattle.cells.specs.Outcomes.{Coding, Held, in_use, unwritten, encode_under}
 use Rattle.stretches.specs.declared.Walk.{Walk}
 use Rattle.encoder.specs.MayWrite.{write_number}
 use Rattle.encoder.proofs.Outcomes.{encode-served}

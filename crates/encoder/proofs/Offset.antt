@@ -1,5 +1,5 @@
 -- Where the burst of Construction B ends in its part, as it is worked out. Assumes nothing.
-use mathlib.Core.Path.{◌≡◌, sym, ◌∙◌}
+use mathlib.Core.Path.{◌≡◌, sym}
 use Prim.Native.Nat.{ℕ, suc, ◌+◌, ◌-◌, ◌≤◌, ◌<◌}
 use native.Mathlib.Omega.{arith}
 use lib.ListN.{get_or}
@@ -7,9 +7,8 @@ use Rattle.cells.specs.Cut.{piece_start}
 use Rattle.construction_b.specs.Figures.{LongParams, parts, head_of}
 use Rattle.construction_b.specs.Writing.{start_in, burst_part, end_offset}
 use Rattle.construction_b.proofs.Plan.{in-part}
-use Rattle.params.specs.Given.{figures_of, long_of, LongLayoutFits}
+use Rattle.params.specs.Given.{LongLayoutFits}
 use Rattle.params.specs.declared.Layout.{Layout}
-use Rattle.params.proofs.LongFitting.{served-long}
 use Rattle.placements.specs.Bridge.{starts_in, PlacesBursts}
 use Rattle.placements.specs.declared.Placement.{Placement}
 use Rattle.placements.proofs.Placing.{start_is, start-in}

@@ -1,5 +1,5 @@
 -- What the search for a listed pattern goes by. Assumes nothing.
-use Rattle.std.specs.Prelude.{◌≡◌, cond, List, ℕ, ltb, length, get_or, take}
+use Rattle.std.specs.Prelude.{cond, List, ℕ, ltb, length, get_or, take}
 use Rattle.std.proofs.Math.Option.{Option, none, some}
 use Rattle.heads.specs.declared.pattern.Candidates.{Candidates}
 use Rattle.heads.specs.declared.pattern.IndexBlocks.{IndexBlocks}

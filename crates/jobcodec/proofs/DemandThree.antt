@@ -36,7 +36,7 @@ use Rattle.jobcodec.specs.DemandThree.{BothFacts, is_refusal, is_word_refusal, i
 use Rattle.jobcodec.specs.DemandThree.{DemandThreeUnder, DemandThree}
 use Rattle.jobcodec.proofs.Examples.{figures, word_with, buffer, opened, computed}
 use Rattle.payloads.proofs.Payload.{payload-passes}
-use Rattle.jobcodec.proofs.Pairs.{read-pair, pair_read, only-pair, none-gives, handed, one-gives}
+use Rattle.jobcodec.proofs.Pairs.{read-pair, pair_read, only-pair, none-gives, one-gives}
 
 -- ---- The job reading, under any exact codec whose refusals are document 01's
 

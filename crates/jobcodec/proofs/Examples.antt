@@ -25,7 +25,6 @@ use Rattle.construction_a.specs.Writing.{becomes, with_burst, with_bursts, is_bu
 use Rattle.construction_a.specs.Writing.{index_blocks, is_fixed, kind_at, plan, word}
 use Rattle.construction_a.specs.Reading.{looks_fixed, bare_parts, open_blocks, index_in_part, collect, index_found, first_symbols, written, agrees, read_rank, read}
 use Rattle.construction_a.specs.Outcomes.{Held, held, Encoded, coding}
-use Rattle.construction_a.specs.DemandTwo.{construction_a}
 use Rattle.jobs.specs.declared.Entry.{Entry}
 use Rattle.jobs.specs.declared.Entry.TheVariants.{Free, Open, Cancelled}
 use Rattle.jobs.specs.declared.Before.TheVariants.{WasOpen}

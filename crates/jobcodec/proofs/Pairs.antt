@@ -14,7 +14,6 @@ use Rattle.payloads.specs.Payload.{job_number, message_of, payload_in, spells_pa
 use Rattle.jobcodec.specs.JobWrite.{unless}
 use Rattle.jobcodec.specs.JobRead.{JobRead, hand_out, withhold}
 use Rattle.jobcodec.specs.DemandThree.{Gives, OnlyPair, BothFacts, is_refusal, is_word_refusal, HandsOut}
-use Rattle.jobcodec.proofs.Examples.{opened}
 use Rattle.payloads.proofs.Payload.{payload-back, payload-is, message-is}
 
 -- ---- Pairs, under any exact codec

@@ -18,7 +18,6 @@ use Rattle.cells.specs.Figures.{max_bursts, Params}
 use Rattle.cells.specs.Outcomes.{Coding, Held, in_use, Encoded, unwritten}
 use Rattle.construction_a.specs.Outcomes.{coding}
 use Rattle.codes.specs.Bridge.{coding_of}
-use Rattle.codes.specs.declared.Figures.{Figures}
 use Rattle.jobs.specs.declared.Entry.{Entry}
 use Rattle.jobs.specs.Jobs.{is_job, Status, unknown, opened, on_hold, cancelled}
 use Rattle.jobs.specs.Table.{twice}

@@ -1,5 +1,5 @@
 -- That the reader answers as the definitions do, refusal by refusal, up to the placement. Assumes nothing.
-use mathlib.Core.Path.{◌≡◌, refl, sym, ap, subst, ◌∙◌}
+use mathlib.Core.Path.{◌≡◌, sym, ap, subst, ◌∙◌}
 use mathlib.Core.Bool.{true, false}
 use mathlib.Core.List.{List}
 use mathlib.Core.Option.{none, some}
@@ -14,12 +14,10 @@ use Rattle.cells.specs.Outcomes.{Held, held}
 use Rattle.cells.specs.Figures.{Params, is_placement, placement_count_of, placement_of}
 use Rattle.cells.proofs.Figures.{starts-placed}
 use Rattle.larsson.specs.Reading.{found, agrees, read_value, read}
-use Rattle.larsson.proofs.Figures.{Served}
 use Rattle.placements.specs.declared.Placement.{Placement}
 use Rattle.placements.specs.Bridge.{held_as, starts_in}
 use Rattle.placements.proofs.Calls.{starts-held}
-use Rattle.decoder.specs.declared.WordAnswer.{WordAnswer}
-use Rattle.decoder.specs.declared.WordAnswer.TheVariants.{Accepted, Refused}
+use Rattle.decoder.specs.declared.WordAnswer.TheVariants.{Refused}
 use Rattle.larsson_params.specs.declared.LarssonLayout.{LarssonLayout}
 use Rattle.larsson_params.specs.Given.{larsson_figures_of, LarssonLayoutFits}
 use Rattle.larsson_params.proofs.Shape.{served}

@@ -11,7 +11,6 @@ use Rattle.combinatorics.proofs.Bursts.{of-placed, placed_of}
 use Rattle.cells.specs.Digits.{spell, places}
 use Rattle.cells.specs.Figures.{max_bursts, is_placement, rank}
 use Rattle.cells.proofs.Figures.{placed-starts, starts-placed}
-use Rattle.larsson.specs.Figures.{sub_len_of}
 use Rattle.larsson.specs.Writing.{rank_digits, word}
 use Rattle.larsson.proofs.Complete.{rank_below}
 use Rattle.larsson.proofs.Walking.{blank-word, digits-behind, rank-behind, digits-few}

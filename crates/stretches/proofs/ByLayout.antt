@@ -18,7 +18,7 @@ use Rattle.construction_a.specs.Figures.{parts, blocks, head_of}
 use Rattle.construction_a.specs.Writing.{is_burst, is_index}
 use Rattle.cells.proofs.Figures.{Ranged}
 use Rattle.construction_a.proofs.Figures.{three-parts}
-use Rattle.construction_a.proofs.Plan.{index-not-burst, index-count, framed-with, messages-with}
+use Rattle.construction_a.proofs.Plan.{index-count, framed-with, messages-with}
 use Rattle.params.specs.declared.Layout.{Layout}
 use Rattle.params.specs.Given.{figures_of, frame_of}
 use Rattle.params.proofs.Shape.{in-range, min-room, min-burst, blocks-most}

@@ -1,14 +1,14 @@
 -- Laws for the search of the sub-blocks that bear the rank: burst by burst, and sub-block by sub-block. Assumes nothing.
-use mathlib.Core.Path.{◌≡◌, refl, sym, ap, ap₂, ◌∙◌}
-use mathlib.Core.Bool.{Bool, true, false, not, cond, ◌&&◌, ◌||◌}
+use mathlib.Core.Path.{◌≡◌, refl, sym}
+use mathlib.Core.Bool.{Bool, true, false, not, cond, ◌&&◌}
 use mathlib.Core.List.{List, [], ◌∷◌}
-use Prim.Native.Nat.{ℕ, suc, ◌+◌, ◌*◌, ◌≤◌, ◌<◌}
+use Prim.Native.Nat.{ℕ, suc, ◌+◌}
 use native.Mathlib.Omega.{arith}
 use lib.Dec.{ltb}
 use Rattle.combinatorics.specs.Lists.{any}
 use Rattle.combinatorics.specs.Stretch.{count, firsts}
 use Rattle.cells.specs.Figures.{Params}
-use Rattle.larsson.specs.Figures.{sub_len_of, sub_start}
+use Rattle.larsson.specs.Figures.{sub_start}
 use Rattle.larsson.specs.Writing.{untouched, bears}
 use Rattle.larsson.proofs.Walking.{untouched-any}
 use Rattle.blocks.specs.Blocks.{burst_kind, index_kind}

@@ -2,7 +2,7 @@
 use mathlib.Core.Path.{◌≡◌, refl, sym, ap, ap₂, ◌∙◌}
 use mathlib.Core.Bool.{Bool, true, false, not, cond, ◌&&◌}
 use mathlib.Core.List.{List}
-use Prim.Native.Nat.{ℕ, suc, ◌+◌, ◌*◌, ◌≤◌, ◌<◌, min}
+use Prim.Native.Nat.{ℕ, ◌+◌, ◌*◌}
 use native.Mathlib.Omega.{arith}
 use lib.Dec.{eqb}
 use lib.ListN.{get_or, replicate}
@@ -10,7 +10,7 @@ use Rattle.combinatorics.specs.Lists.{same_list}
 use Rattle.combinatorics.specs.Majority.{is_value}
 use Rattle.combinatorics.specs.Stretch.{has}
 use Rattle.combinatorics.proofs.Stretch.{has-ext}
-use Rattle.cells.specs.Digits.{Place, plain, span, value}
+use Rattle.cells.specs.Digits.{plain, span, value}
 use Rattle.larsson.specs.Figures.{sub_blocks}
 use Rattle.larsson.specs.Reading.{sub_symbols, sub_value, agrees}
 use Rattle.larsson.specs.Writing.{rank_places, bears}

@@ -1,12 +1,12 @@
 -- Laws for the search of the majority: stretch by stretch, and sub-block by sub-block. Assumes nothing.
-use mathlib.Core.Path.{◌≡◌, refl, sym, ap, ap₂, ◌∙◌}
+use mathlib.Core.Path.{◌≡◌, sym, ap, ◌∙◌}
 use mathlib.Core.Logic.{◌≢◌}
-use mathlib.Core.Bool.{Bool, true, false, not, cond, true≢false}
-use mathlib.Core.List.{List, []}
-use mathlib.Core.Option.{Option, none, some}
-use Prim.Native.Nat.{ℕ, zero, suc, ◌+◌, ◌-◌, ◌*◌, ◌≤◌, ◌<◌}
+use mathlib.Core.Bool.{true, false, true≢false}
+use mathlib.Core.List.{List}
+use mathlib.Core.Option.{none, some}
+use Prim.Native.Nat.{ℕ, suc, ◌+◌, ◌-◌, ◌*◌, ◌≤◌, ◌<◌}
 use native.Mathlib.Omega.{arith}
-use lib.Dec.{leb, ltb}
+use lib.Dec.{ltb}
 use lib.ListN.{length, get_or, take, drop, length-drop}
 use lib.Seq.{get_or-drop}
 use Rattle.combinatorics.specs.Lists.{all_below, same_list}
@@ -16,17 +16,14 @@ use Rattle.combinatorics.proofs.Cases.{by_bool}
 use Rattle.combinatorics.proofs.Lists.{same-list, list_same, below_at}
 use Rattle.combinatorics.proofs.Members.{length-tabulate, take-is, tabulate-at}
 use Rattle.combinatorics.proofs.Stretch.{count-ext}
-use Rattle.cells.specs.Digits.{value}
 use Rattle.cells.specs.Erasures.{found_bound, has_erasure}
 use Rattle.cells.proofs.Erasures.{found-least, below-whole, whole_below}
-use Rattle.cells.specs.Figures.{Params}
-use Rattle.larsson.specs.Figures.{sub_len_of, sub_blocks, sub_start}
-use Rattle.larsson.specs.Writing.{rank_places}
-use Rattle.larsson.specs.Reading.{sub_symbols, sub_value, found}
+use Rattle.larsson.specs.Figures.{sub_blocks, sub_start}
+use Rattle.larsson.specs.Reading.{sub_symbols, sub_value}
 use Rattle.larsson.proofs.SubBlocks.{symbols-small}
 use Rattle.larsson.proofs.Walking.{holds_same, found_at, found_nowhere}
 use Rattle.larsson_params.specs.declared.LarssonLayout.{LarssonLayout}
-use Rattle.larsson_params.specs.Given.{larsson_figures_of, SubStartsOf}
+use Rattle.larsson_params.specs.Given.{larsson_figures_of}
 use Rattle.larsson_params.proofs.Shape.{bound, sub-room}
 use Rattle.sub_blocks.specs.Found.{FoundWord, spelled_at, MajorityAt}
 

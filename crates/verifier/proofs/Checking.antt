@@ -17,7 +17,7 @@ use Rattle.codes.specs.declared.Figures.{Figures}
 use Rattle.codes.specs.Bridge.{coding_of}
 use Rattle.codes.proofs.Layouts.{small}
 use Rattle.codes.proofs.Exact.{demand-two, placed_of}
-use Rattle.verifier.specs.Verify.{differs_at, agrees_outside, agreeing, differing, verify_under, Checkable, SameOutside, Verifies, VerifiesWords}
+use Rattle.verifier.specs.Verify.{differs_at, agrees_outside, agreeing, differing, verify_under, Checkable, SameOutside, VerifiesWords}
 
 -- ---- The test, under any codec
 

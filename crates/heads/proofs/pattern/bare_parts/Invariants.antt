@@ -1,17 +1,12 @@
 -- `bare_parts` meets its contract: `bare` holds those among the first i parts. Assumes nothing.
-use mathlib.Core.Path.{◌≡◌, sym, ap, ◌∙◌}
-use mathlib.Core.Logic.{⊎_elim}
-use mathlib.Core.Bool.{Bool, not}
-use Prim.Native.Nat.{ℕ, ◌-◌, ◌≤◌}
-use native.Mathlib.Omega.{arith}
-use borrow.Author.Rules.{rules}
+use mathlib.Core.Path.{◌≡◌}
+use mathlib.Core.Bool.{not}
+use Prim.Native.Nat.{◌-◌, ◌≤◌}
 use Rattle.combinatorics.specs.Stretch.{has, members}
 use Rattle.construction_a.specs.Writing.{row}
-use Rattle.construction_a.specs.Reading.{looks_fixed, bare_parts}
-use Rattle.params.proofs.Shape.{bound}
+use Rattle.construction_a.specs.Reading.{looks_fixed}
 use Rattle.params.specs.Given.{figures_of}
 use Rattle.heads.specs.Patterns.{candidates_of}
-use Rattle.heads.proofs.Listed.{candidates-few, candidates-in, candidates-out}
 use Rattle.heads.proofs.pattern.bare_parts.Given as goal
 
 abbrev pub invariant-loop-i : goal.invariant-loop-i

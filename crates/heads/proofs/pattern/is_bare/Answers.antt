@@ -1,21 +1,21 @@
 -- `is_bare` meets its contract: no block of the part before j looks fixed. Assumes nothing.
 use mathlib.Core.Path.{◌≡◌, sym, ap, ◌∙◌}
 use mathlib.Core.Bool.{Bool, not}
-use Prim.Native.Nat.{ℕ, ◌+◌, ◌*◌, ◌-◌, ◌≤◌}
+use mathlib.Core.List.{List}
+use Prim.Native.Nat.{ℕ, ◌+◌, ◌*◌}
 use native.Mathlib.Omega.{arith}
-use borrow.Author.Rules.{rules}
-use Rattle.combinatorics.specs.Stretch.{has}
-use Rattle.combinatorics.proofs.StretchLoops.{has-start, has_here, has_on, has-over}
+use Rattle.combinatorics.proofs.StretchLoops.{has_here, has_on, has-over}
 use Rattle.construction_a.specs.Writing.{row}
 use Rattle.construction_a.specs.Reading.{looks_fixed}
+use Rattle.params.specs.declared.Layout.{Layout}
 use Rattle.params.specs.Given.{figures_of}
-use Rattle.heads.proofs.Looking.{part-block, part-fits, part_length, part-head-inside, stretch-looks}
+use Rattle.heads.proofs.Looking.{part_length, part-head-inside, stretch-looks}
 use Rattle.heads.proofs.pattern.is_bare.Goals as goal
-use Rattle.heads.proofs.pattern.is_bare.Goals.{After-looks_fixed, Start}
+use Rattle.heads.proofs.pattern.is_bare.Goals.{After-looks_fixed}
 
 -- the part's blocks that look fixed
-abbrev Fixed : Start → ℕ → Bool
-Fixed s = row s.args.layout.m (looks_fixed (figures_of s.args.layout) s.args.word.now) s.args.part
+abbrev Fixed : Layout → List ℕ → ℕ → ℕ → Bool
+Fixed l w part = row l.m (looks_fixed (figures_of l) w) part
 
 pub slice_bounds-looks_fixed-count : goal.slice_bounds-looks_fixed-count
 slice_bounds-looks_fixed-count c =
@@ -32,8 +32,7 @@ looks_fixed-requires c =
     (omega (arith, part-head-inside c.requires.0 c.args.part c.loop-j.j c.requires.2 (omega arith) b.ensures))
 
 -- block j looks as the test of its stretch says
-seen : (c : After-looks_fixed) → Fixed c.before.before.before.before.before.before.before.before
-    c.loop-j.j
+seen : (c : After-looks_fixed) → Fixed c.args.layout c.args.word.now c.args.part c.loop-j.j
     ≡ c.looks_fixed.result
 seen c =
     let k = c.args.part * c.args.layout.m + c.loop-j.j in
@@ -42,14 +41,14 @@ seen c =
 pub returns-then-looks_fixed : goal.returns-then-looks_fixed
 returns-then-looks_fixed c =
     let t = c.loop-j in
-    ap not (sym (has_here c.args.layout.m t.j (Fixed (goal.at.returns-then-looks_fixed c).Start) (omega arith) (seen (goal.at.returns-then-looks_fixed c).After-looks_fixed ∙ c.if-looks_fixed.true)) ∙ t.invariant.1)
+    ap not (sym (has_here c.args.layout.m t.j (Fixed c.args.layout c.args.word.now c.args.part) (omega arith) (seen (goal.at.returns-then-looks_fixed c).After-looks_fixed ∙ c.if-looks_fixed.true)) ∙ t.invariant.1)
 
 pub loop-j-preserved : goal.loop-j-preserved
 loop-j-preserved c =
     let t = c.loop-j in
-    (omega arith, sym (has_on c.args.layout.m t.j (Fixed (goal.at.loop-j-preserved c).Start) (omega arith) (seen (goal.at.loop-j-preserved c).After-looks_fixed ∙ c.if-looks_fixed.false)) ∙ t.invariant.1)
+    (omega arith, sym (has_on c.args.layout.m t.j (Fixed c.args.layout c.args.word.now c.args.part) (omega arith) (seen (goal.at.loop-j-preserved c).After-looks_fixed ∙ c.if-looks_fixed.false)) ∙ t.invariant.1)
 
 pub returns : goal.returns
 returns c =
     let t = c.loop-j in
-    ap not (sym (has-over c.args.layout.m t.j (Fixed (goal.at.returns c).Start) (omega arith)) ∙ t.invariant.1)
+    ap not (sym (has-over c.args.layout.m t.j (Fixed c.args.layout c.args.word.now c.args.part) (omega arith)) ∙ t.invariant.1)

@@ -1,15 +1,10 @@
 -- `is_bare` meets its contract: no block of the part before j looks fixed. Assumes nothing.
-use mathlib.Core.Path.{◌≡◌, sym, ap, ◌∙◌}
-use mathlib.Core.Bool.{Bool, not}
-use Prim.Native.Nat.{ℕ, ◌+◌, ◌*◌, ◌-◌, ◌≤◌}
-use native.Mathlib.Omega.{arith}
-use borrow.Author.Rules.{rules}
+use mathlib.Core.Path.{◌≡◌}
+use Prim.Native.Nat.{◌-◌, ◌≤◌}
 use Rattle.combinatorics.specs.Stretch.{has}
-use Rattle.combinatorics.proofs.StretchLoops.{has-start, has_here, has_on, has-over}
 use Rattle.construction_a.specs.Writing.{row}
 use Rattle.construction_a.specs.Reading.{looks_fixed}
 use Rattle.params.specs.Given.{figures_of}
-use Rattle.heads.proofs.Looking.{part-block, part-fits, part_length, part-head-inside, stretch-looks}
 use Rattle.heads.proofs.pattern.is_bare.Given as goal
 
 abbrev pub invariant-loop-j : goal.invariant-loop-j

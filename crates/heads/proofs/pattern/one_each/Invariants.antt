@@ -1,21 +1,11 @@
 -- `one_each` meets its contract: the first i parts have shown their blocks. Assumes nothing.
-use mathlib.Core.Path.{◌≡◌, refl, sym, ap, ◌∙◌}
-use mathlib.Core.Bool.{Bool, not}
+use mathlib.Core.Path.{◌≡◌}
 use mathlib.Core.Option.{some}
-use Prim.Native.Nat.{ℕ, ◌+◌, ◌*◌, ◌-◌, ◌≤◌, ◌<◌}
-use native.Mathlib.Omega.{arith}
-use borrow.Author.Rules.{rules}
-use lib.ListN.{length, get_or, length-set}
-use Rattle.combinatorics.specs.Stretch.{tabulate}
-use Rattle.combinatorics.proofs.Members.{take-is, filled_on}
+use Prim.Native.Nat.{ℕ, ◌-◌, ◌≤◌, ◌<◌}
+use lib.ListN.{length, get_or}
 use Rattle.cells.specs.Figures.{max_bursts}
-use Rattle.construction_a.specs.Writing.{row}
-use Rattle.construction_a.specs.Reading.{looks_fixed, open_blocks, index_in_part}
-use Rattle.construction_a.proofs.Pattern.{collect-tabulate}
-use Rattle.params.proofs.Shape.{bound}
-use Rattle.params.specs.Given.{figures_of, max_blocks}
-use Rattle.heads.proofs.Listed.{candidates-below, in-part, in-part-none, collect-none, index-none, index-some}
-use Rattle.heads.proofs.Looking.{part-fits}
+use Rattle.construction_a.specs.Reading.{looks_fixed, index_in_part}
+use Rattle.params.specs.Given.{figures_of}
 use Rattle.heads.proofs.pattern.one_each.Given as goal
 
 abbrev pub invariant-loop-i : goal.invariant-loop-i

@@ -1,18 +1,12 @@
 -- `open_blocks` meets its contract: `shown` holds those among the first j blocks of the part. Assumes nothing.
-use mathlib.Core.Path.{◌≡◌, ap, ◌∙◌}
-use mathlib.Core.Logic.{⊎_elim}
-use mathlib.Core.Bool.{Bool, not}
-use Prim.Native.Nat.{ℕ, ◌+◌, ◌*◌, ◌-◌, ◌≤◌}
-use native.Mathlib.Omega.{arith}
-use borrow.Author.Rules.{rules}
+use mathlib.Core.Path.{◌≡◌}
+use mathlib.Core.Bool.{not}
+use Prim.Native.Nat.{◌-◌, ◌≤◌}
 use Rattle.combinatorics.specs.Stretch.{members}
 use Rattle.construction_a.specs.Writing.{row}
-use Rattle.construction_a.specs.Reading.{looks_fixed, open_blocks}
-use Rattle.params.proofs.Shape.{bound}
+use Rattle.construction_a.specs.Reading.{looks_fixed}
 use Rattle.params.specs.Given.{figures_of}
 use Rattle.heads.specs.Patterns.{candidates_of}
-use Rattle.heads.proofs.Listed.{candidates-few, candidates-in, candidates-out}
-use Rattle.heads.proofs.Looking.{part-block, part-fits, part_length, part-head-inside, stretch-looks}
 use Rattle.heads.proofs.pattern.open_blocks.Given as goal
 
 abbrev pub invariant-loop-j : goal.invariant-loop-j

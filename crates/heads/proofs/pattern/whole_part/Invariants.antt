@@ -1,13 +1,8 @@
 -- `whole_part` meets its contract: the first j blocks of the part stand in the answer. Assumes nothing.
-use mathlib.Core.Path.{◌≡◌, refl}
+use mathlib.Core.Path.{◌≡◌}
 use Prim.Native.Nat.{ℕ, ◌+◌, ◌*◌, ◌-◌, ◌≤◌, ◌<◌}
-use native.Mathlib.Omega.{arith}
-use borrow.Author.Rules.{rules}
-use lib.ListN.{length, get_or, length-set}
-use Rattle.combinatorics.specs.Stretch.{consecutive}
-use Rattle.combinatorics.proofs.Members.{take-is, filled_on}
+use lib.ListN.{length, get_or}
 use Rattle.cells.specs.Figures.{max_bursts}
-use Rattle.heads.proofs.Listed.{index-some}
 use Rattle.heads.proofs.pattern.whole_part.Given as goal
 
 abbrev pub invariant-loop-j : goal.invariant-loop-j

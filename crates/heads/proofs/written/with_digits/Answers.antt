@@ -1,9 +1,6 @@
 -- `with_digits` meets its contract: the first i digits are taken in. Assumes nothing.
-use Prim.Native.Nat.{◌-◌, ◌≤◌}
 use native.Mathlib.Omega.{arith}
-use borrow.Author.Rules.{rules}
-use lib.ListN.{length}
-use Rattle.heads.proofs.Valued.{Taken, taken_none, taken-plain, taken-all}
+use Rattle.heads.proofs.Valued.{taken-plain, taken-all}
 use Rattle.heads.proofs.written.with_digits.Goals as goal
 
 pub loop-i-preserved : goal.loop-i-preserved

@@ -1,9 +1,7 @@
 -- `with_digits` meets its contract: the first i digits are taken in. Assumes nothing.
 use Prim.Native.Nat.{◌-◌, ◌≤◌}
-use native.Mathlib.Omega.{arith}
-use borrow.Author.Rules.{rules}
 use lib.ListN.{length}
-use Rattle.heads.proofs.Valued.{Taken, taken_none, taken-plain, taken-all}
+use Rattle.heads.proofs.Valued.{Taken}
 use Rattle.heads.proofs.written.with_digits.Given as goal
 
 abbrev pub invariant-loop-i : goal.invariant-loop-i

@@ -1,16 +1,15 @@
 -- `written_value` meets its contract: the digits of the first j blocks are taken in. Assumes nothing.
 use mathlib.Core.Path.{◌≡◌, refl, ap, ◌∙◌}
-use Prim.Native.Nat.{ℕ, suc, ◌+◌, ◌-◌, ◌*◌, ◌≤◌, ◌<◌}
+use Prim.Native.Nat.{ℕ, suc, ◌+◌, ◌-◌, ◌≤◌}
 use native.Mathlib.Omega.{arith}
-use borrow.Author.Rules.{rules}
 use lib.ListN.{length, get_or, take, drop}
 use Rattle.construction_a.specs.Figures.{head_of}
 use Rattle.params.specs.Given.{figures_of}
 use Rattle.params.proofs.Shape.{bound, block_in, head-room, head-is}
 use Rattle.heads.proofs.Looking.{part_at, part-head, part_length}
-use Rattle.heads.proofs.Valued.{Summed, summed-none, summed-on, summed-all, open-lead}
+use Rattle.heads.proofs.Valued.{summed-none, summed-on, summed-all, open-lead}
 use Rattle.heads.proofs.written.written_value.Goals as goal
-use Rattle.heads.proofs.written.written_value.Goals.{After-block_head-head, In-loop-j}
+use Rattle.heads.proofs.written.written_value.Goals.{After-block_head-head}
 
 pub loop-j-init : goal.loop-j-init
 loop-j-init c =
@@ -24,17 +23,13 @@ loop-j-init c =
 pub bounds-blocks-j : goal.bounds-blocks-j
 bounds-blocks-j c = omega (arith, (bound c.args.layout c.requires.0.finding.layout).m-most)
 
--- the number is a block's, and the block's head with its tail lies in the word
-block_within : (c : In-loop-j)
-    → (let a = c.args in get_or a.blocks c.loop-j.j 0 < a.layout.parts * a.layout.m)
-block_within c =
-    block_in c.args.layout c.requires.0.finding.layout (c.requires.0.within c.loop-j.j (omega arith))
-
-head-within : (c : After-block_head-head)
-    → (let a = c.args in c.block_head-head.result + suc a.layout.index_tail ≤ a.layout.n)
+-- the block's head with its tail lies in the word
+head-within : (c : After-block_head-head) → c.block_head-head.result + suc c.args.layout.index_tail ≤ c.args.layout.n
 head-within c =
-    rw c.block_head-head.ensures
-    (head-room c.args.layout c.requires.0.finding.layout (get_or c.args.blocks c.loop-j.j 0) (block_within c.before))
+    let l = c.args.layout in
+    let h = c.requires.0.finding.layout in
+    let k = get_or c.args.blocks c.loop-j.j 0 in
+    rw c.block_head-head.ensures (head-room l h k (block_in l h (c.requires.0.within c.loop-j.j (omega arith))))
 
 pub slice_bounds-with_block-count : goal.slice_bounds-with_block-count
 slice_bounds-with_block-count c = omega (arith, head-within (goal.at.slice_bounds-with_block-count c).After-block_head-head)

@@ -1,14 +1,8 @@
 -- `written_value` meets its contract: the digits of the first j blocks are taken in. Assumes nothing.
-use mathlib.Core.Path.{◌≡◌, refl, ap, ◌∙◌}
-use Prim.Native.Nat.{ℕ, suc, ◌+◌, ◌-◌, ◌*◌, ◌≤◌, ◌<◌}
-use native.Mathlib.Omega.{arith}
-use borrow.Author.Rules.{rules}
-use lib.ListN.{length, get_or, take, drop}
-use Rattle.construction_a.specs.Figures.{head_of}
+use mathlib.Core.Path.{◌≡◌}
+use Prim.Native.Nat.{◌-◌, ◌≤◌}
 use Rattle.params.specs.Given.{figures_of}
-use Rattle.params.proofs.Shape.{bound, block_in, head-room, head-is}
-use Rattle.heads.proofs.Looking.{part_at, part-head, part_length}
-use Rattle.heads.proofs.Valued.{Summed, summed-none, summed-on, summed-all, open-lead}
+use Rattle.heads.proofs.Valued.{Summed}
 use Rattle.heads.proofs.written.written_value.Given as goal
 
 abbrev pub invariant-loop-j : goal.invariant-loop-j

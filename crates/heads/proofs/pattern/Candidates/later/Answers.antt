@@ -1,5 +1,4 @@
 -- `Candidates::later` meets its contract, case by case. Assumes nothing.
-use borrow.Author.Rules.{rules}
 use native.Mathlib.Omega.{arith}
 use Rattle.heads.proofs.Listed.{later-alone, later-many, later-next, later-inner, later-short, later-ends}
 use Rattle.heads.proofs.pattern.Candidates.later.Goals as goal
