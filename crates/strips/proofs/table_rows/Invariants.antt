@@ -2,8 +2,8 @@
 use Rattle.std.proofs.Common.{◌-◌, ◌≤◌}
 use Rattle.strips.proofs.table_rows.Given as goal
 
-abbrev pub invariant-loop-table : goal.invariant-loop-table
-invariant-loop-table g l = l.number ≤ 65
+abbrev pub invariant-loop-number : goal.invariant-loop-number
+invariant-loop-number g l = l.number ≤ 65
 
-abbrev pub decreases-loop-table : goal.decreases-loop-table
-decreases-loop-table g l = 65 - l.number
+abbrev pub decreases-loop-number : goal.decreases-loop-number
+decreases-loop-number g l = 65 - l.number
