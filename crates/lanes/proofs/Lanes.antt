@@ -40,10 +40,10 @@ use Rattle.codes.proofs.Exact.{demand-two, more-found}
 use Rattle.codes.proofs.Layouts.{small}
 use Rattle.lanes.specs.Interleaving.{interleaved, deinterleaved, lane}
 use Rattle.lanes.specs.Lanes.{Wear, wear_has, is_worn, is_short, Worn, strip_map, word_map, HasBursts, cover_of, Messages, cover_at, written_words}
-use Rattle.lanes.specs.Lanes.{FoundStrip, LanesHold, LawOfLanes, LanesReadUnder, LanesRead}
+use Rattle.lanes.specs.Lanes.{FoundStrip, LawOfLanes, LanesReadUnder, LanesRead}
 use Rattle.lanes.proofs.Interleaving.{length-transposed, transposed-below, length-lane, lane_below, words-at, length-words, words-below}
 use Rattle.lanes.proofs.Interleaving.{lane-of-words, strip-cell, word_cell}
-use Rattle.lanes.proofs.Outcomes.{Passes, passes}
+use Rattle.lanes.proofs.Outcomes.{passes}
 
 -- ---- Maps
 
