@@ -7,118 +7,129 @@ use decoder::WordAnswer;
 use jobs::JobTable;
 use params::Params;
 use placements::{CoverAnswer, Placement};
+use std::io;
 
-fn main() {
-    figures_row(strip(60, 17, 2, 9));
-    figures_row(strip(60, 17, 2, 10));
-    longer_rows();
-    sound_row();
-    worn_row();
-    first_written();
-    second_written();
-    third_written();
-    read_rows();
-    table_rows();
+fn main(rt: HostRuntime) -> io::Result<()> {
+    figures_row(&rt, strip(60, 17, 2, 9))?;
+    figures_row(&rt, strip(60, 17, 2, 10))?;
+    longer_rows(&rt)?;
+    sound_row(&rt)?;
+    worn_row(&rt)?;
+    first_written(&rt)?;
+    second_written(&rt)?;
+    third_written(&rt)?;
+    read_rows(&rt)?;
+    table_rows(&rt)
 }
 
 // Strips of up to 4096 symbols and eight bursts: the largest counts, and where a longer burst fits and a shorter one has too many placements.
-fn longer_rows() {
-    byte_row(4096, 6, 1);
-    byte_row(4096, 6, 112);
-    byte_row(4096, 7, 1);
-    byte_row(1999, 7, 39);
-    byte_row(999, 8, 15);
-    byte_row(888, 8, 1);
-    byte_row(888, 8, 2);
-    byte_row(64, 8, 1);
-    byte_row(4097, 1, 1);
-    byte_row(4096, 9, 1);
+fn longer_rows(rt: &impl Print) -> io::Result<()> {
+    byte_row(rt, 4096, 6, 1)?;
+    byte_row(rt, 4096, 6, 112)?;
+    byte_row(rt, 4096, 7, 1)?;
+    byte_row(rt, 1999, 7, 39)?;
+    byte_row(rt, 999, 8, 15)?;
+    byte_row(rt, 888, 8, 1)?;
+    byte_row(rt, 888, 8, 2)?;
+    byte_row(rt, 64, 8, 1)?;
+    byte_row(rt, 4097, 1, 1)?;
+    byte_row(rt, 4096, 9, 1)
 }
 
 // Symbols that are bytes.
-fn byte_row(n: u32, m: u32, b: u32) {
-    figures_row(strip(n, 256, m, b));
+fn byte_row(rt: &impl Print, n: u32, m: u32, b: u32) -> io::Result<()> {
+    figures_row(rt, strip(n, 256, m, b))
 }
 
 // The answer to figures alone: T, r and k, or the refusal.
-fn figures_row(p: Params) {
-    put(b"n ", p.n as u64);
-    put(b" q ", p.q as u64);
-    put(b" m ", p.m as u64);
-    put(b" b ", p.b as u64);
+fn figures_row(rt: &impl Print, p: Params) -> io::Result<()> {
+    put(rt, "n ", p.n as u64)?;
+    put(rt, " q ", p.q as u64)?;
+    put(rt, " m ", p.m as u64)?;
+    put(rt, " b ", p.b as u64)?;
     let answer = Figures::Ranked(p).layout();
     match answer {
-        FiguresAnswer::Refused(number) => put(b": refused ", number as u64),
+        FiguresAnswer::Refused(number) => put(rt, ": refused ", number as u64)?,
         FiguresAnswer::Fit(layout) => {
-            put(b": T ", layout.placement_count());
-            put(b", r ", layout.index_tail() as u64);
-            put(b", k ", layout.message_len as u64);
+            put(rt, ": T ", layout.placement_count())?;
+            put(rt, ", r ", layout.index_tail() as u64)?;
+            put(rt, ", k ", layout.message_len as u64)?;
         }
     }
-    end_row();
+    end_row(rt)
 }
 
 // Covering on the first strip, without a defect and with one at position 12.
-fn sound_row() {
+fn sound_row(rt: &impl Print) -> io::Result<()> {
     let map = [0u8; 30];
     let answer = codes::cover(Figures::Ranked(first_strip()), &map);
-    cover_row(b"no defect", answer);
+    cover_row(rt, "no defect", answer)
 }
 
-fn worn_row() {
+fn worn_row(rt: &impl Print) -> io::Result<()> {
     let mut map = [0u8; 30];
     map[12] = 1;
     let answer = codes::cover(Figures::Ranked(first_strip()), &map);
-    cover_row(b"defect at 12", answer);
+    cover_row(rt, "defect at 12", answer)
 }
 
 // Word write on the three starred strips, with messages that have one symbol throughout.
-fn first_written() {
+fn first_written(rt: &impl Print) -> io::Result<()> {
     let message = [1u8; 20];
     let mut word = [0u8; 30];
     let at = placement(12, 0, 0, 1);
     write_row(
-        b"start 12, message 1: ",
+        rt,
+        "start 12, message 1: ",
         first_strip(),
         at,
         &message,
         &mut word,
-    );
+    )
 }
 
-fn second_written() {
+fn second_written(rt: &impl Print) -> io::Result<()> {
     let message = [2u8; 44];
     let mut word = [0u8; 60];
     let at = placement(8, 12, 0, 2);
     write_row(
-        b"starts 8 12, message 2: ",
+        rt,
+        "starts 8 12, message 2: ",
         strip(60, 4, 2, 4),
         at,
         &message,
         &mut word,
-    );
+    )
 }
 
-fn third_written() {
+fn third_written(rt: &impl Print) -> io::Result<()> {
     let message = [2u8; 66];
     let mut word = [0u8; 90];
     let at = placement(22, 30, 65, 3);
     write_row(
-        b"starts 22 30 65, message 2: ",
+        rt,
+        "starts 22 30 65, message 2: ",
         strip(90, 3, 3, 3),
         at,
         &message,
         &mut word,
-    );
+    )
 }
 
 // The answer, and what the word then holds.
-fn write_row(what: &[u8], figures: Params, at: Placement, message: &[u8], word: &mut [u8]) {
+fn write_row(
+    rt: &impl Print,
+    what: &str,
+    figures: Params,
+    at: Placement,
+    message: &[u8],
+    word: &mut [u8],
+) -> io::Result<()> {
     let answer = codes::encode(Figures::Ranked(figures), at, message, word);
-    put(what, answer as u64);
-    io::write_all(libc::STDOUT_FILENO, b" ");
-    put_symbols(word);
-    end_row();
+    put(rt, what, answer as u64)?;
+    rt.print(" ")?;
+    put_symbols(rt, word)?;
+    end_row(rt)
 }
 
 // Up to three starts.
@@ -130,12 +141,12 @@ fn placement(first: u16, second: u16, third: u16, count: u32) -> Placement {
 }
 
 // Word read on the first strip: all 0, all 1, and its word with other symbols in the index block.
-fn read_rows() {
-    read_row(b"all 0", &[0u8; 30]);
-    read_row(b"all 1", &[1u8; 30]);
-    read_row(b"111111", &first_word([1, 1, 1, 1, 1, 1]));
-    read_row(b"100000", &first_word([1, 0, 0, 0, 0, 0]));
-    read_row(b"101100", &first_word([1, 0, 1, 1, 0, 0]));
+fn read_rows(rt: &impl Print) -> io::Result<()> {
+    read_row(rt, "all 0", &[0u8; 30])?;
+    read_row(rt, "all 1", &[1u8; 30])?;
+    read_row(rt, "111111", &first_word([1, 1, 1, 1, 1, 1]))?;
+    read_row(rt, "100000", &first_word([1, 0, 0, 0, 0, 0]))?;
+    read_row(rt, "101100", &first_word([1, 0, 1, 1, 0, 0]))
 }
 
 // The first strip's word with these symbols in its index block.
@@ -154,32 +165,33 @@ fn first_word(index: [u8; 6]) -> [u8; 30] {
     word
 }
 
-fn read_row(what: &[u8], word: &[u8]) {
+fn read_row(rt: &impl Print, what: &str, word: &[u8]) -> io::Result<()> {
     let mut message = [0u8; 20];
-    io::write_all(libc::STDOUT_FILENO, what);
+    rt.print(what)?;
     let found = codes::decode(Figures::Ranked(first_strip()), word, &mut message);
     let answer = found.answer;
     match answer {
-        WordAnswer::Refused(number) => put(b": refused ", number as u64),
+        WordAnswer::Refused(number) => put(rt, ": refused ", number as u64)?,
         WordAnswer::Accepted(rank) => {
             let placement = found.placement;
-            put(b": rank ", rank);
-            put(b", start ", placement.starts[0] as u64);
-            io::write_all(libc::STDOUT_FILENO, b", message ");
-            put_symbols(&message);
+            put(rt, ": rank ", rank)?;
+            put(rt, ", start ", placement.starts[0] as u64)?;
+            rt.print(", message ")?;
+            put_symbols(rt, &message)?;
         }
     }
-    end_row();
+    end_row(rt)
 }
 
 // Symbols one after the other, each below 10.
-fn put_symbols(symbols: &[u8]) {
+fn put_symbols(rt: &impl Print, symbols: &[u8]) -> io::Result<()> {
     let mut i: usize = 0;
     while i < symbols.len() {
         let symbol = symbols[i];
-        io::print_decimal(libc::STDOUT_FILENO, symbol as u64);
+        rt.print(symbol as u64)?;
         i += 1;
     }
+    Ok(())
 }
 
 // The figures of the first strip, and of any.
@@ -191,47 +203,47 @@ fn strip(n: u32, q: u32, m: u32, b: u32) -> Params {
     Params { n, q, m, b }
 }
 
-fn cover_row(what: &[u8], found: CoverAnswer) {
-    io::write_all(libc::STDOUT_FILENO, what);
+fn cover_row(rt: &impl Print, what: &str, found: CoverAnswer) -> io::Result<()> {
+    rt.print(what)?;
     let placement = found.placement;
     if found.answer == 0 {
-        put(b": start ", placement.starts[0] as u64);
+        put(rt, ": start ", placement.starts[0] as u64)?;
     } else {
-        put(b": refused ", found.answer as u64);
+        put(rt, ": refused ", found.answer as u64)?;
     }
-    end_row();
+    end_row(rt)
 }
 
 // The table filled with the jobs 1 to 64; then 65 is refused, and opens once 1 is finished.
-fn table_rows() {
+fn table_rows(rt: &impl Print) -> io::Result<()> {
     let mut table = JobTable::empty();
     let mut number: u32 = 1;
     while number <= 64 {
         let opened = table.open(number);
-        call_row(b"open ", number, opened.answer);
+        call_row(rt, "open ", number, opened.answer)?;
         table = opened.table;
         number += 1;
     }
     let full = table.open(65);
-    call_row(b"open ", 65, full.answer);
+    call_row(rt, "open ", 65, full.answer)?;
     let finished = full.table.finish(1);
-    call_row(b"finish ", 1, finished.answer);
+    call_row(rt, "finish ", 1, finished.answer)?;
     let room = finished.table.open(65);
-    call_row(b"open ", 65, room.answer);
+    call_row(rt, "open ", 65, room.answer)
 }
 
-fn call_row(what: &[u8], number: u32, answer: u8) {
-    put(what, number as u64);
-    put(b": ", answer as u64);
-    end_row();
+fn call_row(rt: &impl Print, what: &str, number: u32, answer: u8) -> io::Result<()> {
+    put(rt, what, number as u64)?;
+    put(rt, ": ", answer as u64)?;
+    end_row(rt)
 }
 
 // Writes a text and the number behind it.
-fn put(what: &[u8], number: u64) {
-    io::write_all(libc::STDOUT_FILENO, what);
-    io::print_decimal(libc::STDOUT_FILENO, number);
+fn put(rt: &impl Print, what: &str, number: u64) -> io::Result<()> {
+    rt.print(what)?;
+    rt.print(number)
 }
 
-fn end_row() {
-    io::write_all(libc::STDOUT_FILENO, b"\n");
+fn end_row(rt: &impl Print) -> io::Result<()> {
+    rt.print("\n")
 }

@@ -6,6 +6,8 @@ ghost use Rattle.combinatorics.specs.Lists.{all_below};
 ghost use Rattle.text.specs.Text.{decimal, hex_digit, hex, overwrite};
 ghost use Rattle.text.specs.Nibbles.{nibbles_of, nibbles};
 
+mod number;
+
 // The characters 0 and A.
 const ZERO: u8 = 48;
 
@@ -42,7 +44,7 @@ pub fn put_decimal(line: &mut [u8], at: usize, value: u64) -> usize
     ensures behind { result ≡ at + length (decimal value) }
 {
     let mut digits = [0u8; 20];
-    let count = io::decimal(value, &mut digits);
+    let count = number::decimal(value, &mut digits);
     put_text(line, at, &digits[..count])
 }
 

@@ -11,7 +11,6 @@ use mir.Val.{SFits, of_z}
 use borrow.Author.Tests.{lt-ltb, le-ltb, ltb-true}
 use lib.IntN.{ℤ, pos, negsuc, nat_abs}
 use lib.Signed.{lt_z, non_neg}
-use Rattle.libc.specs.Io.{Moved}
 use Rattle.combinatorics.proofs.Cases.{eqb-other}
 use Rattle.combinatorics.proofs.Lists.{both}
 use Rattle.transfer.specs.declared.StepAnswer.{StepAnswer}
@@ -23,7 +22,7 @@ use Rattle.turns.specs.declared.Phase.TheVariants.{Ended, Failed, Done}
 use Rattle.turns.specs.declared.Wants.{Wants}
 use Rattle.turns.specs.declared.Wants.TheVariants.{Read, Write, Stop}
 use Rattle.turns.specs.View.{wants_none, wants_at, step_at}
-use Rattle.turns.specs.State.{WithinBuffers, Fronted, with_more, repeated, in_phase, is_interrupted, is_repeated, after_read, after_write}
+use Rattle.turns.specs.State.{WithinBuffers, Fronted, with_more, repeated, in_phase, is_interrupted, is_repeated, after_read, after_write, Moved}
 
 module _ (s : State) where
   pub read_some : (got error : ℤ) → lt_z (pos 0) got ≡ true → with_more s (nat_abs got) ≡ after_read s got error

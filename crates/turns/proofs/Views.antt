@@ -10,7 +10,6 @@ use borrow.Author.Tests.{ltb-true}
 use lib.IntN.{ℤ, pos, negsuc}
 use lib.ListN.{length, take, drop, length-drop, length-append}
 use lib.Seq.{length-take-le, take-take, take_at, take-append-le, take-append-add, drop-drop}
-use Rattle.libc.specs.Io.{Moved}
 use Rattle.combinatorics.proofs.Cases.{by_le, eqb-other}
 use Rattle.text.specs.Text.{overwrite}
 use Rattle.text.proofs.Line.{line-take, overwrite-take}
@@ -27,7 +26,7 @@ use Rattle.turns.specs.declared.Phase.TheVariants.{Ended, Failed}
 use Rattle.turns.specs.declared.Wants.TheVariants.{Read, Write}
 use Rattle.turns.specs.View.{buffer_len, View, at_begin, wants_at, wants_of, room_at, ready_at, is_servable, step_at, step_for, phase_after, needs, served_out}
 use Rattle.turns.specs.View.{advance_out}
-use Rattle.turns.specs.State.{WithinBuffers, view_of, waiting_in, Begun, WaitsInFront, Fronted, with_more, repeated, in_phase, is_interrupted, is_repeated}
+use Rattle.turns.specs.State.{WithinBuffers, view_of, waiting_in, Begun, WaitsInFront, Fronted, with_more, repeated, in_phase, is_interrupted, is_repeated, Moved}
 use Rattle.turns.specs.State.{after_read, after_write}
 use Rattle.turns.specs.Trace.{Event, came, ended, interrupted, failed, written, unwritten, Answers, after_event}
 use Rattle.records.proofs.Readable.{needed-most}

@@ -57,7 +57,12 @@ pub record Fronted (s r : State) : Type 0 where
   pub len : r.to - r.from ≡ s.to - s.from
   pub front : wants_at s.gathered s.phase ≡ Read → r.from ≡ 0
 
--- ---- What the system's answers change
+-- ---- What the system answers, and what that changes
+
+-- what a read that has room for so many bytes answers: how many it brought, or -1
+abbrev pub Moved : ℕ → ℤ → Type 0
+Moved n (pos count) = count ≤ n
+Moved n (negsuc below) = below ≡ 0
 
 -- so many bytes more wait
 abbrev pub with_more : State → ℕ → State

@@ -3,11 +3,10 @@
 #![tactic(auto)]
 
 ghost use Rattle.std.specs.Prelude.{◌≡◌, cond, ◌+◌, ◌-◌, ◌≤◌, min, length, take, drop};
-ghost use Rattle.libc.specs.Io.{Moved};
 ghost use Rattle.text.specs.Text.{overwrite};
 ghost use Rattle.turns.specs.declared.Phase.TheVariants.{Failed};
 ghost use Rattle.turns.specs.View.{buffer_len, wants_at, room_at, ready_at, advance_out};
-ghost use Rattle.turns.specs.State.{Buffers, WithinBuffers, view_of, waiting_in, Begun, WaitsInFront, Fronted, repeated, in_phase, is_repeated};
+ghost use Rattle.turns.specs.State.{Buffers, WithinBuffers, view_of, waiting_in, Begun, WaitsInFront, Fronted, Moved, repeated, in_phase, is_repeated};
 ghost use Rattle.turns.specs.State.{after_read, after_write};
 
 use records::Session;
@@ -18,6 +17,9 @@ const BUFFER_LEN: usize = 65536;
 
 // More interrupted reads than a program meets are made again, but not without end: its loop has to end.
 const MAX_REPEATS: u64 = u64::MAX;
+
+// The system's number for a call that a signal interrupted.
+const EINTR: i32 = 4;
 
 // What the program wants of the system: more input, all that is gathered written, or nothing any more.
 #[derive(Clone, Copy)]
@@ -165,7 +167,7 @@ impl State {
         if self.repeats == 0 {
             return false;
         }
-        error == libc::EINTR
+        error == EINTR
     }
 
     fn in_phase(self, phase: Phase) -> State
