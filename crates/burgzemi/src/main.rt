@@ -30,8 +30,8 @@ fn buffer() -> [u8; 65536]
     [0; 65536]
 }
 
-// Answers the state in which it stops. The contract speaks of what the system answered, and can't say that these calls were made: that is to be read here
-// (docs/PROMISES.md).
+// Answers the state in which it stops. The contract speaks of what was read and written where those bytes are known. Of standard input and output they are
+// not, and there it speaks of answers alone: that they were given is to be read here (docs/PROMISES.md).
 fn run<R: Read, W: Write>(
     reader: &mut R,
     writer: &mut W,
