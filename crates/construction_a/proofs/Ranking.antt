@@ -7,7 +7,7 @@ use Prim.Native.Nat.{ℕ, ◌<◌}
 use native.Mathlib.Omega.{arith}
 use Rattle.combinatorics.specs.Stretch.{count}
 use Rattle.cells.proofs.Ranking.{Placeable}
-use Rattle.cells.proofs.Ranking as Any
+use Rattle.cells.proofs.Ranking as AnyRanking
 use Rattle.cells.specs.Figures.{Params, is_placement}
 use Rattle.construction_a.specs.Figures.{parts}
 use Rattle.construction_a.specs.Writing.{row, is_burst, part_count, whole, one_each}
@@ -22,7 +22,7 @@ pub placeable : (f : Params) → Served f → Placeable (coding f)
 placeable f ok = record { long = ok.long; total = ok.total; count-is = refl; starts = placed-starts f; placed = starts-placed f }
 
 pub rank-bijection : (f : Params) → Served f → RankBijection f
-rank-bijection f ok = Any.rank-bijection (coding f) (placeable f ok)
+rank-bijection f ok = AnyRanking.rank-bijection (coding f) (placeable f ok)
 
 -- a whole part is chosen, or one block of each
 one-each-only : {P : Type 0} (a : ℕ) → whole a ≡ one_each → P
@@ -42,7 +42,7 @@ burst-blocks-are f range ss e =
     }
 
 pub covers-least : (f : Params) → Served f → (worn : ℕ → Bool) → CoversLeast f worn
-covers-least f ok = Any.covers-least (coding f) (placeable f ok)
+covers-least f ok = AnyRanking.covers-least (coding f) (placeable f ok)
 
 pub faithful : AllFaithful
 faithful f i h =

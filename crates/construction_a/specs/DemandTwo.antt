@@ -5,7 +5,7 @@ use Rattle.std.proofs.Math.Option.{Option, none, some}
 use Rattle.refusals.specs.Refusals.{no_pattern, value_too_large, disagrees, erased, pattern_refusals}
 use Rattle.cells.specs.Cells.{message, pick}
 use Rattle.cells.specs.Codec.{Codec, burst_codec}
-use Rattle.cells.specs.Codec as Any
+use Rattle.cells.specs.Codec as AnyCodec
 use Rattle.cells.specs.Erasures.{has_erasure}
 use Rattle.cells.specs.Figures.{Params, in_range, is_placement, placement_count_of, placement_of}
 use Rattle.construction_a.specs.Figures.{fits, parts, message_len_of}
@@ -43,7 +43,7 @@ pub data Listed (f : Params) (w : List ℕ) : ℕ → Type 0 where
   erased-message : (ks ss : List ℕ) → PlacementRead f w ks ss → has_erasure f.q (pick message (plan f ss) w) ≡ true → Listed f w erased
 
 abbrev pub ReadsExactly : Params → Type 0
-ReadsExactly f = Any.ReadsExactly (construction_a f) (Listed f)
+ReadsExactly f = AnyCodec.ReadsExactly (construction_a f) (Listed f)
 
 -- for all figures that fit
 abbrev pub DemandTwo : Type 0

@@ -4,14 +4,14 @@ use Rattle.std.specs.Prelude.{◌≡◌, Bool, true, List, ℕ, ◌<◌}
 use Rattle.combinatorics.specs.Stretch.{count}
 use Rattle.cells.specs.Cells.{message, is}
 use Rattle.cells.specs.Ranking.{ServesLeast}
-use Rattle.cells.specs.Ranking as Any
+use Rattle.cells.specs.Ranking as AnyRanking
 use Rattle.cells.specs.Figures.{Params, in_range, is_placement, placement_count_of}
 use Rattle.construction_a.specs.Figures.{parts, blocks, index_tail_of, fits, message_len_of}
 use Rattle.construction_a.specs.Writing.{is_burst, part_count, one_each, chosen, kind_at}
 use Rattle.construction_a.specs.Outcomes.{coding}
 
 abbrev pub RankBijection : Params → Type 0
-RankBijection f = Any.RankBijection (coding f)
+RankBijection f = AnyRanking.RankBijection (coding f)
 
 -- "The block in which a run ends becomes a B-block ..; if it is one already, the leftmost block of the word that is not yet B becomes B": there are m
 pub record BurstBlocks (f : Params) (ss : List ℕ) : Type 0 where
@@ -20,7 +20,7 @@ pub record BurstBlocks (f : Params) (ss : List ℕ) : Type 0 where
   pub one-each : chosen (parts f) f.m (is_burst f ss) ≡ one_each → (i : ℕ) → i < parts f → part_count f.m (is_burst f ss) i ≡ 1
 
 abbrev pub CoversLeast : Params → (ℕ → Bool) → Type 0
-CoversLeast f worn = Any.CoversLeast (coding f) worn
+CoversLeast f worn = AnyRanking.CoversLeast (coding f) worn
 
 -- what is said of figures in range that fit, and of their placements
 pub record Faithful (f : Params) : Type 0 where

@@ -14,7 +14,7 @@ use Rattle.combinatorics.proofs.Cases.{eqb_same, eqb-true}
 use Rattle.combinatorics.proofs.Lists.{both}
 use Rattle.cells.specs.Ranking.{RankBijection, CoversLeast}
 use Rattle.cells.proofs.Ranking.{Placeable}
-use Rattle.cells.proofs.Ranking as Any
+use Rattle.cells.proofs.Ranking as AnyRanking
 use Rattle.construction_b.specs.Figures.{LongParams, parts, is_placement}
 use Rattle.construction_b.specs.Writing.{placement_of}
 use Rattle.construction_b.specs.Outcomes.{coding}
@@ -39,10 +39,10 @@ placeable f ok =
     }
 
 pub rank-bijection : (f : LongParams) → Served f → RankBijection (coding f)
-rank-bijection f ok = Any.rank-bijection (coding f) (placeable f ok)
+rank-bijection f ok = AnyRanking.rank-bijection (coding f) (placeable f ok)
 
 pub covers-least : (f : LongParams) → Served f → (worn : ℕ → Bool) → CoversLeast (coding f) worn
-covers-least f ok = Any.covers-least (coding f) (placeable f ok)
+covers-least f ok = AnyRanking.covers-least (coding f) (placeable f ok)
 
 -- the placement of a rank is the burst that starts there
 pub start-ranked : (f : LongParams) → Served f → (s : ℕ) → s + f.b ≤ f.n → placement_of f s ≡ s ∷ []

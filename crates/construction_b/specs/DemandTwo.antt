@@ -5,7 +5,7 @@ use Rattle.std.proofs.Math.Option.{Option, none, some}
 use Rattle.refusals.specs.Refusals.{no_pattern, value_too_large, disagrees, erased, pattern_refusals}
 use Rattle.cells.specs.Cells.{message, pick}
 use Rattle.cells.specs.Codec.{Codec, burst_codec}
-use Rattle.cells.specs.Codec as Any
+use Rattle.cells.specs.Codec as AnyCodec
 use Rattle.cells.specs.Erasures.{has_erasure}
 use Rattle.construction_b.specs.Figures.{LongParams, in_range, fits, is_placement, part_len, message_len_of}
 use Rattle.construction_b.specs.Writing.{plan, word}
@@ -41,7 +41,7 @@ pub data Listed (f : LongParams) (w : List ℕ) : ℕ → Type 0 where
   erased-message : (i s : ℕ) → StartRead f w i s → has_erasure f.q (pick message (plan f s) w) ≡ true → Listed f w erased
 
 abbrev pub ReadsExactly : LongParams → Type 0
-ReadsExactly f = Any.ReadsExactly (construction_b f) (Listed f)
+ReadsExactly f = AnyCodec.ReadsExactly (construction_b f) (Listed f)
 
 -- for all figures that fit
 abbrev pub DemandTwo : Type 0

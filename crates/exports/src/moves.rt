@@ -2,7 +2,7 @@
 ghost use Rattle.std.specs.Prelude.{◌≡◌};
 ghost use Rattle.cells.specs.Outcomes.{unwritten};
 ghost use Rattle.cells.specs.Figures.{params};
-ghost use Rattle.lent_moving.specs.Moves.{to_construction_aBytes, to_larsson_bytes};
+ghost use Rattle.lent_moving.specs.Moves.{to_construction_a_bytes, to_larsson_bytes};
 
 use params::Params;
 
@@ -18,7 +18,7 @@ pub extern "C" fn burgzemi_move_to_a(
     older: &[u8],
     newer: &mut [u8],
 ) -> u8
-    ensures { unwritten newer.new result ≡ to_construction_aBytes (params n q m b) table.now older.now newer.old }
+    ensures { unwritten newer.new result ≡ to_construction_a_bytes (params n q m b) table.now older.now newer.old }
 {
     lent_moving::move_to_a(Params { n, q, m, b }, table, older, newer)
 }

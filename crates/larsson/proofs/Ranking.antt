@@ -5,7 +5,7 @@ use mathlib.Core.Bool.{Bool}
 use Prim.Native.Nat.{ℕ}
 use Rattle.cells.specs.Ranking.{CoversLeast}
 use Rattle.cells.proofs.Ranking.{Placeable}
-use Rattle.cells.proofs.Ranking as Any
+use Rattle.cells.proofs.Ranking as AnyRanking
 use Rattle.cells.specs.Figures.{Params}
 use Rattle.cells.proofs.Figures.{placed-starts, starts-placed}
 use Rattle.larsson.specs.Outcomes.{coding}
@@ -18,13 +18,13 @@ placeable f ok =
     record { long = ok.range.b-least; total = ok.total; count-is = refl; starts = placed-starts f; placed = starts-placed f }
 
 pub covers-least : (f : Params) → Served f → (worn : ℕ → Bool) → CoversLeast (coding f) worn
-covers-least f ok = Any.covers-least (coding f) (placeable f ok)
+covers-least f ok = AnyRanking.covers-least (coding f) (placeable f ok)
 
 pub faithful : AllFaithful
 faithful f i h =
     let ok = serve f i h in
     record {
-      ranks = Any.rank-bijection (coding f) (placeable f ok);
+      ranks = AnyRanking.rank-bijection (coding f) (placeable f ok);
       rank-symbols = record { serves = rank_room f ok.range ok.total; least = rank-least f };
       spacing = record {
         at-start = sub-first f;

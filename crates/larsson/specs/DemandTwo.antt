@@ -4,7 +4,7 @@ use Rattle.std.specs.Prelude.{◌≡◌, true, false, List, ℕ, ◌≤◌, ◌<
 use Rattle.refusals.specs.Refusals.{value_too_large, disagrees, erased, no_majority, majority_refusals}
 use Rattle.cells.specs.Cells.{message, pick}
 use Rattle.cells.specs.Codec.{Codec, burst_codec}
-use Rattle.cells.specs.Codec as Any
+use Rattle.cells.specs.Codec as AnyCodec
 use Rattle.cells.specs.Erasures.{has_erasure}
 use Rattle.cells.specs.Figures.{Params, in_range, is_placement, placement_count_of, placement_of}
 use Rattle.larsson.specs.Figures.{fits, message_len_of}
@@ -23,7 +23,7 @@ pub data Listed (f : Params) (w : List ℕ) : ℕ → Type 0 where
       → has_erasure f.q (pick message (plan f (placement_of f v)) w) ≡ true → Listed f w erased
 
 abbrev pub ReadsExactly : Params → Type 0
-ReadsExactly f = Any.ReadsExactly (larsson f) (Listed f)
+ReadsExactly f = AnyCodec.ReadsExactly (larsson f) (Listed f)
 
 -- for all figures that fit
 abbrev pub DemandTwo : Type 0

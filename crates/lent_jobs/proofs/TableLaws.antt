@@ -12,7 +12,7 @@ use lib.ListN.{length, get_or, take, drop, set, replicate, length-set, length-ap
 use lib.Seq.{drop-length, take_all, take_at, take-suc, take-suc-set, length-take-le}
 use Rattle.combinatorics.specs.Lists.{all_below}
 use Rattle.combinatorics.specs.Stretch.{tabulate}
-use Rattle.combinatorics.proofs.Cases.{eqb_same, eqb-other, leb-holds, leb-fails}
+use Rattle.combinatorics.proofs.Cases.{eqb-other, leb-holds, leb-fails}
 use Rattle.combinatorics.proofs.Lists.{all-fails, all-later, all-over}
 use Rattle.combinatorics.proofs.Members.{length-tabulate, tabulate-at}
 use Rattle.cells.specs.Bytes.{byte_values}

@@ -1,5 +1,5 @@
 -- Laws of a job with a table in bytes: the refusals before its own. Assumes nothing.
-use mathlib.Core.Path.{◌≡◌, sym, ap₂}
+use mathlib.Core.Path.{◌≡◌, sym}
 use mathlib.Core.Logic.{◌≢◌}
 use mathlib.Core.Bool.{Bool, true, false, not, ◌&&◌}
 use mathlib.Core.List.{List, []}
@@ -11,7 +11,7 @@ use Rattle.refusals.specs.Refusals.{must, invalid, unfit, wrong_length, bad_payl
 use Rattle.combinatorics.proofs.Cases.{by_bool, eqb_same, eqb-other, leb-holds, leb-fails}
 use Rattle.cells.specs.Bytes.{payload_len}
 use Rattle.cells.specs.Figures.{max_bursts}
-use Rattle.cells.specs.Outcomes.{Coding, Held, held, unserved, figures_under, Encoded, unwritten}
+use Rattle.cells.specs.Outcomes.{Coding, Held, held, unserved, figures_under}
 use Rattle.cells.proofs.Outcomes.{refused-alike}
 use Rattle.codes.specs.declared.Figures.{Figures}
 use Rattle.codes.specs.Bridge.{coding_of}

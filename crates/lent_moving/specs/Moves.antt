@@ -21,8 +21,8 @@ move_bytes_under d e table w out =
     (move_under d e (table_in table) w out))))
 
 -- "A job read from an older strip should be written as a Construction A strip"
-abbrev pub to_construction_aBytes : Params → List ℕ → List ℕ → List ℕ → Encoded
-to_construction_aBytes f = move_bytes_under (coding_larsson f) (coding_a f)
+abbrev pub to_construction_a_bytes : Params → List ℕ → List ℕ → List ℕ → Encoded
+to_construction_a_bytes f = move_bytes_under (coding_larsson f) (coding_a f)
 
 -- "and moved back when an old edger needs it"
 abbrev pub to_larsson_bytes : Params → List ℕ → List ℕ → List ℕ → Encoded

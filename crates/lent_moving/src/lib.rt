@@ -6,7 +6,7 @@ ghost use Rattle.std.specs.Prelude.{◌≡◌};
 ghost use Rattle.cells.specs.Outcomes.{unwritten};
 ghost use Rattle.codes.specs.Bridge.{coding_of};
 ghost use Rattle.params.specs.Bridge.{given};
-ghost use Rattle.lent_moving.specs.Moves.{move_bytes_under, to_construction_aBytes, to_larsson_bytes};
+ghost use Rattle.lent_moving.specs.Moves.{move_bytes_under, to_construction_a_bytes, to_larsson_bytes};
 ghost use Rattle.lent_moving.specs.Given.{move_without_table};
 
 use codes::Figures;
@@ -33,7 +33,7 @@ pub fn move_strip(from: Figures, to: Figures, table: &[u8], strip: &[u8], moved:
 
 // To Construction A. Refusals: 1 2 10 3 4 21 8 9 19 10, 12 23 14, 22, 17.
 pub fn move_to_a(figures: Params, table: &[u8], strip: &[u8], moved: &mut [u8]) -> u8
-    ensures { unwritten moved.new result ≡ to_construction_aBytes (given figures) table.now strip.now moved.old }
+    ensures { unwritten moved.new result ≡ to_construction_a_bytes (given figures) table.now strip.now moved.old }
 {
     let from = Figures::Larsson(figures);
     move_strip(from, Figures::Ranked(figures), table, strip, moved)
