@@ -5,14 +5,13 @@
 set -euo pipefail
 cd "$(dirname "${BASH_SOURCE[0]}")"
 root=$(cd .. && pwd)
-rt=${RT:-rt}
 
 if [ -z "${BURGZEMI_LIB:-}" ]; then
-    (cd "$root" && "$rt" staticlib exports)
+    "$root/.ci/made" exports
     BURGZEMI_LIB=$root/target/staticlib
 fi
 if [ -z "${BURGZEMI_PROGRAM:-}" ]; then
-    (cd "$root" && "$rt" check burgzemi)
+    "$root/.ci/made" burgzemi
     BURGZEMI_PROGRAM=$root/target/bin/burgzemi
 fi
 export BURGZEMI_LIB BURGZEMI_PROGRAM

@@ -6,22 +6,8 @@ root=$(dirname "$here")
 
 command -v cargo > /dev/null || { echo "desk: cargo is not on the path" >&2; exit 1; }
 
-# prove: makes the archive, unless it is newer than every file that it is proved from
-prove() {
-    local archive=$root/target/staticlib/libexports.a log=$root/target/desk.log
-    if [ -f "$archive" ] && [ -z "$(find "$root/crates" "$root/crates.txt" -newer "$archive" -type f -print -quit)" ]; then
-        return
-    fi
-    command -v rt > /dev/null || { echo "desk: rt, of the Rattle kit, is not on the path" >&2; exit 1; }
-    echo "proving the library that the desk stands on (minutes the first time)" >&2
-    mkdir -p "$root/target"
-    (cd "$root" && rt staticlib exports 2>&1 | .ci/progress exports "$log") || { tail -n 20 "$log" >&2; exit 1; }
-    # newer than its sources from now on, also where rt had nothing to do
-    touch "$archive"
-}
-
 if [ -z "${BURGZEMI_LIB:-}" ]; then
-    prove
+    "$root/.ci/made" exports
     BURGZEMI_LIB=$root/target/staticlib
 fi
 [ -f "$BURGZEMI_LIB/libexports.a" ] || { echo "desk: BURGZEMI_LIB is $BURGZEMI_LIB, where no libexports.a is" >&2; exit 1; }

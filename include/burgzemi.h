@@ -1,5 +1,5 @@
 /*
- * Burgzemi's functions for C and other languages, proved. Link with target/staticlib/libexports.a, made by `rt staticlib exports`.
+ * Burgzemi's functions for C and other languages, proved. Link with target/staticlib/libexports.a, made by `.ci/made exports`.
  *
  * A strip carries a word of symbols. Some stretches of the strip are worn: the bursts. The writer is told where they are. The reader is not: it finds them
  * by the word itself, and what the worn cells hold makes no difference. Three codes do this. Construction A has up to 8 bursts. Construction B has one

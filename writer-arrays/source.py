@@ -93,8 +93,15 @@ class Module:
         raise Unknown(f"{'::'.join(self.path)}: an item that begins with '{word}'")
 
     def use(self, words):
-        if "as" in words or "*" in words or "{" in words:
+        """Takes up an import, and each of those that stand between braces."""
+        if "as" in words or "*" in words:
             raise Unknown(f"{'::'.join(self.path)}: use {' '.join(words)}")
+        if words[-1] == "}":
+            start = words.index("{")
+            for part in split(words[start + 1 : -1], ","):
+                if part:
+                    self.use([*words[:start], *part])
+            return
         path = [w for w in words if w != "::"]
         self.uses[path[-1]] = path
 

@@ -8,7 +8,7 @@ const LIBRARY: &str = "libexports.a";
 fn main() {
     println!("cargo:rerun-if-env-changed={FOLDER}");
     let Ok(folder) = std::env::var(FOLDER) else {
-        panic!("{FOLDER} must name the folder of {LIBRARY}, which `rt staticlib exports` writes");
+        panic!("{FOLDER} must name the folder of {LIBRARY}, which `.ci/made exports` writes");
     };
     let library = Path::new(&folder).join(LIBRARY);
     assert!(library.is_file(), "no {LIBRARY} in {folder}");

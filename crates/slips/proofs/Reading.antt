@@ -8,7 +8,7 @@ use Rattle.decoder.proofs.Calls.{decode-read}
 use Rattle.codes.specs.Bridge.{coding_of}
 use Rattle.codes.specs.declared.Figures.{Figures}
 use Rattle.codes.proofs.Exact.{demand-two}
-use Rattle.slips.specs.Reading.{Slipped, ReadsBoth, ReadsSlipped}
+use Rattle.slips.specs.Reading.{ReadsSlipped}
 use Rattle.slips.specs.Slips.{kind_under, Stays}
 use Rattle.slips.proofs.Slips.{found, digits_of, planned, slips-stay-in}
 

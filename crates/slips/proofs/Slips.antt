@@ -7,7 +7,7 @@ use native.Mathlib.Omega.{arith}
 use lib.Dec.{eqb}
 use lib.ListN.{length, get_or, length-map}
 use Rattle.combinatorics.specs.Bursts.{in_burst}
-use Rattle.combinatorics.specs.Stretch.{count, members, tabulate}
+use Rattle.combinatorics.specs.Stretch.{members, tabulate}
 use Rattle.combinatorics.proofs.Cases.{by_bool, eqb_same}
 use Rattle.combinatorics.proofs.Lists.{below_at, some_below, at-below}
 use Rattle.combinatorics.proofs.Stretch.{members-ext}

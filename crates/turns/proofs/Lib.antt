@@ -3,7 +3,6 @@ pub mod Cut
 pub mod Pieces
 pub mod Serving
 pub mod Knowing
-pub mod After
 pub mod Views
 pub mod Kept
 pub mod Printing

@@ -1,5 +1,5 @@
 -- `run` meets its contract: the state of every turn is that at the end of a trace of the core. Assumes nothing.
-use Rattle.std.proofs.Common.{◌≡◌, sym, ◌∙◌, arith, rules}
+use Rattle.std.proofs.Common.{sym, ◌∙◌, rules}
 use mir.Syntax.{w32}
 use mir.Val.{to_z, of_z}
 use Rattle.burgzemi.proofs.Going.{Answered, begun-going, read-came, read-failed, write-answered, ok-holds, turn-less, turn-going, served}

@@ -1,7 +1,7 @@
 -- `to_front` meets its contract: the first i bytes of what is moved stand at the front. Assumes nothing.
 use Rattle.std.proofs.Common.{◌-◌, arith}
 use Rattle.text.proofs.Line.{put-none}
-use Rattle.turns.proofs.Front.{front-room, front-turn, front-all}
+use Rattle.turns.proofs.Front.{front-turn, front-all}
 use Rattle.turns.proofs.to_front.Goals as goal
 
 pub loop-i-init : goal.loop-i-init

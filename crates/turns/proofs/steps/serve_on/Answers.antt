@@ -1,5 +1,5 @@
 -- `serve_on` meets its contract: what is to be done from the state of each turn on is what was to be done from the first. Assumes nothing.
-use Rattle.std.proofs.Common.{◌≡◌, refl, sym, ap, subst, ◌∙◌, true, false, ◌-◌, ◌<◌, length, rules}
+use Rattle.std.proofs.Common.{◌≡◌, refl, sym, ap, subst, ◌∙◌, true, ◌-◌, ◌<◌, length, rules}
 use Rattle.records.specs.Records.{needed_for}
 use Rattle.records.specs.Bridge.{session_of}
 use Rattle.turns.specs.View.{View, ready_at, is_servable, step_for, served_out, advance_out}
