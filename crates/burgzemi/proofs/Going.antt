@@ -124,15 +124,16 @@ module _ {s : State} {input output : List ℕ} {had has held holds : Option (Lis
     read-failed error is h =
         read-answered (negsuc 0) error (omega arith) is (failed-carries s (view_of s input output) error bytes has has' holds h)
 
-  pub write-answered : {w : Wants} → w ≡ wants_at s.gathered s.phase → w ≡ Write → (b : Bool) (next : List ℕ) (q : State) (holds' : Option (List ℕ))
-      → q ≡ after_write s b → next ≡ input → (b ≡ true → Appends holds holds' (take s.gathered output))
+  pub write-answered : {w : Wants} → w ≡ wants_at s.gathered s.phase → w ≡ Write → (b : Bool) (next : List ℕ) (q : State)
+      (holds' : Option (List ℕ)) → q ≡ after_write s b → next ≡ input → (b ≡ true → Appends holds holds' (take s.gathered output))
       → Answered s q input next output has has holds holds'
   write-answered {w} e r b next q holds' is same h =
       let want : wants_of (view_of s input output) ≡ Write = wanted w e ∙ r in
       record {
         event = cond b written unwritten;
         fits = subst (λ (x : Wants). Answers x (cond b written unwritten)) (sym want) (written-fits b);
-        view = ap (λ (x : State). view_of x next output) is ∙ ap (λ (x : List ℕ). view_of (after_write s b) x output) same ∙ view-written s input output b;
+        view = ap (λ (x : State). view_of x next output) is ∙ ap (λ (x : List ℕ). view_of (after_write s b) x output) same
+            ∙ view-written s input output b;
         within = subst WithinBuffers (sym is) (write-within s b g.within);
         size = ap length same ∙ g.buffers.0;
         less = omega (arith, write-less (view_of s input output) rests short b want, ap (λ (x : State). x.repeats) is);
@@ -140,8 +141,9 @@ module _ {s : State} {input output : List ℕ} {had has held holds : Option (Lis
       }
 
   -- .. and the core goes on
-  module _ {q : State} (r : State) {next : List ℕ} (after shown : List ℕ) {has' holds' : Option (List ℕ)} (a : Answered s q input next output has has' holds holds')
-      (v : view_of r after shown ≡ advance_out (view_of q next output)) (same : r.repeats ≡ q.repeats) where
+  module _ {q : State} (r : State) {next : List ℕ} (after shown : List ℕ) {has' holds' : Option (List ℕ)}
+      (a : Answered s q input next output has has' holds holds') (v : view_of r after shown ≡ advance_out (view_of q next output))
+      (same : r.repeats ≡ q.repeats) where
     stepped : view_of r after shown ≡ advance_out (after_event (view_of s input output) a.event)
     stepped = v ∙ ap advance_out a.view
 

@@ -6,7 +6,7 @@ use Prim.Native.Nat.{ℕ, zero, suc, ◌<◌}
 use native.Mathlib.Omega.{arith}
 use lib.IntN.{ℤ, pos, negsuc}
 use lib.ListN.{length, take, length-append}
-use Rattle.std.specs.Prelude.{◌≢◌, IfSome}
+use Rattle.std.specs.Prelude.{IfSome}
 use Rattle.std.specs.Io.KnownBytes.{Consumes, Appends, IsAtEnd, Keeps}
 use Rattle.std.specs.declared.option.Option.{Option}
 use Rattle.std.specs.declared.option.Option.TheVariants.{None, Some}
@@ -76,11 +76,28 @@ pub record Known (es : List Event) (had has held holds : Option (List ℕ)) : Ty
 pub begun-known : (r w : Option (List ℕ)) → Known [] r r w w
 begun-known r w = record { read = consumes-none r; end = λ e. absurd (false≢true e); wrote = λ _. appends-none w }
 
+-- a read that comes to the end, and all but a write that fails
+abbrev pub closes : Event → Bool
+closes (came bytes) = false
+closes ended = true
+closes interrupted = false
+closes failed = false
+closes written = false
+closes unwritten = false
+
+abbrev pub takes : Event → Bool
+takes (came bytes) = true
+takes ended = true
+takes interrupted = true
+takes failed = true
+takes written = true
+takes unwritten = false
+
 -- what one event does, where it is an answer to the wants of this view
 pub record Carried (e : Event) (v : View) (has has' holds holds' : Option (List ℕ)) : Type 0 where
   pub read : Consumes has has' (brought_by e)
-  pub end : e ≡ ended → IsAtEnd has'
-  pub wrote : (e ≢ unwritten) → Appends holds holds' (handed_by v e)
+  pub end : closes e ≡ true → IsAtEnd has'
+  pub wrote : takes e ≡ true → Appends holds holds' (handed_by v e)
 
 module _ (es : List Event) (had has has' held holds holds' : Option (List ℕ)) (k : Known es had has held holds) where
   pub known-then : (e : Event) → Carried e (view_after es) has has' holds holds' → Known (e ∷ es) had has' held holds'
@@ -100,11 +117,11 @@ module _ (es : List Event) (had has has' held holds holds' : Option (List ℕ)) 
 
       wrotes : (e : Event) → Carried e (view_after es) has has' holds holds' → all_taken (e ∷ es) ≡ true
           → Appends held holds' (handed es ++ handed_by (view_after es) e)
-      wrotes (came bytes) c t = appends-then held holds holds' (handed es) [] (k.wrote t) (c.wrote (λ (f : came bytes ≡ unwritten). let z : ◌≡◌ {A = ℕ} 0 1 = cc in absurd (omega arith)))
-      wrotes ended c t = appends-then held holds holds' (handed es) [] (k.wrote t) (c.wrote (λ (f : ended ≡ unwritten). let z : ◌≡◌ {A = ℕ} 0 1 = cc in absurd (omega arith)))
-      wrotes interrupted c t = appends-then held holds holds' (handed es) [] (k.wrote t) (c.wrote (λ (f : interrupted ≡ unwritten). let z : ◌≡◌ {A = ℕ} 0 1 = cc in absurd (omega arith)))
-      wrotes failed c t = appends-then held holds holds' (handed es) [] (k.wrote t) (c.wrote (λ (f : failed ≡ unwritten). let z : ◌≡◌ {A = ℕ} 0 1 = cc in absurd (omega arith)))
-      wrotes written c t = appends-then held holds holds' (handed es) (view_after es).gathered (k.wrote t) (c.wrote (λ (f : written ≡ unwritten). let z : ◌≡◌ {A = ℕ} 0 1 = cc in absurd (omega arith)))
+      wrotes (came bytes) c t = appends-then held holds holds' (handed es) [] (k.wrote t) (c.wrote refl)
+      wrotes ended c t = appends-then held holds holds' (handed es) [] (k.wrote t) (c.wrote refl)
+      wrotes interrupted c t = appends-then held holds holds' (handed es) [] (k.wrote t) (c.wrote refl)
+      wrotes failed c t = appends-then held holds holds' (handed es) [] (k.wrote t) (c.wrote refl)
+      wrotes written c t = appends-then held holds holds' (handed es) (view_after es).gathered (k.wrote t) (c.wrote refl)
       wrotes unwritten c t = absurd (false≢true t)
 
 -- ---- What a read and a write do
@@ -116,7 +133,7 @@ module _ (s : State) (v : View) (error : ℤ) (bytes : List ℕ) (has has' holds
   read-carries (suc c) some h =
       rw (eqb-other (suc c) 0 (λ e. omega arith)) (record {
         read = h.0;
-        end = λ (f : came (take (suc c) bytes) ≡ ended). let z : ◌≡◌ {A = ℕ} 0 1 = cc in absurd (omega arith);
+        end = λ f. absurd (false≢true f);
         wrote = λ _. appends-none holds;
       })
 
@@ -124,14 +141,14 @@ module _ (s : State) (v : View) (error : ℤ) (bytes : List ℕ) (has has' holds
   failed-carries h = go (is_repeated s error)
     where
       go : (b : Bool) → Carried (cond b interrupted failed) v has has' holds holds
-      go true = record { read = keeps-none has has' h; end = λ (f : interrupted ≡ ended). let z : ◌≡◌ {A = ℕ} 0 1 = cc in absurd (omega arith); wrote = λ _. appends-none holds }
-      go false = record { read = keeps-none has has' h; end = λ (f : failed ≡ ended). let z : ◌≡◌ {A = ℕ} 0 1 = cc in absurd (omega arith); wrote = λ _. appends-none holds }
+      go true = record { read = keeps-none has has' h; end = λ f. absurd (false≢true f); wrote = λ _. appends-none holds }
+      go false = record { read = keeps-none has has' h; end = λ f. absurd (false≢true f); wrote = λ _. appends-none holds }
 
 pub write-carries : (v : View) (b : Bool) (has holds holds' : Option (List ℕ)) → (b ≡ true → Appends holds holds' v.gathered)
     → Carried (cond b written unwritten) v has has holds holds'
-write-carries v true has holds holds' h = record { read = consumes-none has; end = λ (f : written ≡ ended). let z : ◌≡◌ {A = ℕ} 0 1 = cc in absurd (omega arith); wrote = λ _. h refl }
+write-carries v true has holds holds' h = record { read = consumes-none has; end = λ f. absurd (false≢true f); wrote = λ _. h refl }
 write-carries v false has holds holds' h =
-    record { read = consumes-none has; end = λ (f : unwritten ≡ ended). let z : ◌≡◌ {A = ℕ} 0 1 = cc in absurd (omega arith); wrote = λ n. absurd (n refl) }
+    record { read = consumes-none has; end = λ f. absurd (false≢true f); wrote = λ f. absurd (false≢true f) }
 
 -- ---- At the stop
 
@@ -161,7 +178,9 @@ module _ (es : List Event) (trace : IsTrace es) (stops : wants_of (view_after es
 
   printed-part : has_failed es ≡ true → handed es ≡ printed_unread (brought es)
   unfolding printed_unread
-  printed-part f = (trace-prints es trace [] stop_line (comes-unread es f)).whole stops taken ∙ ap (λ (l : List ℕ). printed_to stop_line l) (append-nil (brought es))
+  printed-part f =
+      (trace-prints es trace [] stop_line (comes-unread es f)).whole stops taken
+      ∙ ap (λ (l : List ℕ). printed_to stop_line l) (append-nil (brought es))
 
   module _ (had has held holds : Option (List ℕ)) (k : Known es had has held holds) where
     pub prints-whole : has_failed es ≡ false → IfSome had (λ (bytes : List ℕ). Appends held holds (printed bytes))

@@ -30,8 +30,8 @@ fn buffer() -> [u8; 65536]
     [0; 65536]
 }
 
-// Answers the state in which it stops. The contract speaks of what the system answered, and can't say that these calls were made: that is to be read here
-// (docs/PROMISES.md).
+// Answers the state in which it stops. What it read and wrote is as the contract says where the reader and the writer say which bytes they have; those of the
+// system do not (docs/PROMISES.md).
 fn run<R: Read, W: Write>(
     reader: &mut R,
     writer: &mut W,
