@@ -1,0 +1,38 @@
+// Moving a job between the older strips and Construction A for C. Assumes nothing.
+ghost use Rattle.std.specs.Prelude.{◌≡◌};
+ghost use Rattle.cells.specs.Outcomes.{unwritten};
+ghost use Rattle.cells.specs.Figures.{params};
+ghost use Rattle.lent_moving.specs.Moves.{to_construction_a_bytes, to_larsson_bytes};
+
+// Moves the job of an older strip, which the table has open, to a strip of Construction A with the same figures and placement.
+// Refusals: 1 2 10 3 4 21 8 9 19 10, 12 23 14, 22, 17.
+#[unsafe(no_mangle)]
+pub extern "C" fn burgzemi_move_to_a(
+    n: u32,
+    q: u32,
+    m: u32,
+    b: u32,
+    table: &[u8],
+    older: &[u8],
+    newer: &mut [u8],
+) -> u8
+    ensures { unwritten newer.new result ≡ to_construction_a_bytes (params n q m b) table.now older.now newer.old }
+{
+    exports::moves::burgzemi_move_to_a(n, q, m, b, table, older, newer)
+}
+
+// Moves the job of a strip of Construction A back to an older one. Refusals: 1 2 10 3 4 7 19 8 9 19 10, 12 23 14, 22, 17.
+#[unsafe(no_mangle)]
+pub extern "C" fn burgzemi_move_to_larsson(
+    n: u32,
+    q: u32,
+    m: u32,
+    b: u32,
+    table: &[u8],
+    newer: &[u8],
+    older: &mut [u8],
+) -> u8
+    ensures { unwritten older.new result ≡ to_larsson_bytes (params n q m b) table.now newer.now older.old }
+{
+    exports::moves::burgzemi_move_to_larsson(n, q, m, b, table, newer, older)
+}
