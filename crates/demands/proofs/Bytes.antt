@@ -5,7 +5,7 @@ use mathlib.Core.List.{List, [], ◌∷◌}
 use Prim.Native.Nat.{ℕ, ◌*◌}
 use lib.Dec.{eqb}
 use lib.ListN.{length}
-use Rattle.refusals.specs.Refusals.{must, served, invalid, wrong_length}
+use Rattle.refusals.specs.Refusals.{served, invalid, wrong_length}
 use Rattle.combinatorics.specs.Lists.{all, any}
 use Rattle.cells.specs.Outcomes.{Coding, Held, held, unwritten, cover_under}
 use Rattle.cells.specs.Outcomes.{WordAnswer, rank_is, refusal, answer_number, decode_under}
@@ -19,7 +19,7 @@ use Rattle.lent_jobs.specs.Jobs.{job_write_bytes_under, job_read_bytes_under}
 use Rattle.lent.specs.Words.{encode_bytes_under}
 use Rattle.lent_jobs.specs.Table.{table_len, states_known, table_in}
 use Rattle.lent.specs.Check.{verify_bytes_under}
-use Rattle.lent_jobs.specs.Calls.{CallLent, called, called_as, call_bytes_out}
+use Rattle.lent_jobs.specs.Calls.{CallLent, called_as, call_bytes_out}
 use Rattle.lent.specs.Figures.{FiguresLent, figures_lent_under}
 use Rattle.demands.specs.Orders.{word_write, covering, job_write, call, call_on_bytes, lent_figures}
 use Rattle.demands.proofs.Answering.{keep, done, tested, Owns, Begins, BeginsJob}

@@ -4,8 +4,6 @@ use mathlib.Core.Bool.{true}
 use mathlib.Core.List.{List}
 use Prim.Native.Nat.{ℕ}
 use Rattle.cells.specs.Ranking.{CoversLeast}
-use Rattle.cells.specs.Figures.{in_range}
-use Rattle.construction_a.specs.Figures.{fits}
 use Rattle.cells.specs.Outcomes.{defect_at}
 use Rattle.codes.specs.declared.Figures.{Figures}
 use Rattle.codes.specs.declared.Figures.TheVariants.{Ranked, Long, Larsson}

@@ -10,8 +10,6 @@ use Rattle.refusals.specs.Refusals.{served}
 use Rattle.combinatorics.specs.Lists.{all, any, all_below}
 use Rattle.combinatorics.specs.Bursts.{apart}
 use Rattle.cells.specs.Bytes.{payload_len}
-use Rattle.cells.specs.Erasures.{found_bound}
-use Rattle.construction_a.specs.Figures.{message_len_of}
 use Rattle.cells.specs.Outcomes.{Coding, Held, in_use, unwritten}
 use Rattle.jobs.specs.declared.Entry.{Entry}
 use Rattle.jobs.specs.declared.Entry.TheVariants.{Free, Open, OnHold, Cancelled}

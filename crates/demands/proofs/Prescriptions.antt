@@ -12,7 +12,6 @@ use Rattle.refusals.specs.Refusals.{served, wrong_length, bad_prescription}
 use Rattle.combinatorics.specs.Bursts.{apart}
 use Rattle.combinatorics.specs.Lists.{all, any, all_below}
 use Rattle.cells.specs.Bytes.{payload_len}
-use Rattle.cells.specs.Erasures.{found_bound}
 use Rattle.cells.specs.Outcomes.{Coding, Held, in_use, unwritten}
 use Rattle.jobs.specs.declared.Entry.{Entry}
 use Rattle.jobs.specs.Jobs.{is_job}

@@ -11,8 +11,6 @@ use Rattle.refusals.specs.Refusals.{must, served, invalid, unfit}
 use Rattle.combinatorics.specs.Lists.{any}
 use Rattle.combinatorics.proofs.Lists.{in_all, both}
 use Rattle.combinatorics.proofs.Cases.{by-eq, eqb-true, eqb-other}
-use Rattle.cells.specs.Figures.{in_range}
-use Rattle.construction_a.specs.Figures.{fits, message_len_of}
 use Rattle.cells.specs.Outcomes.{FiguresOut, figures_under}
 use Rattle.codes.specs.declared.Figures.{Figures}
 use Rattle.codes.specs.Bridge.{coding_of}

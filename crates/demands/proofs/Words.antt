@@ -9,11 +9,8 @@ use lib.ListN.{length}
 use Rattle.refusals.specs.Refusals.{served}
 use Rattle.combinatorics.specs.Lists.{all, any, all_below}
 use Rattle.combinatorics.specs.Bursts.{apart, cover_rank}
-use Rattle.cells.specs.Erasures.{found_bound}
-use Rattle.cells.specs.Figures.{in_range}
-use Rattle.construction_a.specs.Figures.{fits, message_len_of}
 use Rattle.cells.specs.Outcomes.{Coding, Held, held, in_use, FiguresOut, figures_number, figures_under, encode_under, defect_at, Covered, cover_under}
-use Rattle.cells.specs.Outcomes.{refusal, answer_number, Decoded, decoded_from, decode_under}
+use Rattle.cells.specs.Outcomes.{answer_number, Decoded, decoded_from, decode_under}
 use Rattle.jobcodec.specs.DemandThree.{is_refusal}
 use Rattle.lanes.specs.Interleaving.{in_depth, interleaved, deinterleaved}
 use Rattle.lanes.specs.Outcomes.{Rearranged, rearranged, interleave_under, deinterleave_under}
