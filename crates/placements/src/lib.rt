@@ -88,13 +88,11 @@ impl Placement {
         };
         let mut below = (n - m * b + m) as u64;
         let mut left = rank;
-        let mut i = m as usize;
-        while 0 < i {
-            let number = i as u64;
-            let last = last_burst(below, number, left);
+        for i in (0..m as usize).rev() {
+            let before = i as u64;
+            let last = last_burst(below, before + 1, left);
             left -= last.share;
-            i -= 1;
-            let start = last.reduced + (number - 1) * gap;
+            let start = last.reduced + before * gap;
             found.starts[i] = start as u16;
             below = last.reduced;
         }
@@ -169,9 +167,7 @@ fn least_cover(n: usize, m: usize, b: usize, map: &[u8]) -> Result<Placement, Re
     };
     let mut start = n;
     let mut end = last_end(map, start);
-    let mut i = m;
-    while 0 < i {
-        i -= 1;
+    for i in (0..m).rev() {
         start = burst_start(end, b, i * b);
         found.starts[i] = start as u16;
         // A defect that lies left of the burst anyway was found before.
@@ -191,13 +187,10 @@ fn last_end(map: &[u8], below: usize) -> usize
     requires { below ≤ length map.now }
     ensures { result ≡ last_end (defect_at map.now) below }
 {
-    let mut end = below;
-    while 0 < end {
-        let last = end - 1;
-        if map[last] == 1 {
-            return end;
+    for x in (0..below).rev() {
+        if map[x] == 1 {
+            return x + 1;
         }
-        end = last;
     }
     0
 }
