@@ -4,7 +4,7 @@ use mathlib.Core.Option.{Option, none, some, none-ne-some}
 use Rattle.std.specs.Prelude.{Some, Option as Optional}
 use lib.Ieee.{Float, fin, binary64, unlike, round, neg, add, mul, fits}
 use lib.Ieee.Exact.{HasValue}
-use Rattle.refusals.specs.Refusals.{must, bad_prescription}
+use Rattle.refusals.specs.Refusals.{must}
 use Rattle.prescription.specs.declared.eyes.Eye.{Eye}
 use Rattle.prescription.specs.declared.eyes.Eye.TheVariants.{Plano, Sphere, Toric}
 use Rattle.prescription.specs.declared.fields.StoredEye.{StoredEye}
@@ -12,7 +12,7 @@ use Rattle.prescription.specs.Fractions.{is_negative, fraction, count_of}
 use Rattle.prescription.specs.Lens.{Lens, plano, sphere, toric, keeps, turned, transposed, equivalent}
 use Rattle.prescription.specs.Eyes.{ruled, sphere_of, toric_of, lens_of, eye_of}
 use Rattle.prescription.specs.Counts.{stored_as, stored_of}
-use Rattle.prescription.specs.Outcomes.{answered, refused, or_refused, transpose_out, equivalent_out}
+use Rattle.prescription.specs.Outcomes.{answered, or_refused, transpose_out, equivalent_out}
 use Rattle.prescription.specs.Laws.{SameBits}
 use Rattle.prescription.proofs.Fractions.{Worth, worth-of-count, fraction-of-worth}
 use Rattle.prescription.proofs.Arithmetic.{add-worth, neg-fraction, mul-worth, finer}
@@ -21,14 +21,6 @@ use Rattle.prescription.proofs.Storing.{eighths, sum-within}
 use Rattle.prescription.proofs.Lenses.{toric-kept, sphere-kept, cylinder-in, transposed-keeps, transposed-back, sixteenths}
 
 -- ---- By what is stored of it
-
-pub refuses : {B : Type 0} (f : Lens → B) (o : Option Lens) → none ≡ stored_of o → refused bad_prescription ≡ or_refused f o
-refuses f none h = refl
-refuses f (some l) h = absurd (none-ne-some _ h)
-
-pub stays : {B : Type 0} (x : B) (o : Option Lens) (e : StoredEye) → some e ≡ stored_of o → answered x ≡ or_refused (λ _. x) o
-stays x none e h = absurd (none-ne-some e (sym h))
-stays x (some l) e h = refl
 
 pub record SphereIs (p : Float) : Type 0 where
   pub count : ℤ

@@ -25,13 +25,11 @@ fn size_of(x: f64, per: u16) -> Option<u16>
 {
     let parts = per as f64;
     let product = x * parts;
-    if product > -1.0 {
-        if product < 32768.0 {
-            let size = std::num::truncating_f64_to_u64(product) as u16;
-            let exact = (size as f64) / parts;
-            if f64::to_bits(exact) == f64::to_bits(x) {
-                return Some(size);
-            }
+    if product > -1.0 && product < 32768.0 {
+        let size = std::num::truncating_f64_to_u64(product) as u16;
+        let exact = (size as f64) / parts;
+        if exact.to_bits() == x.to_bits() {
+            return Some(size);
         }
     }
     None
@@ -41,9 +39,5 @@ fn size_of(x: f64, per: u16) -> Option<u16>
 pub fn power_of(bits: u16) -> f64
     ensures { result ≡ fraction 8 (count_in bits) }
 {
-    if bits < 32768 {
-        return (bits as f64) / 8.0;
-    }
-    let size = 65536 - (bits as u32);
-    -((size as f64) / 8.0)
+    f64::from(bits.cast_signed()) / 8.0
 }

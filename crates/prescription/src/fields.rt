@@ -94,10 +94,7 @@ fn toric_keeps(sphere: u16, sum: u16, cylinder: u16, axis: u8) -> bool
 fn in_range(bits: u16) -> bool
     ensures { result ≡ in_power_range (count_in bits) }
 {
-    if bits < 32768 {
-        return bits <= StoredEye::MAX_EIGHTHS;
-    }
-    65536 - (bits as u32) <= StoredEye::MAX_EIGHTHS as u32
+    bits.cast_signed().unsigned_abs() <= StoredEye::MAX_EIGHTHS
 }
 
 // The eye of four fields that keep the rules, otherwise 16.

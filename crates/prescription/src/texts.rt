@@ -84,7 +84,7 @@ fn with_distance(right: Eye, left: Eye, halves: u8) -> Result<Prescription, Refu
     Ok(Prescription {
         right,
         left,
-        pupil_distance: (halves as f64) / 2.0,
+        pupil_distance: f64::from(halves) / 2.0,
     })
 }
 
@@ -139,9 +139,7 @@ fn put_eye(text: &mut [u8], at: usize, eye: StoredEye)
     ensures { text.new ≡ with_eye text.old at eye }
 {
     text[at] = eye.kind;
-    text[at + 1] = (eye.sphere / 256) as u8;
-    text[at + 2] = (eye.sphere % 256) as u8;
-    text[at + 3] = (eye.cylinder / 256) as u8;
-    text[at + 4] = (eye.cylinder % 256) as u8;
+    text[at + 1..at + 3].copy_from_slice(&eye.sphere.to_be_bytes());
+    text[at + 3..at + 5].copy_from_slice(&eye.cylinder.to_be_bytes());
     text[at + 5] = eye.axis;
 }

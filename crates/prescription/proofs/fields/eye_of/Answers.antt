@@ -26,7 +26,7 @@ returns-then-stored-ne0 c =
     refused-in f (plano-in f (sym c.in_ok-kind.ensures ∙ ap byte_of c.in-Plano.is)
     ∙ must-not (eqb f.sphere 0 && eqb f.cylinder 0 && eqb f.axis 0) none (some plano)
     (elim c.then-stored-ne0.branch [
-      then-stored-ne0-via-then-stored-ne0 w ↦ no-first-of-three (eqb f.sphere 0) (eqb f.cylinder 0) (eqb f.axis 0) (eqb-other f.sphere 0 w.if-stored-ne0.true)
+      | then-stored-ne0-via-then-stored-ne0 w ↦ no-first-of-three (eqb f.sphere 0) (eqb f.cylinder 0) (eqb f.axis 0) (eqb-other f.sphere 0 w.if-stored-ne0.true)
       | then-stored-ne0-via-else-stored-ne0+then-stored-ne0-2 w ↦ ap (λ (t : Bool). t && eqb f.axis 0) (no_second (eqb f.sphere 0) (eqb f.cylinder 0) (eqb-other f.cylinder 0 w.if-stored-ne0-2.true))
       | then-stored-ne0-via-else-stored-ne0+else-stored-ne0-2+then-stored-ne0-3 w ↦ no_third (eqb f.sphere 0) (eqb f.cylinder 0) (eqb f.axis 0) (eqb-other f.axis 0 w.if-stored-ne0-3.true)
     ]))
@@ -46,7 +46,7 @@ returns-then-stored-ne0-4 c =
     refused-in f (sphere-in f (sym c.in_ok-kind.ensures ∙ ap byte_of c.in-Sphere.is)
     ∙ must-not (eqb f.cylinder 0 && eqb f.axis 0) none (ruled (sphere (count_in f.sphere)))
     (elim c.then-stored-ne0-4.branch [
-      then-stored-ne0-4-via-then-stored-ne0-4 w ↦ ap (λ (t : Bool). t && eqb f.axis 0) (eqb-other f.cylinder 0 w.if-stored-ne0-4.true)
+      | then-stored-ne0-4-via-then-stored-ne0-4 w ↦ ap (λ (t : Bool). t && eqb f.axis 0) (eqb-other f.cylinder 0 w.if-stored-ne0-4.true)
       | then-stored-ne0-4-via-else-stored-ne0-4+then-stored-ne0-5 w ↦ no_second (eqb f.cylinder 0) (eqb f.axis 0) (eqb-other f.axis 0 w.if-stored-ne0-5.true)
     ]))
 

@@ -25,7 +25,7 @@ returns-then-bits-eq0 c =
     sym (sphere-stored (count_of 8 c.args.power) u c.in_ok-bits.ensures
     ∙ must-not (in_power_range (count_in u) && not (eqb u 0)) none (some (fields 1 u 0 0))
     (elim c.then-bits-eq0.branch [
-      then-bits-eq0-via-then-bits-eq0 w ↦ no_second (in_power_range (count_in u)) (not (eqb u 0)) (ap not (eqb_same u 0 w.if-bits-eq0.true))
+      | then-bits-eq0-via-then-bits-eq0 w ↦ no_second (in_power_range (count_in u)) (not (eqb u 0)) (ap not (eqb_same u 0 w.if-bits-eq0.true))
       | then-bits-eq0-via-else-bits-eq0+then-not-in_range w ↦ ap (λ (t : Bool). t && not (eqb u 0)) (sym w.in_range.ensures ∙ w.if-not-in_range.true)
     ]))
 

@@ -7,7 +7,7 @@ pub returns-then-halves : goal.returns-then-halves
 returns-then-halves c =
     let a = c.args in
     elim c.then-halves.branch [
-      then-halves-via-then-halves w ↦ short-distance a.text.now a.right a.left a.halves w.if-halves.true
+      | then-halves-via-then-halves w ↦ short-distance a.text.now a.right a.left a.halves w.if-halves.true
       | then-halves-via-else-halves+then-halves-2 w ↦ long-distance a.text.now a.right a.left a.halves w.if-halves-2.true
     ]
 
