@@ -3,7 +3,7 @@ use Rattle.std.proofs.Common.{◌≡◌, ℕ, zero, suc, ◌+◌, ◌-◌, ◌*�
 use mathlib.Core.Bool.{false≢true}
 use mathlib.Core.Option.{Option, none, some}
 use lib.Pow.{pow-lt}
-use lib.Ieee.{Float, nan, inf, fin, binary64, up, down, round, neg, mul, div, lt, of_int, to_unsigned, is_nan, fits, to_bits, of_bits}
+use lib.Ieee.{Float, unlike, nan, inf, fin, binary64, up, down, round, neg, mul, div, lt, of_int, to_unsigned, is_nan, fits, to_bits, of_bits}
 use lib.Ieee.Fits.{up_pos, down_pos, round-fits}
 use lib.Ieee.Bits.{of_bits-to_bits}
 use lib.Ieee.Exact.{HasValue}
@@ -18,15 +18,22 @@ use Rattle.prescription.proofs.Arithmetic.{by-lt, mul-worth, div-worth, truncate
 
 -- ---- Whole numbers as floats
 
-pub whole-worth : (n : ℕ) → n < 2 ^ 53 → HasValue (of_int binary64 (pos n)) false n 1
+pub whole-worth : (c : ℤ) → nat_abs c < 2 ^ 53 → HasValue (of_int binary64 c) (is_negative c) (nat_abs c) 1
 unfolding of_int
-whole-worth n h = round-worth 0 false n (lit≤ tt) h
+whole-worth (pos n) h = round-worth 0 false n (lit≤ tt) h
+whole-worth (negsuc n) h = round-worth 0 true (suc n) (lit≤ tt) h
 
-pub quotient : (n d : ℕ) (y : Float) → n < 2 ^ 53 → 0 < d → HasValue y false d 1 → div binary64 (of_int binary64 (pos n)) y ≡ fraction d (pos n)
+sign-stays : (s : Bool) → unlike s false ≡ s
+sign-stays true = refl
+sign-stays false = refl
+
+pub quotient : (c : ℤ) (d : ℕ) (y : Float) → nat_abs c < 2 ^ 53 → 0 < d → HasValue y false d 1 → div binary64 (of_int binary64 c) y ≡ fraction d c
 unfolding fraction
-quotient n d y h p w =
-    div-worth (of_int binary64 (pos n)) y false false n d 1 1 (zero-lt-suc 0) (zero-lt-suc 0) p (whole-worth n h) w
-    ∙ ap (λ (z : ℕ). round binary64 false z (d * 1)) (mul-one n) ∙ ap (λ (z : ℕ). round binary64 false n z) (mul-one d)
+quotient c d y h p w =
+    div-worth (of_int binary64 c) y (is_negative c) false (nat_abs c) d 1 1 (zero-lt-suc 0) (zero-lt-suc 0) p (whole-worth c h) w
+    ∙ ap (λ (z : ℕ). round binary64 (unlike (is_negative c) false) z (d * 1)) (mul-one (nat_abs c))
+    ∙ ap (λ (z : ℕ). round binary64 (unlike (is_negative c) false) (nat_abs c) z) (mul-one d)
+    ∙ ap (λ (s : Bool). round binary64 s (nat_abs c) d) (sign-stays (is_negative c))
 
 pub product : (n d : ℕ) (x y : Float) → 0 < d → HasValue x false n d → HasValue y false d 1 → mul binary64 x y ≡ fraction 1 (pos n)
 unfolding fraction
@@ -159,11 +166,11 @@ module _ (d : ℕ) (p : PowerOfTwo d) where
 
   parts-worth : HasValue parts false d 1
   unfolding parts
-  parts-worth = whole-worth d d-wide
+  parts-worth = whole-worth (pos d) d-wide
 
   pub quotient_is : (n : ℕ) → n < limit → div binary64 (of_int binary64 (pos n)) (of_int binary64 (pos d)) ≡ fraction d (pos n)
   unfolding parts
-  quotient_is n h = quotient n d parts (wide n h) d-above parts-worth
+  quotient_is n h = quotient (pos n) d parts (wide n h) d-above parts-worth
 
   pub quotient-no-nan : (n : ℕ) → n < limit → T (not (is_nan (div binary64 (of_int binary64 (pos n)) (of_int binary64 (pos d)))))
   quotient-no-nan n h = subst (λ (z : Float). T (not (is_nan z))) (sym (quotient_is n h))

@@ -1,19 +1,18 @@
 -- Eyes in memory: what they stand for, transposed and as a spherical equivalent, float by float. Assumes nothing.
 use Rattle.std.proofs.Common.{◌≡◌, ℕ, suc, ◌*◌, ◌^◌, ◌<◌, ◌≤◌, Bool, true, false, ℤ, pos, negsuc, ◌+ℤ◌, nat_abs, sym, refl, ap, ◌∙◌, subst, zero-lt-suc, mul-one, arith, lit≤}
 use mathlib.Core.Option.{Option, none, some, none-ne-some}
+use Rattle.std.specs.Prelude.{Some, Option as Optional}
 use lib.Ieee.{Float, fin, binary64, unlike, round, neg, add, mul, fits}
 use lib.Ieee.Exact.{HasValue}
-use Rattle.refusals.specs.Refusals.{must, bad_prescription}
+use Rattle.refusals.specs.Refusals.{must}
 use Rattle.prescription.specs.declared.eyes.Eye.{Eye}
 use Rattle.prescription.specs.declared.eyes.Eye.TheVariants.{Plano, Sphere, Toric}
 use Rattle.prescription.specs.declared.fields.StoredEye.{StoredEye}
-use Rattle.prescription.specs.declared.fields.StoredAnswer.{StoredAnswer}
-use Rattle.prescription.specs.declared.fields.StoredAnswer.TheVariants.{Kept}
 use Rattle.prescription.specs.Fractions.{is_negative, fraction, count_of}
 use Rattle.prescription.specs.Lens.{Lens, plano, sphere, toric, keeps, turned, transposed, equivalent}
 use Rattle.prescription.specs.Eyes.{ruled, sphere_of, toric_of, lens_of, eye_of}
 use Rattle.prescription.specs.Counts.{stored_as, stored_of}
-use Rattle.prescription.specs.Outcomes.{answered, refused, or_refused, transpose_out, equivalent_out}
+use Rattle.prescription.specs.Outcomes.{answered, or_refused, transpose_out, equivalent_out}
 use Rattle.prescription.specs.Laws.{SameBits}
 use Rattle.prescription.proofs.Fractions.{Worth, worth-of-count, fraction-of-worth}
 use Rattle.prescription.proofs.Arithmetic.{add-worth, neg-fraction, mul-worth, finer}
@@ -22,14 +21,6 @@ use Rattle.prescription.proofs.Storing.{eighths, sum-within}
 use Rattle.prescription.proofs.Lenses.{toric-kept, sphere-kept, cylinder-in, transposed-keeps, transposed-back, sixteenths}
 
 -- ---- By what is stored of it
-
-pub refuses : {B : Type 0} (f : Lens → B) (o : Option Lens) → none ≡ stored_of o → refused bad_prescription ≡ or_refused f o
-refuses f none h = refl
-refuses f (some l) h = absurd (none-ne-some _ h)
-
-pub stays : {B : Type 0} (x : B) (o : Option Lens) (e : StoredEye) → some e ≡ stored_of o → answered x ≡ or_refused (λ _. x) o
-stays x none e h = absurd (none-ne-some e (sym h))
-stays x (some l) e h = refl
 
 pub record SphereIs (p : Float) : Type 0 where
   pub count : ℤ
@@ -69,7 +60,7 @@ unfolding lens_of
 toric-is x y a e h = toric-of (count_of 8 x) (count_of 8 y) x y a e refl refl h
 
 -- the same of an eye whose fields are kept
-module _ {self : Eye} {r : StoredAnswer} {e : StoredEye} (kept : r ≡ Kept e) (stored : stored_as r ≡ stored_of (lens_of self)) where
+module _ {self : Eye} {r : Optional StoredEye} {e : StoredEye} (kept : r ≡ Some e) (stored : stored_as r ≡ stored_of (lens_of self)) where
   fields-of : (eye : Eye) → self ≡ eye → some e ≡ stored_of (lens_of eye)
   fields-of eye is = sym (ap stored_as kept) ∙ stored ∙ ap (λ (x : Eye). stored_of (lens_of x)) is
 

@@ -7,6 +7,7 @@ pub mod LensOfEye
 pub mod Altering
 pub mod InMemory
 pub mod Reading
+pub mod Bytes
 pub mod Writing
 pub mod TextBack
 pub mod BytesBack

@@ -90,10 +90,6 @@ toric-read u v a x y e f =
 
 -- ---- Both eyes
 
-pub eye-refused : (o : Option Lens) (a : ℕ) → refused a ≡ or_refused eye_of o → o ≡ none
-eye-refused none a h = refl
-eye-refused (some l) a h = absurd (none-ne-some (eye_of l) (ap (λ x. x.value) h))
-
 pub record EyeRead (o : Option Lens) (e : Eye) : Type 0 where
   pub lens : Lens
   pub lens-is : o ≡ some lens
@@ -102,16 +98,6 @@ pub record EyeRead (o : Option Lens) (e : Eye) : Type 0 where
 pub eye-read : (o : Option Lens) (e : Eye) → answered e ≡ or_refused eye_of o → EyeRead o e
 eye-read none e h = absurd (none-ne-some e (sym (ap (λ x. x.value) h)))
 eye-read (some l) e h = record { lens = l; lens-is = refl; eye-is = some-injective e (eye_of l) (ap (λ x. x.value) h) }
-
-pub no-right : (r l : Option Lens) (h : Option ℤ) → r ≡ none → refused bad_prescription ≡ or_refused prescription_of (joined_eyes r l h)
-no-right r l h e = ap (λ (o : Option Lens). or_refused prescription_of (joined_eyes o l h)) (sym e)
-
-pub no-left : (r l : Option Lens) (h : Option ℤ) → l ≡ none → refused bad_prescription ≡ or_refused prescription_of (joined_eyes r l h)
-no-left r l h e = go r ∙ ap (λ (o : Option Lens). or_refused prescription_of (joined_eyes r o h)) (sym e)
-  where
-    go : (r : Option Lens) → refused bad_prescription ≡ or_refused prescription_of (joined_eyes r none h)
-    go none = refl
-    go (some m) = refl
 
 pub both_read : (r l : Option Lens) (e f : Eye) (h : ℕ) → EyeRead r e → EyeRead l f → distanced e f h ≡ or_refused prescription_of (joined_eyes r l (some (pos h)))
 unfolding prescription_of
@@ -161,16 +147,6 @@ text-read text l h =
     (sym (le-leb stored_len (length text) l))
 
 -- ---- The pupil distance
-
-pub distance-low : (r l : Eye) (h : ℕ) → h < 80 → refused bad_prescription ≡ distanced r l h
-distance-low r l h k =
-    ap (λ (b : Bool). must (b && leb h 160) (refused bad_prescription) (answered (record { right = r; left = l; pupil_distance = fraction 2 (pos h) })))
-    (sym (lt-leb 80 h k))
-
-pub distance_high : (r l : Eye) (h : ℕ) → 160 < h → refused bad_prescription ≡ distanced r l h
-distance_high r l h k =
-    ap (λ (b : Bool). must b (refused bad_prescription) (answered (record { right = r; left = l; pupil_distance = fraction 2 (pos h) })))
-    (sym (no_second (leb 80 h) (leb h 160) (lt-leb h 160 k)))
 
 pub distance-fits : (r l : Eye) (h : ℕ) (x : Float) → 80 ≤ h → h ≤ 160 → x ≡ fraction 2 (pos h)
     → answered (record { right = r; left = l; pupil_distance = x }) ≡ distanced r l h

@@ -181,17 +181,6 @@ toric-stored x y u v w a h k n =
     some-injective : (a b : ℤ) → some a ≡ some b → a ≡ b
     some-injective a b h = cc
 
--- ---- The test of a range, on bits
-
-pub range-low : (u : ℕ) → u < 32768 → leb u 240 ≡ in_power_range (count_in u)
-range-low u h = ap (λ (b : Bool). in_power_range (cond b (pos u) (negsuc (65535 - u)))) (sym (lt-ltb u 32768 h))
-
-pub range-high : (u : ℕ) → 32768 ≤ u → u < 65536 → leb (65536 - u) 240 ≡ in_power_range (count_in u)
-range-high u h l = ap (λ (n : ℕ). leb n 240) (size u l) ∙ ap (λ (b : Bool). in_power_range (cond b (pos u) (negsuc (65535 - u)))) (sym (le-ltb u 32768 h))
-  where
-    size : (u : ℕ) → u < 65536 → 65536 - u ≡ suc (65535 - u)
-    size u l = omega arith
-
 -- ---- One test of several
 
 pub no_second : (p q : Bool) → q ≡ false → p && q ≡ false
@@ -203,23 +192,6 @@ no_third p q r h = no_second (p && q) r h
 
 pub no-first-of-three : (p q r : Bool) → p ≡ false → p && q && r ≡ false
 no-first-of-three p q r h = ap (λ (b : Bool). b && q && r) h
-
-module _ (s t c a : ℕ) where
-  pub sphere-fails : in_power_range (count_in s) ≡ false → false ≡ toric_keeps s t c a
-  sphere-fails h = sym (ap (λ (b : Bool). b && in_power_range (count_in t) && not (eqb c 0) && (leb 1 a && leb a 180)) h)
-
-  pub sum-fails : in_power_range (count_in t) ≡ false → false ≡ toric_keeps s t c a
-  sum-fails h = sym (ap (λ (b : Bool). b && not (eqb c 0) && (leb 1 a && leb a 180)) (no_second (in_power_range (count_in s)) (in_power_range (count_in t)) h))
-
-  pub cylinder-fails : not (eqb c 0) ≡ false → false ≡ toric_keeps s t c a
-  cylinder-fails h = sym (ap (λ (b : Bool). b && (leb 1 a && leb a 180)) (no_third (in_power_range (count_in s)) (in_power_range (count_in t)) (not (eqb c 0)) h))
-
-  pub axis-fails : leb 1 a ≡ false → false ≡ toric_keeps s t c a
-  axis-fails h = sym (no_third (in_power_range (count_in s) && in_power_range (count_in t)) (not (eqb c 0)) (leb 1 a && leb a 180)
-      (ap (λ (b : Bool). b && leb a 180) h))
-
-  pub last-decides : in_power_range (count_in s) ≡ true → in_power_range (count_in t) ≡ true → not (eqb c 0) ≡ true → leb 1 a ≡ true → leb a 180 ≡ toric_keeps s t c a
-  last-decides h k l m = rw (h, k, l, m)
 
 pub must-not : {A : Type 0} (b : Bool) (x y : A) → b ≡ false → must b x y ≡ x
 must-not b x y h = ap (λ (t : Bool). must t x y) h

@@ -1,5 +1,5 @@
 -- The text that a prescription is stored as. Assumes nothing.
-use Rattle.std.proofs.Common.{◌≡◌, ℕ, suc, ◌-◌, ◌<◌, ◌≤◌, Bool, true, false, ◌&&◌, leb, List, ◌∷◌, ◌++◌, length, set, replicate, ℤ, pos, negsuc, nat_abs, sym, refl, ap, ◌∙◌, arith, length-set, le-leb}
+use Rattle.std.proofs.Common.{◌≡◌, ℕ, suc, ◌-◌, ◌<◌, ◌≤◌, Bool, true, false, ◌&&◌, leb, List, ◌∷◌, ◌++◌, length, set, replicate, ℤ, pos, negsuc, nat_abs, sym, refl, ap, ◌∙◌, arith, le-leb}
 use mathlib.Core.Option.{Option, none, some, none-ne-some}
 use borrow.Author.Tests.{lt-leb}
 use Rattle.refusals.specs.Refusals.{must, served, bad_prescription}
@@ -27,9 +27,6 @@ longer n h = omega arith
 pub laid : (n : ℕ) (r l : StoredEye) (h : ℕ) → 13 ≤ n → set (with_eye (with_eye (replicate n 0) 0 r) 6 l) 12 h ≡ stored_text n r l h
 unfolding stored_text
 laid n r l h k = ap (λ (m : ℕ). set (with_eye (with_eye (replicate m 0) 0 r) 6 l) 12 h) (longer n k) ∙ laid_on (n - 13) r l h
-
-pub eye-length : (t : List ℕ) (at : ℕ) (e : StoredEye) → length (with_eye t at e) ≡ length t
-eye-length t at e = simp length-set
 
 -- ---- The distance
 

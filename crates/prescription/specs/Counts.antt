@@ -1,12 +1,9 @@
 -- What the inner functions on counts answer and ask for. Assumes nothing.
-use Rattle.std.specs.Prelude.{◌≡◌, ℕ, ◌+◌, ◌-◌, ◌/◌, ◌%◌, ◌^◌, ◌≤◌, Bool, not, ◌&&◌, List, ◌∷◌, ◌++◌, length, replicate, ℤ, pos, negsuc, ◌==◌, nat_le, nat_lt, slice_set, unsigned_abs}
+use Rattle.std.specs.Prelude.{◌≡◌, ℕ, ◌+◌, ◌-◌, ◌/◌, ◌%◌, ◌^◌, ◌≤◌, Bool, not, ◌&&◌, List, ◌∷◌, ◌++◌, length, replicate, ℤ, pos, negsuc, ◌==◌, nat_le, nat_lt, slice_set, unsigned_abs, Some, None}
+use Rattle.std.specs.Prelude.{Option as Optional}
 use Rattle.std.proofs.Math.Option.{Option, none, some}
 use Rattle.refusals.specs.Refusals.{must, served, bad_prescription}
-use Rattle.prescription.specs.declared.counts.Count.{Count}
-use Rattle.prescription.specs.declared.counts.Count.TheVariants.{Whole, Part}
 use Rattle.prescription.specs.declared.fields.StoredEye.{StoredEye}
-use Rattle.prescription.specs.declared.fields.StoredAnswer.{StoredAnswer}
-use Rattle.prescription.specs.declared.fields.StoredAnswer.TheVariants.{Kept, Refused}
 use Rattle.prescription.specs.Lens.{Lens, in_power_range}
 use Rattle.prescription.specs.Stored.{bits_of, count_in, fields_of, bytes_of, stored_len}
 use Rattle.prescription.specs.Eyes.{is_distance}
@@ -22,9 +19,9 @@ pub record PowerOfTwo (d : ℕ) : Type 0 where
 abbrev pub limit : ℕ
 limit = 32768
 
-abbrev pub count_as : Count → Option ℕ
-count_as (Whole n) = some n
-count_as Part = none
+abbrev pub count_as : Optional ℕ → Option ℕ
+count_as (Some n) = some n
+count_as None = none
 
 -- a count that is not negative and in reach
 abbrev pub size_in : Option ℤ → Option ℕ
@@ -43,9 +40,9 @@ negated_as (some n) = some ((65536 - n) % 65536)
 
 -- ---- Stored eyes
 
-abbrev pub stored_as : StoredAnswer → Option StoredEye
-stored_as (Kept e) = some e
-stored_as Refused = none
+abbrev pub stored_as : Optional StoredEye → Option StoredEye
+stored_as (Some e) = some e
+stored_as None = none
 
 abbrev pub stored_of : Option Lens → Option StoredEye
 stored_of none = none

@@ -1,13 +1,12 @@
 -- What is promised of prescriptions, as statements about the definitions. Assumes nothing.
-use Rattle.std.specs.Prelude.{◌≡◌, ℕ, true, List, length, ℤ, ◌+ℤ◌, to_bits, Float}
+use Rattle.std.specs.Prelude.{◌≡◌, ℕ, true, List, length, ℤ, ◌+ℤ◌, to_bits, Float, Result, Ok, Err}
 use Rattle.std.proofs.Math.Option.{some}
 use Rattle.std.specs.Float.{binary64}
+use Rattle.refusals.specs.declared.Refusal.{Refusal}
 use Rattle.refusals.specs.Refusals.{served}
 use Rattle.combinatorics.specs.Lists.{all_below}
 use Rattle.prescription.specs.declared.eyes.Eye.{Eye}
 use Rattle.prescription.specs.declared.eyes.Eye.TheVariants.{Plano, Sphere, Toric}
-use Rattle.prescription.specs.declared.eyes.EyeAnswer.{EyeAnswer}
-use Rattle.prescription.specs.declared.eyes.EyeAnswer.TheVariants.{Kept, Refused}
 use Rattle.prescription.specs.declared.texts.Prescription.{Prescription}
 use Rattle.prescription.specs.Fractions.{fraction, count_of}
 use Rattle.prescription.specs.Lens.{Lens, toric, keeps, equivalent}
@@ -29,9 +28,9 @@ SameBits (Toric s c a) (Sphere q) = ⊥
 SameBits (Toric s c a) (Toric t d b) = (to_bits binary64 s ≡ to_bits binary64 t) × (to_bits binary64 c ≡ to_bits binary64 d) × (a ≡ b)
 
 -- "Twice gives the original bits": an accepted answer transposes to an eye with the bits of the one given
-abbrev pub RestoresBits : Eye → EyeAnswer → Type 0
-RestoresBits e (Kept f) = (g : Eye) × (transpose_out f ≡ answered g) × SameBits g e
-RestoresBits e (Refused a) = Unit {0}
+abbrev pub RestoresBits : Eye → Result Eye Refusal → Type 0
+RestoresBits e (Ok f) = (g : Eye) × (transpose_out f ≡ answered g) × SameBits g e
+RestoresBits e (Err r) = Unit {0}
 
 -- "for one toric lens, altering the sphere by t eighths moves it t eighths, altering the cylinder by t moves it half that, while the lens keeps to these
 -- rules": in sixteenths of a dioptre, 2 t and t; and each equivalent is the float of that count, exactly

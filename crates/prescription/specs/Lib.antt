@@ -1,6 +1,7 @@
 pub mod Fractions
 pub mod Lens
 pub mod Eyes
+pub mod Kinds
 pub mod Stored
 pub mod Counts
 pub mod Outcomes

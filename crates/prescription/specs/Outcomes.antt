@@ -1,16 +1,12 @@
 -- What the calls on eyes, prescriptions and texts answer, for every input. "The prescription calls refuse with 16 .. any text or value in memory outside
 -- these rules (minus zero and a part of an eighth included)". Assumes nothing.
-use Rattle.std.specs.Prelude.{ℕ, List, length, pos, nat_le, Float}
+use Rattle.std.specs.Prelude.{ℕ, List, length, pos, nat_le, Float, Result, Ok, Err}
 use Rattle.std.proofs.Math.Option.{Option, none, some}
+use Rattle.refusals.specs.declared.Refusal.{Refusal}
 use Rattle.refusals.specs.Refusals.{must, served, bad_prescription}
+use Rattle.refusals.specs.Numbers.{number_of}
 use Rattle.prescription.specs.declared.eyes.Eye.{Eye}
 use Rattle.prescription.specs.declared.texts.Prescription.{Prescription}
-use Rattle.prescription.specs.declared.eyes.EyeAnswer.{EyeAnswer}
-use Rattle.prescription.specs.declared.eyes.EyeAnswer.TheVariants.{Kept as KeptEye, Refused as RefusedEye}
-use Rattle.prescription.specs.declared.eyes.PowerAnswer.{PowerAnswer}
-use Rattle.prescription.specs.declared.eyes.PowerAnswer.TheVariants.{Power, Refused as RefusedPower}
-use Rattle.prescription.specs.declared.texts.PrescriptionAnswer.{PrescriptionAnswer}
-use Rattle.prescription.specs.declared.texts.PrescriptionAnswer.TheVariants.{Kept, Refused}
 use Rattle.prescription.specs.Fractions.{fraction}
 use Rattle.prescription.specs.Lens.{transposed, equivalent}
 use Rattle.prescription.specs.Eyes.{lens_of, eye_of, is_distance, Prescribed, prescribed_of, prescription_of}
@@ -34,17 +30,17 @@ or_refused f (some x) = answered (f x)
 
 -- ---- What an answer says, case by case: 0 and the value, or the refusal
 
-abbrev pub eye_answered : EyeAnswer → Answered Eye
-eye_answered (KeptEye e) = answered e
-eye_answered (RefusedEye a) = refused a
+abbrev pub eye_answered : Result Eye Refusal → Answered Eye
+eye_answered (Ok e) = answered e
+eye_answered (Err r) = refused (number_of r)
 
-abbrev pub power_answered : PowerAnswer → Answered Float
-power_answered (Power x) = answered x
-power_answered (RefusedPower a) = refused a
+abbrev pub power_answered : Result Float Refusal → Answered Float
+power_answered (Ok x) = answered x
+power_answered (Err r) = refused (number_of r)
 
-abbrev pub prescription_answered : PrescriptionAnswer → Answered Prescription
-prescription_answered (Kept p) = answered p
-prescription_answered (Refused a) = refused a
+abbrev pub prescription_answered : Result Prescription Refusal → Answered Prescription
+prescription_answered (Ok p) = answered p
+prescription_answered (Err r) = refused (number_of r)
 
 -- both eyes with a pupil distance in half millimetres
 abbrev pub distanced : Eye → Eye → ℕ → Answered Prescription

@@ -1,11 +1,11 @@
 // An eye in memory: transposing and the spherical equivalent. Assumes nothing.
 ghost use Rattle.std.specs.Prelude.{◌≡◌, ◌≤◌};
+ghost use Rattle.prescription.specs.Kinds.{byte_of, kind_of, NamesKind};
 ghost use Rattle.prescription.specs.Laws.{RestoresBits};
 ghost use Rattle.prescription.specs.Lens.{turned as turnedAs};
 ghost use Rattle.prescription.specs.Outcomes.{eye_answered, power_answered, transpose_out, equivalent_out};
 
 use crate::fields;
-use crate::fields::StoredAnswer;
 use refusals::Refusal;
 
 // An eye: plano, a sphere with its power, or a toric. Powers are dioptres, an axis is in degrees.
@@ -20,39 +20,72 @@ pub enum Eye {
     },
 }
 
-// An eye that keeps the rules, or the refusal.
-#[derive(Clone, Copy)]
-pub enum EyeAnswer {
-    Kept(Eye),
-    Refused(u8),
+// What an eye is, without its data; the byte of each is that of a text.
+#[derive(Clone, Copy, Debug, PartialEq, Eq)]
+pub enum Kind {
+    Plano,
+    Sphere,
+    Toric,
 }
 
-// Dioptres, or the refusal.
-#[derive(Clone, Copy)]
-pub enum PowerAnswer {
-    Power(f64),
-    Refused(u8),
+impl From<Kind> for u8 {
+    ghost from_gives = { λ kind byte. byte ≡ byte_of kind };
+
+    fn from(kind: Kind) -> u8 {
+        match kind {
+            Kind::Plano => 0,
+            Kind::Sphere => 1,
+            Kind::Toric => 2,
+        }
+    }
+}
+
+// The kind of a byte. Refusal 16.
+impl TryFrom<u8> for Kind {
+    type Error = Refusal;
+
+    ghost try_from_gives = { NamesKind };
+
+    fn try_from(byte: u8) -> Result<Kind, Refusal> {
+        match byte {
+            0 => Ok(Kind::Plano),
+            1 => Ok(Kind::Sphere),
+            2 => Ok(Kind::Toric),
+            _ => Err(Refusal::Prescription),
+        }
+    }
 }
 
 impl Eye {
+    pub fn kind(self) -> Kind
+        ensures { result ≡ kind_of self }
+    {
+        match self {
+            Eye::Plano => Kind::Plano,
+            Eye::Sphere(_) => Kind::Sphere,
+            Eye::Toric {
+                sphere: _,
+                cylinder: _,
+                axis: _,
+            } => Kind::Toric,
+        }
+    }
+
     // The same lens written with the other sign of its cylinder. Refusal 16.
-    pub fn transpose(self) -> EyeAnswer
+    pub fn transpose(self) -> Result<Eye, Refusal>
         ensures answer { eye_answered result ≡ transpose_out self }
         ensures bits { RestoresBits self result }
     {
-        let stored = fields::stored(self);
-        let StoredAnswer::Kept(_) = stored else {
-            return EyeAnswer::Refused(Refusal::PRESCRIPTION);
-        };
+        fields::stored(self).ok_or(Refusal::Prescription)?;
         match self {
-            Eye::Plano => EyeAnswer::Kept(Eye::Plano),
-            Eye::Sphere(power) => EyeAnswer::Kept(Eye::Sphere(power)),
+            Eye::Plano => Ok(Eye::Plano),
+            Eye::Sphere(power) => Ok(Eye::Sphere(power)),
             Eye::Toric {
                 sphere,
                 cylinder,
                 axis,
             } => {
-                EyeAnswer::Kept(Eye::Toric {
+                Ok(Eye::Toric {
                     sphere: sphere + cylinder,
                     cylinder: -cylinder,
                     axis: turned(axis),
@@ -62,21 +95,18 @@ impl Eye {
     }
 
     // The sphere and half the cylinder, in dioptres. Refusal 16.
-    pub fn spherical_equivalent(self) -> PowerAnswer
+    pub fn spherical_equivalent(self) -> Result<f64, Refusal>
         ensures { power_answered result ≡ equivalent_out self }
     {
-        let stored = fields::stored(self);
-        let StoredAnswer::Kept(_) = stored else {
-            return PowerAnswer::Refused(Refusal::PRESCRIPTION);
-        };
+        fields::stored(self).ok_or(Refusal::Prescription)?;
         match self {
-            Eye::Plano => PowerAnswer::Power(0.0),
-            Eye::Sphere(power) => PowerAnswer::Power(power),
+            Eye::Plano => Ok(0.0),
+            Eye::Sphere(power) => Ok(power),
             Eye::Toric {
                 sphere,
                 cylinder,
                 axis: _,
-            } => PowerAnswer::Power(sphere + cylinder * 0.5),
+            } => Ok(sphere + cylinder * 0.5),
         }
     }
 }

@@ -6,8 +6,8 @@ ghost use Rattle.prescription.specs.Lens.{in_power_range};
 ghost use Rattle.prescription.specs.Outcomes.{or_refused, eye_answered};
 ghost use Rattle.prescription.specs.Stored.{count_in, lens_in};
 
-use crate::counts::{Count, count_of, power_of};
-use crate::eyes::{Eye, EyeAnswer};
+use crate::counts::{count_of, power_of};
+use crate::eyes::{Eye, Kind};
 use refusals::Refusal;
 
 // A dioptre in eighths.
@@ -29,19 +29,13 @@ impl StoredEye {
     pub const MAX_AXIS: u8 = 180;
 }
 
-#[derive(Clone, Copy)]
-pub enum StoredAnswer {
-    Kept(StoredEye),
-    Refused,
-}
-
 // The four fields of an eye that keeps the rules.
-pub fn stored(eye: Eye) -> StoredAnswer
+pub fn stored(eye: Eye) -> Option<StoredEye>
     ensures { stored_as result ≡ stored_of (lens_of eye) }
 {
     match eye {
-        Eye::Plano => StoredAnswer::Kept(StoredEye {
-            kind: 0,
+        Eye::Plano => Some(StoredEye {
+            kind: u8::from(Kind::Plano),
             sphere: 0,
             cylinder: 0,
             axis: 0,
@@ -56,21 +50,15 @@ pub fn stored(eye: Eye) -> StoredAnswer
 }
 
 // The fields of a sphere that keeps the rules.
-fn stored_sphere(power: f64) -> StoredAnswer
+fn stored_sphere(power: f64) -> Option<StoredEye>
     ensures { stored_as result ≡ stored_of (lens_of (Eye.Sphere power)) }
 {
-    let count = count_of(power, EIGHTHS);
-    let Count::Whole(bits) = count else {
-        return StoredAnswer::Refused;
-    };
-    if bits == 0 {
-        return StoredAnswer::Refused;
+    let bits = count_of(power, EIGHTHS)?;
+    if bits == 0 || !in_range(bits) {
+        return None;
     }
-    if !in_range(bits) {
-        return StoredAnswer::Refused;
-    }
-    StoredAnswer::Kept(StoredEye {
-        kind: 1,
+    Some(StoredEye {
+        kind: u8::from(Kind::Sphere),
         sphere: bits,
         cylinder: 0,
         axis: 0,
@@ -78,28 +66,19 @@ fn stored_sphere(power: f64) -> StoredAnswer
 }
 
 // The fields of a toric that keeps the rules.
-fn stored_toric(sphere: f64, cylinder: f64, axis: u8) -> StoredAnswer
+fn stored_toric(sphere: f64, cylinder: f64, axis: u8) -> Option<StoredEye>
     ensures { stored_as result ≡ stored_of (lens_of (Eye.Toric sphere cylinder axis)) }
 {
-    let sphere_count = count_of(sphere, EIGHTHS);
-    let Count::Whole(s) = sphere_count else {
-        return StoredAnswer::Refused;
-    };
-    let cylinder_count = count_of(cylinder, EIGHTHS);
-    let Count::Whole(c) = cylinder_count else {
-        return StoredAnswer::Refused;
-    };
-    let sum_count = count_of(sphere + cylinder, EIGHTHS);
-    let Count::Whole(t) = sum_count else {
-        return StoredAnswer::Refused;
-    };
-    if !toric_keeps(s, t, c, axis) {
-        return StoredAnswer::Refused;
+    let sphere_count = count_of(sphere, EIGHTHS)?;
+    let cylinder_count = count_of(cylinder, EIGHTHS)?;
+    let sum_count = count_of(sphere + cylinder, EIGHTHS)?;
+    if !toric_keeps(sphere_count, sum_count, cylinder_count, axis) {
+        return None;
     }
-    StoredAnswer::Kept(StoredEye {
-        kind: 2,
-        sphere: s,
-        cylinder: c,
+    Some(StoredEye {
+        kind: u8::from(Kind::Toric),
+        sphere: sphere_count,
+        cylinder: cylinder_count,
         axis,
     })
 }
@@ -108,78 +87,48 @@ fn stored_toric(sphere: f64, cylinder: f64, axis: u8) -> StoredAnswer
 fn toric_keeps(sphere: u16, sum: u16, cylinder: u16, axis: u8) -> bool
     ensures { result ≡ toric_keeps sphere sum cylinder axis }
 {
-    if !in_range(sphere) {
-        return false;
-    }
-    if !in_range(sum) {
-        return false;
-    }
-    if cylinder == 0 {
-        return false;
-    }
-    if axis < 1 {
-        return false;
-    }
-    axis <= StoredEye::MAX_AXIS
+    in_range(sphere) && in_range(sum) && cylinder != 0 && 1 <= axis && axis <= StoredEye::MAX_AXIS
 }
 
 // Whether the bits are those of a count within −240 to 240.
 fn in_range(bits: u16) -> bool
     ensures { result ≡ in_power_range (count_in bits) }
 {
-    if bits < 32768 {
-        return bits <= StoredEye::MAX_EIGHTHS;
-    }
-    65536 - (bits as u32) <= StoredEye::MAX_EIGHTHS as u32
+    bits.cast_signed().unsigned_abs() <= StoredEye::MAX_EIGHTHS
 }
 
 // The eye of four fields that keep the rules, otherwise 16.
-pub fn eye_of(stored: StoredEye) -> EyeAnswer
+pub fn eye_of(stored: StoredEye) -> Result<Eye, Refusal>
     ensures { eye_answered result ≡ or_refused eye_of (lens_in stored) }
 {
-    let kind = stored.kind;
-    if kind == 0 {
-        if stored.sphere != 0 {
-            return EyeAnswer::Refused(Refusal::PRESCRIPTION);
+    let kind = Kind::try_from(stored.kind)?;
+    match kind {
+        Kind::Plano => {
+            if stored.sphere != 0 || stored.cylinder != 0 || stored.axis != 0 {
+                return Err(Refusal::Prescription);
+            }
+            Ok(Eye::Plano)
         }
-        if stored.cylinder != 0 {
-            return EyeAnswer::Refused(Refusal::PRESCRIPTION);
+        Kind::Sphere => {
+            if stored.cylinder != 0 || stored.axis != 0 {
+                return Err(Refusal::Prescription);
+            }
+            kept(Eye::Sphere(power_of(stored.sphere)))
         }
-        if stored.axis != 0 {
-            return EyeAnswer::Refused(Refusal::PRESCRIPTION);
+        Kind::Toric => {
+            kept(Eye::Toric {
+                sphere: power_of(stored.sphere),
+                cylinder: power_of(stored.cylinder),
+                axis: stored.axis,
+            })
         }
-        return EyeAnswer::Kept(Eye::Plano);
     }
-    if kind == 1 {
-        if stored.cylinder != 0 {
-            return EyeAnswer::Refused(Refusal::PRESCRIPTION);
-        }
-        if stored.axis != 0 {
-            return EyeAnswer::Refused(Refusal::PRESCRIPTION);
-        }
-        let eye = Eye::Sphere(power_of(stored.sphere));
-        return kept(eye);
-    }
-    if kind == 2 {
-        let sphere = power_of(stored.sphere);
-        let cylinder = power_of(stored.cylinder);
-        let eye = Eye::Toric {
-            sphere,
-            cylinder,
-            axis: stored.axis,
-        };
-        return kept(eye);
-    }
-    EyeAnswer::Refused(Refusal::PRESCRIPTION)
 }
 
 // An eye as it is where it keeps the rules, otherwise 16.
-fn kept(eye: Eye) -> EyeAnswer
+fn kept(eye: Eye) -> Result<Eye, Refusal>
     ensures { eye_answered result ≡ or_refused (λ _. eye) (lens_of eye) }
 {
-    let answer = stored(eye);
-    match answer {
-        StoredAnswer::Kept(_) => EyeAnswer::Kept(eye),
-        StoredAnswer::Refused => EyeAnswer::Refused(Refusal::PRESCRIPTION),
-    }
+    stored(eye).ok_or(Refusal::Prescription)?;
+    Ok(eye)
 }

@@ -1,14 +1,15 @@
 // A prescription, and as the text of a job: thirteen bytes, then zeros. Assumes nothing.
 ghost use Rattle.std.specs.Prelude.{◌≡◌, ◌+◌, ◌≤◌, length};
+ghost use Rattle.refusals.specs.Numbers.{answer_of};
 ghost use Rattle.prescription.specs.Counts.{with_eye, stored_text, stored_out};
 ghost use Rattle.prescription.specs.Eyes.{eye_of, prescription_of};
 ghost use Rattle.prescription.specs.Outcomes.{or_refused, eye_answered, prescription_answered, read_text_out, distanced, written_text, write_text_out};
 ghost use Rattle.prescription.specs.Stored.{lens_in, fields_at, prescribed_at};
 
-use crate::counts::{Count, count_of};
-use crate::eyes::{Eye, EyeAnswer};
+use crate::counts::count_of;
+use crate::eyes::Eye;
 use crate::fields;
-use crate::fields::{StoredAnswer, StoredEye};
+use crate::fields::StoredEye;
 use refusals::Refusal;
 use symbols::numbers;
 
@@ -30,13 +31,6 @@ pub struct Prescription {
     pub pupil_distance: f64,
 }
 
-// A prescription that keeps the rules, or the refusal.
-#[derive(Clone, Copy)]
-pub enum PrescriptionAnswer {
-    Kept(Prescription),
-    Refused(u8),
-}
-
 impl Prescription {
     // The least and the largest pupil distance, in halves of a millimetre.
     pub const MIN_HALVES: u8 = 80;
@@ -44,78 +38,58 @@ impl Prescription {
     pub const MAX_HALVES: u8 = 160;
 
     // The prescription of a text: thirteen bytes, then zeros. Refusal 16.
-    pub fn read_text(text: &[u8]) -> PrescriptionAnswer
+    pub fn read_text(text: &[u8]) -> Result<Prescription, Refusal>
         ensures { prescription_answered result ≡ read_text_out text.now }
     {
         if text.len() < STORED_LEN {
-            return PrescriptionAnswer::Refused(Refusal::PRESCRIPTION);
+            return Err(Refusal::Prescription);
         }
         if !symbols::all_below(&text[STORED_LEN..], 1) {
-            return PrescriptionAnswer::Refused(Refusal::PRESCRIPTION);
+            return Err(Refusal::Prescription);
         }
         read_stored(text)
     }
 
     // Stores a prescription that keeps the rules as a text. Refusal 16; the text then keeps what it held.
-    pub fn write_text(self, text: &mut [u8]) -> u8
-        ensures { written_text result text.new ≡ write_text_out self text.old }
+    pub fn write_text(self, text: &mut [u8]) -> Result<(), Refusal>
+        ensures { written_text (answer_of result) text.new ≡ write_text_out self text.old }
     {
         if text.len() < STORED_LEN {
-            return Refusal::PRESCRIPTION;
+            return Err(Refusal::Prescription);
         }
-        let right = self.right;
-        let right_answer = fields::stored(right);
-        let StoredAnswer::Kept(right_stored) = right_answer else {
-            return Refusal::PRESCRIPTION;
-        };
-        let left = self.left;
-        let left_answer = fields::stored(left);
-        let StoredAnswer::Kept(left_stored) = left_answer else {
-            return Refusal::PRESCRIPTION;
-        };
-        let count = count_of(self.pupil_distance, HALVES);
-        let Count::Whole(halves) = count else {
-            return Refusal::PRESCRIPTION;
-        };
-        write_stored(text, right_stored, left_stored, halves)
+        let right = fields::stored(self.right).ok_or(Refusal::Prescription)?;
+        let left = fields::stored(self.left).ok_or(Refusal::Prescription)?;
+        let halves = count_of(self.pupil_distance, HALVES).ok_or(Refusal::Prescription)?;
+        write_stored(text, right, left, halves)
     }
 }
 
 // The prescription of a text's first thirteen bytes. Refusal 16.
-fn read_stored(text: &[u8]) -> PrescriptionAnswer
+fn read_stored(text: &[u8]) -> Result<Prescription, Refusal>
     requires { 13 ≤ length text.now }
     ensures { prescription_answered result ≡ or_refused prescription_of (prescribed_at text.now) }
 {
-    let right_answer = eye_at(text, 0);
-    let EyeAnswer::Kept(right) = right_answer else {
-        return PrescriptionAnswer::Refused(Refusal::PRESCRIPTION);
-    };
-    let left_answer = eye_at(text, EYE_LEN);
-    let EyeAnswer::Kept(left) = left_answer else {
-        return PrescriptionAnswer::Refused(Refusal::PRESCRIPTION);
-    };
+    let right = eye_at(text, 0)?;
+    let left = eye_at(text, EYE_LEN)?;
     with_distance(right, left, text[DISTANCE_AT])
 }
 
 // Both eyes with a pupil distance in half millimetres. Refusal 16.
-fn with_distance(right: Eye, left: Eye, halves: u8) -> PrescriptionAnswer
+fn with_distance(right: Eye, left: Eye, halves: u8) -> Result<Prescription, Refusal>
     ensures { prescription_answered result ≡ distanced right left halves }
 {
-    if halves < Prescription::MIN_HALVES {
-        return PrescriptionAnswer::Refused(Refusal::PRESCRIPTION);
+    if halves < Prescription::MIN_HALVES || Prescription::MAX_HALVES < halves {
+        return Err(Refusal::Prescription);
     }
-    if Prescription::MAX_HALVES < halves {
-        return PrescriptionAnswer::Refused(Refusal::PRESCRIPTION);
-    }
-    PrescriptionAnswer::Kept(Prescription {
+    Ok(Prescription {
         right,
         left,
-        pupil_distance: (halves as f64) / 2.0,
+        pupil_distance: f64::from(halves) / 2.0,
     })
 }
 
 // The eye whose six bytes begin at a position of a text. Refusal 16.
-fn eye_at(text: &[u8], at: usize) -> EyeAnswer
+fn eye_at(text: &[u8], at: usize) -> Result<Eye, Refusal>
     requires { at + 6 ≤ length text.now }
     ensures { eye_answered result ≡ or_refused eye_of (lens_in (fields_at text.now at)) }
 {
@@ -132,18 +106,20 @@ fn eye_at(text: &[u8], at: usize) -> EyeAnswer
 }
 
 // Stores both eyes' fields and a pupil distance in half millimetres. Refusal 16.
-fn write_stored(text: &mut [u8], right: StoredEye, left: StoredEye, halves: u16) -> u8
+fn write_stored(
+    text: &mut [u8],
+    right: StoredEye,
+    left: StoredEye,
+    halves: u16,
+) -> Result<(), Refusal>
     requires { 13 ≤ length text.old }
-    ensures { written_text result text.new ≡ stored_out text.old right left halves }
+    ensures { written_text (answer_of result) text.new ≡ stored_out text.old right left halves }
 {
-    if halves < (Prescription::MIN_HALVES as u16) {
-        return Refusal::PRESCRIPTION;
-    }
-    if (Prescription::MAX_HALVES as u16) < halves {
-        return Refusal::PRESCRIPTION;
+    if halves < (Prescription::MIN_HALVES as u16) || (Prescription::MAX_HALVES as u16) < halves {
+        return Err(Refusal::Prescription);
     }
     put_stored(text, right, left, halves as u8);
-    Refusal::NONE
+    Ok(())
 }
 
 // Stores both eyes and the pupil distance, and zeros behind them.
@@ -163,9 +139,7 @@ fn put_eye(text: &mut [u8], at: usize, eye: StoredEye)
     ensures { text.new ≡ with_eye text.old at eye }
 {
     text[at] = eye.kind;
-    text[at + 1] = (eye.sphere / 256) as u8;
-    text[at + 2] = (eye.sphere % 256) as u8;
-    text[at + 3] = (eye.cylinder / 256) as u8;
-    text[at + 4] = (eye.cylinder % 256) as u8;
+    text[at + 1..at + 3].copy_from_slice(&eye.sphere.to_be_bytes());
+    text[at + 3..at + 5].copy_from_slice(&eye.cylinder.to_be_bytes());
     text[at + 5] = eye.axis;
 }

@@ -5,6 +5,7 @@ use lib.Ieee.{neg, of_bits}
 use Rattle.prescription.specs.Counts.{limit}
 use Rattle.prescription.proofs.Counting
 use Rattle.prescription.proofs.counts.size_of.Goals as goal
+use Rattle.prescription.proofs.counts.size_of.Goals.{else-product-via-then-product+else-product-2, else-product-via-else-product}
 use Rattle.prescription.proofs.counts.size_of.Goals.{After-truncating_f64_to_u64-size}
 
 in_reach : (c : After-truncating_f64_to_u64-size)
@@ -34,15 +35,13 @@ returns-else-exact-x c =
     Counting.differs c.args.per c.requires c.args.x c.truncating_f64_to_u64-size.result c.well_formed.0.1
     c.truncating_f64_to_u64-size.ensures c.if-exact-x.false
 
-pub returns-else-product-2 : goal.returns-else-product-2
-unfolding of_bits
-returns-else-product-2 c =
-    Counting.too_large c.args.per c.requires c.args.x c.if-product-2.false
-
 pub returns-else-product : goal.returns-else-product
 unfolding of_bits neg
 returns-else-product c =
-    Counting.too_small c.args.per c.requires c.args.x c.if-product.false
+    elim c.else-product.branch [
+      | else-product-via-then-product+else-product-2 w ↦ Counting.too_large c.args.per c.requires c.args.x w.if-product-2.false
+      | else-product-via-else-product w ↦ Counting.too_small c.args.per c.requires c.args.x w.if-product.false
+    ]
 
 pub truncating_f64_to_u64-size-requires-clause-lower_bound : goal.truncating_f64_to_u64-size-requires-clause-lower_bound
 unfolding of_bits neg

@@ -1,68 +1,56 @@
 -- `stored_toric` meets its contract: the three counts decide. Assumes nothing.
-use Rattle.std.proofs.Common.{◌≡◌, Bool, true, false, sym, ap, ◌∙◌}
+use Rattle.std.proofs.Common.{◌≡◌, ℕ, Bool, true, false, sym, ap, ◌∙◌}
 use mathlib.Core.Option.{none, some}
 use Rattle.refusals.specs.Refusals.{must}
 use Rattle.prescription.specs.Fractions.{count_of}
 use Rattle.prescription.specs.Eyes.{toric_of, lens_of}
 use Rattle.prescription.specs.Stored.{fields}
-use Rattle.prescription.specs.Counts.{count_as, bits_in, stored_of}
+use Rattle.prescription.specs.Counts.{stored_as, stored_of}
 use Rattle.prescription.proofs.Storing.{eighths, toric-out-sphere, toric-out-cylinder, toric-out-sum, toric-stored}
 use Rattle.prescription.proofs.fields.stored_toric.Goals as goal
-use Rattle.prescription.proofs.fields.stored_toric.Goals.{After-count_of-sum_count, After-toric_keeps}
-
--- the bits of both powers, where their sum is counted
-sphere-bits : (p : After-count_of-sum_count)
-    → some p.in-Whole.s
-    ≡ bits_in (count_of 8 p.args.sphere)
-sphere-bits p = sym (ap count_as p.in-Whole.is) ∙ p.count_of-sphere_count.ensures
-
-cylinder-bits : (p : After-count_of-sum_count)
-    → some p.in-Whole-cylinder_count.c
-    ≡ bits_in (count_of 8 p.args.cylinder)
-cylinder-bits p = sym (ap count_as p.in-Whole-cylinder_count.is) ∙ p.count_of-cylinder_count.ensures
+use Rattle.prescription.proofs.fields.stored_toric.Goals.{After-toric_keeps}
 
 -- past the three counts the rules decide
 decided : (k : After-toric_keeps) (b : Bool) → k.toric_keeps.result ≡ b
     → let a = k.args in
-    must b none (some (fields 2 k.in-Whole.s k.in-Whole-cylinder_count.c a.axis))
+    must b none (some (fields 2 k.in_ok-sphere_count.sphere_count k.in_ok-cylinder_count.cylinder_count a.axis))
     ≡ stored_of (toric_of (count_of 8 a.sphere) (count_of 8 a.cylinder) a.axis)
 decided k b is =
     let a = k.args in
-    let u = k.in-Whole.s in
-    let v = k.in-Whole-cylinder_count.c in
-    sym (toric-stored a.sphere a.cylinder u v k.in-Whole-sum_count.t a.axis (sym (ap count_as k.in-Whole.is) ∙ k.count_of-sphere_count.ensures)
-    (sym (ap count_as k.in-Whole-cylinder_count.is) ∙ k.count_of-cylinder_count.ensures)
-    (sym (ap count_as k.in-Whole-sum_count.is) ∙ k.count_of-sum_count.ensures)
+    let u = k.in_ok-sphere_count.sphere_count in
+    let v = k.in_ok-cylinder_count.cylinder_count in
+    sym (toric-stored a.sphere a.cylinder u v k.in_ok-sum_count.sum_count a.axis k.in_ok-sphere_count.ensures k.in_ok-cylinder_count.ensures
+    k.in_ok-sum_count.ensures
     ∙ ap (λ (t : Bool). must t none (some (fields 2 u v a.axis))) (sym k.toric_keeps.ensures ∙ is))
 
-pub count_of-sphere_count-requires : goal.count_of-sphere_count-requires
-count_of-sphere_count-requires c = eighths
+pub count_of-requires : goal.count_of-requires
+count_of-requires c = eighths
 
-pub returns-in_default : goal.returns-in_default
+pub count_of-requires-2 : goal.count_of-requires-2
+count_of-requires-2 c = eighths
+
+pub count_of-requires-3 : goal.count_of-requires-3
+count_of-requires-3 c = eighths
+
+pub returns-in_err-sphere_count : goal.returns-in_err-sphere_count
 unfolding lens_of
-returns-in_default c =
+returns-in_err-sphere_count c =
     let a = c.args in
-    toric-out-sphere (count_of 8 a.sphere) (count_of 8 a.cylinder) a.axis (sym (ap count_as c.in_default.is)
-    ∙ c.count_of-sphere_count.ensures)
+    ap stored_as c.from_residual.ensures ∙ toric-out-sphere (count_of 8 a.sphere) (count_of 8 a.cylinder) a.axis c.in_err-sphere_count.ensures
 
-pub count_of-cylinder_count-requires : goal.count_of-cylinder_count-requires
-count_of-cylinder_count-requires c = eighths
-
-pub returns-in_default-cylinder_count : goal.returns-in_default-cylinder_count
+pub returns-in_err-cylinder_count : goal.returns-in_err-cylinder_count
 unfolding lens_of
-returns-in_default-cylinder_count c =
+returns-in_err-cylinder_count c =
     let a = c.args in
-    toric-out-cylinder (count_of 8 a.sphere) (count_of 8 a.cylinder) a.axis (sym (ap count_as c.in_default-cylinder_count.is)
-    ∙ c.count_of-cylinder_count.ensures)
+    ap stored_as c.from_residual-in_err-cylinder_count.ensures
+    ∙ toric-out-cylinder (count_of 8 a.sphere) (count_of 8 a.cylinder) a.axis c.in_err-cylinder_count.ensures
 
-pub count_of-sum_count-requires : goal.count_of-sum_count-requires
-count_of-sum_count-requires c = eighths
-
-pub returns-in_default-sum_count : goal.returns-in_default-sum_count
+pub returns-in_err-sum_count : goal.returns-in_err-sum_count
 unfolding lens_of
-returns-in_default-sum_count c =
+returns-in_err-sum_count c =
     let a = c.args in
-    toric-out-sum a.sphere a.cylinder _ _ a.axis (sphere-bits (goal.at.returns-in_default-sum_count c).After-count_of-sum_count) (cylinder-bits (goal.at.returns-in_default-sum_count c).After-count_of-sum_count) (sym (ap count_as c.in_default-sum_count.is) ∙ c.count_of-sum_count.ensures)
+    ap stored_as c.from_residual-in_err-sum_count.ensures
+    ∙ toric-out-sum a.sphere a.cylinder _ _ a.axis c.in_ok-sphere_count.ensures c.in_ok-cylinder_count.ensures c.in_err-sum_count.ensures
 
 pub returns-then-not-toric_keeps : goal.returns-then-not-toric_keeps
 unfolding lens_of
@@ -70,4 +58,6 @@ returns-then-not-toric_keeps c = decided (goal.at.returns-then-not-toric_keeps c
 
 pub returns : goal.returns
 unfolding lens_of
-returns c = decided (goal.at.returns c).After-toric_keeps true (c.if-not-toric_keeps.false)
+returns c =
+    ap (λ (k : ℕ). some (fields k c.in_ok-sphere_count.sphere_count c.in_ok-cylinder_count.cylinder_count c.args.axis)) c.from.ensures
+    ∙ decided (goal.at.returns c).After-toric_keeps true (c.if-not-toric_keeps.false)

@@ -1,7 +1,6 @@
 -- `read_stored` meets its contract: either eye can be refused, and then the distance. Assumes nothing.
-use Rattle.std.proofs.Common.{sym, ap, ◌∙◌}
+use Rattle.std.proofs.Common.{◌∙◌}
 use Rattle.prescription.specs.Stored.{lens_in, fields_at, byte_at}
-use Rattle.prescription.specs.Outcomes.{eye_answered}
 use Rattle.prescription.proofs.Reading.{eye-read, both_read}
 use Rattle.prescription.proofs.texts.read_stored.Goals as goal
 
@@ -11,10 +10,5 @@ returns c =
     let r = lens_in (fields_at t 0) in
     let l = lens_in (fields_at t 6) in
     c.with_distance.ensures
-    ∙ both_read r l c.in-Kept.right
-    c.in-Kept-left_answer.left (byte_at t 12)
-    (eye-read r c.in-Kept.right
-    (sym (ap eye_answered c.in-Kept.is)
-    ∙ c.eye_at-right_answer.ensures))
-    (eye-read l c.in-Kept-left_answer.left (sym (ap eye_answered c.in-Kept-left_answer.is)
-    ∙ c.eye_at-left_answer.ensures))
+    ∙ both_read r l c.in_ok-right.right c.in_ok-left.left (byte_at t 12)
+    (eye-read r c.in_ok-right.right c.in_ok-right.ensures) (eye-read l c.in_ok-left.left c.in_ok-left.ensures)

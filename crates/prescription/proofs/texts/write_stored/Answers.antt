@@ -1,16 +1,15 @@
 -- `write_stored` meets its contract: the distance decides. Assumes nothing.
 use Rattle.prescription.proofs.Writing.{short-distance, long-distance, right-distance}
 use Rattle.prescription.proofs.texts.write_stored.Goals as goal
+use Rattle.prescription.proofs.texts.write_stored.Goals.{then-halves-via-then-halves, then-halves-via-else-halves+then-halves-2}
 
 pub returns-then-halves : goal.returns-then-halves
 returns-then-halves c =
     let a = c.args in
-    short-distance a.text.now a.right a.left a.halves c.if-halves.true
-
-pub returns-then-halves-2 : goal.returns-then-halves-2
-returns-then-halves-2 c =
-    let a = c.args in
-    long-distance a.text.now a.right a.left a.halves c.if-halves-2.true
+    elim c.then-halves.branch [
+      | then-halves-via-then-halves w ↦ short-distance a.text.now a.right a.left a.halves w.if-halves.true
+      | then-halves-via-else-halves+then-halves-2 w ↦ long-distance a.text.now a.right a.left a.halves w.if-halves-2.true
+    ]
 
 pub returns : goal.returns
 returns c =

@@ -4,16 +4,15 @@ use lib.Ieee.{binary64, add, neg}
 use Rattle.prescription.specs.declared.eyes.Eye.TheVariants.{Plano, Sphere, Toric}
 use Rattle.prescription.specs.Lens.{plano, sphere, toric, keeps, transposed}
 use Rattle.prescription.specs.Eyes.{lens_of, eye_of}
-use Rattle.prescription.specs.Counts.{stored_as}
 use Rattle.prescription.specs.Outcomes.{answered, transpose_out}
 use Rattle.prescription.proofs.Lenses.{toric-kept}
-use Rattle.prescription.proofs.LensOfEye.{refuses, sphere-told, toric-told, sphere-lens, toric-lens, sphere-eye, toric-eye, transposes}
+use Rattle.prescription.proofs.LensOfEye.{sphere-told, toric-told, sphere-lens, toric-lens, sphere-eye, toric-eye, transposes}
 use Rattle.prescription.proofs.LensOfEye.{toric-transposed, restored}
 use Rattle.prescription.proofs.eyes.Eye.transpose.Goals as goal
 
 pub turned-requires : goal.turned-requires
 turned-requires c =
-    let i = toric-told c.in-Kept.is c.stored-stored.ensures c.in-Toric.is in
+    let i = toric-told c.in_ok-ok_or.ensures.ok_part c.stored.ensures c.in-Toric.is in
     (toric-kept i.s i.c c.in-Toric.axis i.kept).high
 
 pub returns-in-Plano-clause-answer : goal.returns-in-Plano-clause-answer
@@ -34,7 +33,7 @@ returns-in-Sphere-clause-answer c =
     let self = c.args.self in
     let p = c.in-Sphere.power in
     let is = c.in-Sphere.is in
-    let i = sphere-told c.in-Kept.is c.stored-stored.ensures is in
+    let i = sphere-told c.in_ok-ok_or.ensures.ok_part c.stored.ensures is in
     let l = sphere i.count in
     let eye : Sphere p ≡ eye_of l = sphere-eye p i (search rules) in
     ap answered eye ∙ sym (transposes (Sphere p) l (sphere-lens p i)) ∙ ap transpose_out (sym is)
@@ -45,7 +44,7 @@ returns-in-Sphere-clause-bits c =
     let self = c.args.self in
     let p = c.in-Sphere.power in
     let is = c.in-Sphere.is in
-    let i = sphere-told c.in-Kept.is c.stored-stored.ensures is in
+    let i = sphere-told c.in_ok-ok_or.ensures.ok_part c.stored.ensures is in
     let l = sphere i.count in
     let eye : Sphere p ≡ eye_of l = sphere-eye p i (search rules) in
     restored self (Sphere p) l i.kept (is ∙ eye) eye
@@ -54,7 +53,7 @@ pub returns-in-Toric-clause-answer : goal.returns-in-Toric-clause-answer
 returns-in-Toric-clause-answer c =
     let self = c.args.self in
     let is = c.in-Toric.is in
-    let i = toric-told c.in-Kept.is c.stored-stored.ensures is in
+    let i = toric-told c.in_ok-ok_or.ensures.ok_part c.stored.ensures is in
     let x = c.in-Toric.sphere in
     let y = c.in-Toric.cylinder in
     let a = c.in-Toric.axis in
@@ -67,7 +66,7 @@ pub returns-in-Toric-clause-bits : goal.returns-in-Toric-clause-bits
 returns-in-Toric-clause-bits c =
     let self = c.args.self in
     let is = c.in-Toric.is in
-    let i = toric-told c.in-Kept.is c.stored-stored.ensures is in
+    let i = toric-told c.in_ok-ok_or.ensures.ok_part c.stored.ensures is in
     let x = c.in-Toric.sphere in
     let y = c.in-Toric.cylinder in
     let a = c.in-Toric.axis in
@@ -76,8 +75,6 @@ returns-in-Toric-clause-bits c =
     ap (Toric (add binary64 x y) (neg y)) c.turned.ensures ∙ toric-transposed x y a i (search rules) in restored self (Toric (add binary64 x y) (neg y) c.turned.result) l i.kept
     (is ∙ toric-eye x y a i (search rules) (search rules)) f
 
-pub returns-in_default-clause-answer : goal.returns-in_default-clause-answer
+pub returns-in_err-ok_or-clause-answer : goal.returns-in_err-ok_or-clause-answer
 unfolding transpose_out
-returns-in_default-clause-answer c =
-    let self = c.args.self in
-    refuses (λ l. eye_of (transposed l)) (lens_of self) (sym (ap stored_as c.in_default.is) ∙ c.stored-stored.ensures)
+returns-in_err-ok_or-clause-answer c = search rules
