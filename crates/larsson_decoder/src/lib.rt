@@ -1,7 +1,7 @@
 // The Larsson code's word reader: from a found word to its rank, its placement and its message, or the refusal. Assumes nothing.
 #![tactic(auto)]
 
-ghost use Rattle.std.specs.Prelude.{◌≡◌, Ok, []};
+ghost use Rattle.std.specs.Prelude.{◌≡◌, []};
 ghost use Rattle.cells.specs.Codec.{accepted};
 ghost use Rattle.cells.specs.Outcomes.{decoded_from, decode_under};
 ghost use Rattle.cells.specs.Figures.{placement_of};
@@ -9,7 +9,7 @@ ghost use Rattle.larsson.specs.Outcomes.{coding};
 ghost use Rattle.larsson.specs.Reading.{read};
 ghost use Rattle.decoder.specs.Answer.{decoded_as};
 ghost use Rattle.larsson_params.specs.Given.{larsson_figures_of, LarssonLayoutFits, SubStartsOf};
-ghost use Rattle.larsson_decoder.specs.Located.{LarssonWordLent, LocatedIn};
+ghost use Rattle.larsson_decoder.specs.Located.{LarssonWordLent, LocatedAt};
 
 use crate::locate::{Located, locate};
 use decoder::{Decoded, unread};
@@ -79,7 +79,7 @@ fn decode_placed(
     message: &mut [u8],
 ) -> Decoded
     requires { LarssonWordLent layout word.now message.old × SubStartsOf (larsson_figures_of layout) starts.now
-        × LocatedIn (larsson_figures_of layout) word.now (Ok located) }
+        × LocatedAt (larsson_figures_of layout) word.now located.rank located.placement located.kinds }
     ensures { decoded_as result message.new ≡ decoded_from layout.b message.old (read (larsson_figures_of layout) word.now) }
 {
     let placement = located.placement;
@@ -87,7 +87,15 @@ fn decode_placed(
         return unread(Refusal::Erased);
     }
     let walk = larsson_words::walk_of(layout.n, layout.m, layout.b, layout.sub_len);
-    larsson_words::take_message(walk, layout.q, placement, starts, &located.kinds, word, message);
+    larsson_words::take_message(
+        walk,
+        layout.q,
+        placement,
+        starts,
+        &located.kinds,
+        word,
+        message,
+    );
     Decoded {
         answer: Ok(located.rank),
         placement,

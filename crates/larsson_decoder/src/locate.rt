@@ -21,7 +21,11 @@ pub struct Located {
 }
 
 // The placement that a found word shows, where sub-blocks have a symbol. Refusals: 21 8 9.
-pub fn locate(layout: LarssonLayout, starts: &[u16; Layout::MAX_HEADS], word: &[u8]) -> Result<Located, Refusal>
+pub fn locate(
+    layout: LarssonLayout,
+    starts: &[u16; Layout::MAX_HEADS],
+    word: &[u8],
+) -> Result<Located, Refusal>
     requires { FoundWord layout word.now × SubStartsOf (larsson_figures_of layout) starts.now × (0 < layout.sub_len) }
     ensures { LocatedIn (larsson_figures_of layout) word.now result }
 {
