@@ -8,10 +8,10 @@ ghost use Rattle.text.specs.Nibbles.{nibbles_of, nibbles};
 
 mod number;
 
-// The characters 0 and A.
-const ZERO: u8 = 48;
+// The first of the figures, and of the letters.
+const ZERO: u8 = b'0';
 
-const CAPITAL_A: u8 = 65;
+const CAPITAL_A: u8 = b'A';
 
 // One character.
 pub fn put_byte(line: &mut [u8], at: usize, byte: u8) -> usize
