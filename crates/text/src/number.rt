@@ -33,10 +33,8 @@ fn put_last_digits(digits: &mut [u8], count: usize, value: u64)
     requires { count ≤ length digits.old }
     ensures { take count digits.new ≡ last_digits count value }
 {
-    let mut i = count;
     let mut rest = value;
-    while i > 0 {
-        i -= 1;
+    for i in (0..count).rev() {
         digits[i] = digit(rest % 10);
         rest /= 10;
     }

@@ -33,9 +33,9 @@ pub loop-i-init : goal.loop-i-init
 loop-i-init c =
     let a = c.args in
     let all = last_digits a.count a.value in
-    (omega arith, ap (λ (l : List ℕ). all ++ l) (slice_empty a.count a.digits.now) ∙ append-nil all)
+    ap (λ (l : List ℕ). all ++ l) (slice_empty a.count a.digits.now) ∙ append-nil all
 
 pub loop-i-preserved : goal.loop-i-preserved
 loop-i-preserved c =
     let l = c.loop-i in
-    (omega arith, digit-turn l.i c.args.count l.rest c.digit.result l.digits (omega arith) (omega arith) (omega arith) c.digit.ensures ∙ l.invariant.1)
+    digit-turn l.i c.args.count l.rest c.digit.result l.digits (omega arith) (omega arith) (omega arith) c.digit.ensures ∙ l.invariant
