@@ -63,11 +63,7 @@ impl Eye {
         match self {
             Eye::Plano => Kind::Plano,
             Eye::Sphere(_) => Kind::Sphere,
-            Eye::Toric {
-                sphere: _,
-                cylinder: _,
-                axis: _,
-            } => Kind::Toric,
+            Eye::Toric { .. } => Kind::Toric,
         }
     }
 
@@ -105,7 +101,7 @@ impl Eye {
             Eye::Toric {
                 sphere,
                 cylinder,
-                axis: _,
+                ..
             } => Ok(sphere + cylinder * 0.5),
         }
     }
