@@ -13,4 +13,4 @@ returns-then-word-a c =
 pub returns : goal.returns
 returns c =
     let a = c.args in
-    sym (stretches-same (λ x. get_or a.word.now x 0) a.a a.b a.len (λ j h. c.loop-k.invariant.1 j (omega (arith, c.loop-k-test.false))))
+    sym (stretches-same (λ x. get_or a.word.now x 0) a.a a.b a.len (λ j h. c.loop-k.invariant j (omega (arith, c.loop-k-test.false))))
