@@ -101,20 +101,13 @@ fn in_range(bits: u16) -> bool
 pub fn eye_of(stored: StoredEye) -> Result<Eye, Refusal>
     ensures { eye_answered result ≡ or_refused eye_of (lens_in stored) }
 {
-    let kind = Kind::try_from(stored.kind)?;
-    match kind {
-        Kind::Plano => {
-            if stored.sphere != 0 || stored.cylinder != 0 || stored.axis != 0 {
-                return Err(Refusal::Prescription);
-            }
-            Ok(Eye::Plano)
-        }
-        Kind::Sphere => {
-            if stored.cylinder != 0 || stored.axis != 0 {
-                return Err(Refusal::Prescription);
-            }
-            kept(Eye::Sphere(power_of(stored.sphere)))
-        }
+    match Kind::try_from(stored.kind)? {
+        Kind::Plano if stored.sphere == 0 && stored.cylinder == 0 && stored.axis == 0 => Ok(
+            Eye::Plano,
+        ),
+        Kind::Sphere if stored.cylinder == 0 && stored.axis == 0 => kept(Eye::Sphere(power_of(
+            stored.sphere,
+        ))),
         Kind::Toric => {
             kept(Eye::Toric {
                 sphere: power_of(stored.sphere),
@@ -122,6 +115,7 @@ pub fn eye_of(stored: StoredEye) -> Result<Eye, Refusal>
                 axis: stored.axis,
             })
         }
+        _ => Err(Refusal::Prescription),
     }
 }
 

@@ -18,7 +18,7 @@ use decoder::WordAnswer;
 use jobs::JobTable;
 use params::{Params, bytes};
 use placements::Placement;
-use prescription::texts::{Prescription, PrescriptionAnswer};
+use prescription::texts::Prescription;
 use refusals::Refusal;
 use symbols::numbers::{BYTE_VALUES, NUMBER_BYTES};
 
@@ -127,7 +127,7 @@ fn write_payload(
     ensures { unwritten word.new result
         ≡ as_job (coding_in layout) (entries table) (held_as at) number (length payload.old) word.old (prescribed_of prescription) }
 {
-    let refusal = prescription.write_text(&mut payload[NUMBER_BYTES..]);
+    let refusal = refusals::answer(prescription.write_text(&mut payload[NUMBER_BYTES..]));
     if refusal != Refusal::NONE {
         return refusal;
     }
@@ -201,7 +201,7 @@ fn hand_out(table: JobTable, q: u64, message: &[u8], payload: &mut [u8]) -> Read
 {
     payloads::unspell(q, bytes::byte_width(q), message, payload);
     let answer = Prescription::read_text(&payload[NUMBER_BYTES..]);
-    let PrescriptionAnswer::Kept(prescription) = answer else {
+    let Ok(prescription) = answer else {
         return ReadAnswer::Refused(Refusal::PRESCRIPTION);
     };
     let number = payloads::job_number(payload);
