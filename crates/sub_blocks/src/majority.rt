@@ -86,10 +86,5 @@ fn same_stretches(word: &[u8], a: usize, b: usize, len: usize) -> bool
     requires { (a + len ≤ length word.now) × (b + len ≤ length word.now) }
     ensures { result ≡ same_list (tabulate len a (λ x. get_or word.now x 0)) (tabulate len b (λ x. get_or word.now x 0)) }
 {
-    for k in 0..len {
-        if word[a + k] != word[b + k] {
-            return false;
-        }
-    }
-    true
+    word[a..a + len] == word[b..b + len]
 }
