@@ -2,11 +2,12 @@
 #![tactic(auto)]
 
 ghost use Rattle.std.specs.Prelude.{◌≡◌, List, ℕ, length};
+ghost use Rattle.refusals.specs.Numbers.{answer_of};
 ghost use Rattle.codes.specs.Bridge.{coding_of};
 ghost use Rattle.codes.specs.Given.{coding_in, Serves};
 ghost use Rattle.lanes.specs.Outcomes.{unfilled, rearranged, interleave_under, deinterleave_under};
 
-use codes::{Figures, FiguresAnswer, WordLayout};
+use codes::{Figures, WordLayout};
 use params::found::found_bound;
 use refusals::Refusal;
 
@@ -19,73 +20,85 @@ pub const MIN_DEPTH: u32 = 1;
 pub const MAX_DEPTH: u32 = 16;
 
 // Words to the strip: `depth` words of n symbols, one after another, so that strip cell t holds symbol t / depth of word t mod depth. Refusals: 1 2 18 3 4.
-pub fn interleave(figures: Figures, depth: u32, words: &[u8], strip: &mut [u8]) -> u8
-    ensures { unfilled strip.new result ≡ interleave_under (coding_of figures) depth words.now strip.old }
+pub fn interleave(
+    figures: Figures,
+    depth: u32,
+    words: &[u8],
+    strip: &mut [u8],
+) -> Result<(), Refusal>
+    ensures { unfilled strip.new (answer_of result) ≡ interleave_under (coding_of figures) depth words.now strip.old }
 {
-    let answer = figures.layout();
-    match answer {
-        FiguresAnswer::Refused(number) => number,
-        FiguresAnswer::Fit(layout) => interleave_fitting(layout, depth, words, strip),
-    }
+    interleave_fitting(figures.layout()?, depth, words, strip)
 }
 
 // The same for figures that fit. Refusals: 18 3 4.
-pub fn interleave_fitting(layout: WordLayout, depth: u32, words: &[u8], strip: &mut [u8]) -> u8
+pub fn interleave_fitting(
+    layout: WordLayout,
+    depth: u32,
+    words: &[u8],
+    strip: &mut [u8],
+) -> Result<(), Refusal>
     requires { Serves layout }
-    ensures { unfilled strip.new result ≡ interleave_under (coding_in layout) depth words.now strip.old }
+    ensures { unfilled strip.new (answer_of result) ≡ interleave_under (coding_in layout) depth words.now strip.old }
 {
-    let refusal = judged(layout, depth, layout.q, words, strip.len());
-    if refusal != Refusal::NONE {
-        return refusal;
-    }
+    judged(layout, depth, layout.q, words, strip.len())?;
     transpose::transpose(depth as usize, layout.n, words, strip);
-    Refusal::NONE
+    Ok(())
 }
 
 // The strip to words: the same the other way round, of found symbols, which may be q. Refusals: 1 2 18 3 4.
-pub fn deinterleave(figures: Figures, depth: u32, strip: &[u8], words: &mut [u8]) -> u8
-    ensures { unfilled words.new result ≡ deinterleave_under (coding_of figures) depth strip.now words.old }
+pub fn deinterleave(
+    figures: Figures,
+    depth: u32,
+    strip: &[u8],
+    words: &mut [u8],
+) -> Result<(), Refusal>
+    ensures { unfilled words.new (answer_of result) ≡ deinterleave_under (coding_of figures) depth strip.now words.old }
 {
-    let answer = figures.layout();
-    match answer {
-        FiguresAnswer::Refused(number) => number,
-        FiguresAnswer::Fit(layout) => deinterleave_fitting(layout, depth, strip, words),
-    }
+    deinterleave_fitting(figures.layout()?, depth, strip, words)
 }
 
 // The same for figures that fit. Refusals: 18 3 4.
-pub fn deinterleave_fitting(layout: WordLayout, depth: u32, strip: &[u8], words: &mut [u8]) -> u8
+pub fn deinterleave_fitting(
+    layout: WordLayout,
+    depth: u32,
+    strip: &[u8],
+    words: &mut [u8],
+) -> Result<(), Refusal>
     requires { Serves layout }
-    ensures { unfilled words.new result ≡ deinterleave_under (coding_in layout) depth strip.now words.old }
+    ensures { unfilled words.new (answer_of result) ≡ deinterleave_under (coding_in layout) depth strip.now words.old }
 {
-    let refusal = judged(layout, depth, found_bound(layout.q), strip, words.len());
-    if refusal != Refusal::NONE {
-        return refusal;
-    }
+    judged(layout, depth, found_bound(layout.q), strip, words.len())?;
     transpose::transpose(layout.n, depth as usize, strip, words);
-    Refusal::NONE
+    Ok(())
 }
 
-// What a depth, a lent buffer whose symbols are to be below a bound, and the room of the other are refused with: 18 3 4, or 0.
-fn judged(layout: WordLayout, depth: u32, bound: u64, from: &[u8], room: usize) -> u8
+// Whether a depth, a lent buffer whose symbols are to be below a bound, and the room of the other serve. Refusals: 18 3 4.
+fn judged(
+    layout: WordLayout,
+    depth: u32,
+    bound: u64,
+    from: &[u8],
+    room: usize,
+) -> Result<(), Refusal>
     requires { Serves layout }
-    ensures { (out filled : List ℕ) → length out ≡ room → result ≡ (rearranged (coding_in layout) depth bound from.now out filled).answer }
+    ensures { (out filled : List ℕ) → length out ≡ room → answer_of result ≡ (rearranged (coding_in layout) depth bound from.now out filled).answer }
 {
     if depth < MIN_DEPTH {
-        return Refusal::DEPTH;
+        return Err(Refusal::Depth);
     }
     if MAX_DEPTH < depth {
-        return Refusal::DEPTH;
+        return Err(Refusal::Depth);
     }
     let len = depth as usize * layout.n;
     if from.len() != len {
-        return Refusal::LENGTH;
+        return Err(Refusal::Length);
     }
     if room != len {
-        return Refusal::LENGTH;
+        return Err(Refusal::Length);
     }
     if !symbols::all_below(from, bound) {
-        return Refusal::SYMBOL;
+        return Err(Refusal::Symbol);
     }
-    Refusal::NONE
+    Ok(())
 }

@@ -30,7 +30,7 @@ pub fn round_trip(
         ((coding_of figures).codec.encode (starts_in at) message.now) }
     ensures read { decoded_as result read.new ≡ read_back (coding_of figures) (starts_in at) message.now }
 {
-    codes::encode(figures, at, message, word);
+    let _ = codes::encode(figures, at, message, word);
     spoil(at, figures.burst_len(), damage, word);
     codes::decode(figures, word, read)
 }
