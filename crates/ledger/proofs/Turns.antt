@@ -21,7 +21,7 @@ use Rattle.jobs.specs.Table.{TableOut}
 use Rattle.ledger.specs.Calls.{table_from, answers_from}
 use Rattle.jobs.specs.Slots.{entries, outcome}
 use Rattle.jobs.specs.Letters.{list_kind, known, is_list_letter, call_by}
-use Rattle.ledger.specs.Replay.{call_before, calls_of, replayed, made, AreCalls}
+use Rattle.ledger.specs.Replay.{call_before, calls_of, replayed, made}
 
 -- ---- A test of every number
 
@@ -100,6 +100,3 @@ module _ (start : List Entry) (letters numbers answers : List ℕ) (es : List En
       let filled : answers ≡ answers_from start (calls_of letters numbers) =
       rw (end, append-nil, take_all i answers (omega (arith, s.room))) at s.answers-left in
       rw (← e, ← last, ← filled)
-
-pub none_made : (letters numbers answers : List ℕ) (es : List Entry) → AreCalls letters numbers answers → Replaying es letters numbers answers es 0
-none_made letters numbers answers es h = record { room = h.answers-fit; letters-left = h.known-letters; table-left = refl; answers-left = refl }
