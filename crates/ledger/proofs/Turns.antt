@@ -78,11 +78,13 @@ module _ (start : List Entry) (letters numbers answers : List ℕ) (es : List En
       let hn : i < length numbers = omega arith in
       let ha : i < length answers = omega (arith, s.room) in
       let next : calls_of (drop i letters) (drop i numbers) ≡ call_before o n cs = calls-next letters numbers i h hn in
-      let ls = both (is_list_letter (get_or letters i 0)) (all is_list_letter (drop (i + 1) letters)) (sym (all-next is_list_letter letters i h) ∙ s.letters-left) in
-      let a : (answer_of r.answer) ≡ (call_by o es n).answer = ap (λ (x : TableOut). x.answer) out in
+      let ls = both (is_list_letter (get_or letters i 0)) (all is_list_letter (drop (i + 1) letters))
+      (sym (all-next is_list_letter letters i h) ∙ s.letters-left) in
+      let a : answer_of r.answer ≡ (call_by o es n).answer = ap (λ (x : TableOut). x.answer) out in
       let t : entries r.table ≡ (call_by o es n).table = ap (λ (x : TableOut). x.table) out in
-      let filled : take (i + 1) (set answers i (answer_of r.answer)) ≡ take i answers ++ ((answer_of r.answer) ∷ []) = rw add-one (take-suc-set answers i (answer_of r.answer) ha) in
-      let rest : (answer_of r.answer) ∷ answers_from (entries r.table) cs ≡ answers_from es (calls_of (drop i letters) (drop i numbers)) =
+      let filled : take (i + 1) (set answers i (answer_of r.answer)) ≡ take i answers ++ (answer_of r.answer ∷ []) =
+      rw add-one (take-suc-set answers i (answer_of r.answer) ha) in
+      let rest : answer_of r.answer ∷ answers_from (entries r.table) cs ≡ answers_from es (calls_of (drop i letters) (drop i numbers)) =
       ap₂ {C = List ℕ} ◌∷◌ a (ap (λ (x : List Entry). answers_from x cs) t) ∙ sym (answers_next es n cs o ls.0) ∙ ap (answers_from es) (sym next) in
       record {
         room = length-set answers i (answer_of r.answer) ∙ s.room;
