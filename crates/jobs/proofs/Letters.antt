@@ -4,12 +4,8 @@ use mathlib.Core.Logic.{◌≢◌}
 use mathlib.Core.Option.{none}
 use Prim.Native.Nat.{ℕ}
 use Rattle.combinatorics.proofs.Cases.{eqb-other}
-use Rattle.jobs.specs.Letters.{kind_of, list_kind}
+use Rattle.jobs.specs.Letters.{kind_of}
 
 pub no_kind : (k : ℕ) → k ≢ 79 → k ≢ 67 → k ≢ 70 → kind_of k ≡ none
 unfolding kind_of
 no_kind k o c f = rw (eqb-other k 79 o, eqb-other k 67 c, eqb-other k 70 f)
-
-pub list-kind : (k : ℕ) → k ≢ 73 → k ≢ 72 → k ≢ 85 → list_kind k ≡ kind_of k
-unfolding list_kind
-list-kind k i h u = rw (eqb-other k 73 i, eqb-other k 72 h, eqb-other k 85 u)

@@ -96,7 +96,3 @@ module _ (t : JobTable) (long : length t.slots ≡ slot_count) (marks : List Boo
 
     pub marks-found : again (drop (i + 1) (entries t)) (get_or t.slots i d) ≡ true → twice (entries t) ≡ true
     marks-found p = twice-part i (entries t) (twice-here t long i d h p)
-
--- all slots are seen
-pub first : (es : List Entry) (marks : List Bool) (i : ℕ) → i ≡ 0 → Marked es marks i → false ≡ twice es
-first es marks i z m = sym (rw z at m.once)

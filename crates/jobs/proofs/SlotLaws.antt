@@ -32,18 +32,26 @@ unfolding any
 any-is t [] = refl
 any-is t (e ∷ es) =
     by_bool (t e) (λ p. rw p (sym (leb-holds 1 (suc (length es)) (omega arith))))
-    (λ p. let s : 1 + position_or_len t es ≡ suc (position_or_len t es) = omega arith in rw (p, s, any-is t es) (sym (leb-suc-suc (suc (position_or_len t es)) (length es))))
+    (λ p.
+    let s : 1 + position_or_len t es ≡ suc (position_or_len t es) = omega arith in
+    rw (p, s, any-is t es) (sym (leb-suc-suc (suc (position_or_len t es)) (length es))))
 
 replace-is : (t : Entry → Bool) (x : Entry) (es : List Entry) → position_or_len t es < length es → replace_first t x es ≡ set es (position_or_len t es) x
 unfolding replace_first
 replace-is t x [] h = absurd (omega arith)
 replace-is t x (e ∷ es) h =
-    by_bool (t e) (λ p. rw p) (λ p. let s : 1 + position_or_len t es ≡ suc (position_or_len t es) = omega arith in rw (p, s) (ap {B = List Entry} (λ r. e ∷ r) (replace-is t x es (omega (arith, rw p at h)))))
+    by_bool (t e) (λ p. rw p)
+    (λ p.
+    let s : 1 + position_or_len t es ≡ suc (position_or_len t es) = omega arith in
+    rw (p, s) (ap {B = List Entry} (λ r. e ∷ r) (replace-is t x es (omega (arith, rw p at h)))))
 
 entry_at : (t : Entry → Bool) (es : List Entry) (d : Entry) → position_or_len t es < length es → first_entry t es ≡ get_or es (position_or_len t es) d
 unfolding first_entry
 entry_at t [] d h = absurd (omega arith)
-entry_at t (e ∷ es) d h = by_bool (t e) (λ p. rw p) (λ p. let s : 1 + position_or_len t es ≡ suc (position_or_len t es) = omega arith in rw (p, s) (entry_at t es d (omega (arith, rw p at h))))
+entry_at t (e ∷ es) d h = by_bool (t e) (λ p. rw p)
+    (λ p.
+    let s : 1 + position_or_len t es ≡ suc (position_or_len t es) = omega arith in
+    rw (p, s) (entry_at t es d (omega (arith, rw p at h))))
 
 no-entry : (t : Entry → Bool) (es : List Entry) → length es ≤ position_or_len t es → first_entry t es ≡ Free
 unfolding first_entry
@@ -55,7 +63,8 @@ no-entry t (e ∷ es) h = by_bool (t e) (λ p. absurd (omega (arith, rw p at h))
 module _ (t : Entry → Bool) (es : List Entry) where
   at-some : (i : ℕ) → Some i ≡ position t es → (position_or_len t es < length es) × (i ≡ position_or_len t es)
   at-some i p =
-      by_le (suc (position_or_len t es)) (length es) (λ b. Some i ≡ cond b (Some (position_or_len t es)) None → (position_or_len t es < length es) × (i ≡ position_or_len t es))
+      by_le (suc (position_or_len t es)) (length es)
+      (λ b. Some i ≡ cond b (Some (position_or_len t es)) None → (position_or_len t es < length es) × (i ≡ position_or_len t es))
       (λ h q. (h, cc)) (λ h q. absurd (cc)) p
 
   at-none : None ≡ position t es → length es ≤ position_or_len t es

@@ -21,7 +21,7 @@ use Rattle.jobs.specs.Table.{TableOut}
 use Rattle.ledger.specs.Calls.{table_from, answers_from}
 use Rattle.jobs.specs.Slots.{entries, outcome}
 use Rattle.jobs.specs.Letters.{list_kind, known, is_list_letter, call_by}
-use Rattle.ledger.specs.Replay.{call_before, calls_of, replayed, made, AreCalls}
+use Rattle.ledger.specs.Replay.{call_before, calls_of, replayed, made}
 
 -- ---- A test of every number
 
@@ -78,11 +78,13 @@ module _ (start : List Entry) (letters numbers answers : List ℕ) (es : List En
       let hn : i < length numbers = omega arith in
       let ha : i < length answers = omega (arith, s.room) in
       let next : calls_of (drop i letters) (drop i numbers) ≡ call_before o n cs = calls-next letters numbers i h hn in
-      let ls = both (is_list_letter (get_or letters i 0)) (all is_list_letter (drop (i + 1) letters)) (sym (all-next is_list_letter letters i h) ∙ s.letters-left) in
-      let a : (answer_of r.answer) ≡ (call_by o es n).answer = ap (λ (x : TableOut). x.answer) out in
+      let ls = both (is_list_letter (get_or letters i 0)) (all is_list_letter (drop (i + 1) letters))
+      (sym (all-next is_list_letter letters i h) ∙ s.letters-left) in
+      let a : answer_of r.answer ≡ (call_by o es n).answer = ap (λ (x : TableOut). x.answer) out in
       let t : entries r.table ≡ (call_by o es n).table = ap (λ (x : TableOut). x.table) out in
-      let filled : take (i + 1) (set answers i (answer_of r.answer)) ≡ take i answers ++ ((answer_of r.answer) ∷ []) = rw add-one (take-suc-set answers i (answer_of r.answer) ha) in
-      let rest : (answer_of r.answer) ∷ answers_from (entries r.table) cs ≡ answers_from es (calls_of (drop i letters) (drop i numbers)) =
+      let filled : take (i + 1) (set answers i (answer_of r.answer)) ≡ take i answers ++ (answer_of r.answer ∷ []) =
+      rw add-one (take-suc-set answers i (answer_of r.answer) ha) in
+      let rest : answer_of r.answer ∷ answers_from (entries r.table) cs ≡ answers_from es (calls_of (drop i letters) (drop i numbers)) =
       ap₂ {C = List ℕ} ◌∷◌ a (ap (λ (x : List Entry). answers_from x cs) t) ∙ sym (answers_next es n cs o ls.0) ∙ ap (answers_from es) (sym next) in
       record {
         room = length-set answers i (answer_of r.answer) ∙ s.room;
@@ -100,6 +102,3 @@ module _ (start : List Entry) (letters numbers answers : List ℕ) (es : List En
       let filled : answers ≡ answers_from start (calls_of letters numbers) =
       rw (end, append-nil, take_all i answers (omega (arith, s.room))) at s.answers-left in
       rw (← e, ← last, ← filled)
-
-pub none_made : (letters numbers answers : List ℕ) (es : List Entry) → AreCalls letters numbers answers → Replaying es letters numbers answers es 0
-none_made letters numbers answers es h = record { room = h.answers-fit; letters-left = h.known-letters; table-left = refl; answers-left = refl }

@@ -39,7 +39,8 @@ returns-in-Open c =
 pub returns-in-OnHold : goal.returns-in-OnHold
 returns-in-OnHold c =
     let l = (goal.at.returns-in-OnHold c).After-lookup-entry in
-    c.put-in-OnHold.ensures (holds c.args.number) c.slot_of-in-OnHold.ensures.slot ∙ (decided l).stores (Cancelled l.args.number WasOnHold) _ c.in-OnHold.is refl refl
+    c.put-in-OnHold.ensures (holds c.args.number) c.slot_of-in-OnHold.ensures.slot
+    ∙ (decided l).stores (Cancelled l.args.number WasOnHold) _ c.in-OnHold.is refl refl
 
 pub returns-else-not-is_job : goal.returns-else-not-is_job
 returns-else-not-is_job c =
