@@ -4,15 +4,8 @@ ghost use Rattle.std.specs.Prelude.{◌≡◌};
 ghost use Rattle.lent_prescriptions.specs.Eyes.{is_plus_zero, eye_from, eye_kind, eye_sphere, eye_cylinder, eye_axis, powers_lent, transpose_lent, power_lent};
 ghost use Rattle.lent_prescriptions.specs.Eyes.{equivalent_lent};
 
-use prescription::eyes::{Eye, EyeAnswer, PowerAnswer};
+use prescription::eyes::{Eye, Kind};
 use refusals::Refusal;
-
-// The kinds.
-const PLANO: u8 = 0;
-
-const SPHERE: u8 = 1;
-
-const TORIC: u8 = 2;
 
 // How many marks and powers an eye has.
 const EYE_LEN: usize = 2;
@@ -29,8 +22,8 @@ pub fn transpose(eye: Eye, marks: &mut [u8], powers: &mut [f64]) -> u8
     }
     let answer = eye.transpose();
     match answer {
-        EyeAnswer::Refused(number) => number,
-        EyeAnswer::Kept(transposed) => {
+        Err(refusal) => u8::from(refusal),
+        Ok(transposed) => {
             marks[0] = kind_of(transposed);
             marks[1] = axis_of(transposed);
             powers[0] = sphere_of(transposed);
@@ -49,8 +42,8 @@ pub fn spherical_equivalent(eye: Eye, power: &mut [f64]) -> u8
     }
     let answer = eye.spherical_equivalent();
     match answer {
-        PowerAnswer::Refused(number) => number,
-        PowerAnswer::Power(equivalent) => {
+        Err(refusal) => u8::from(refusal),
+        Ok(equivalent) => {
             power[0] = equivalent;
             Refusal::NONE
         }
@@ -61,67 +54,39 @@ pub fn spherical_equivalent(eye: Eye, power: &mut [f64]) -> u8
 pub fn eye_from(kind: u8, sphere: f64, cylinder: f64, axis: u8) -> Eye
     ensures { result ≡ eye_from kind sphere cylinder axis }
 {
-    if kind == TORIC {
-        return Eye::Toric {
+    match Kind::try_from(kind) {
+        Ok(Kind::Plano) if is_plus_zero(sphere) && is_plus_zero(cylinder) && axis == 0 =>
+            Eye::Plano,
+        Ok(Kind::Sphere) if is_plus_zero(cylinder) && axis == 0 => Eye::Sphere(sphere),
+        Ok(Kind::Toric) => Eye::Toric {
             sphere,
             cylinder,
             axis,
-        };
+        },
+        _ => Eye::Sphere(0.0),
     }
-    if !is_plus_zero(cylinder) {
-        return Eye::Sphere(0.0);
-    }
-    if axis != 0 {
-        return Eye::Sphere(0.0);
-    }
-    if kind == SPHERE {
-        return Eye::Sphere(sphere);
-    }
-    if !is_plus_zero(sphere) {
-        return Eye::Sphere(0.0);
-    }
-    if kind == PLANO {
-        return Eye::Plano;
-    }
-    Eye::Sphere(0.0)
 }
 
 // A NaN has no bits of its own, so that they are asked for only of a number.
 fn is_plus_zero(x: f64) -> bool
     ensures { result ≡ is_plus_zero x }
 {
-    if x == 0.0 {
-        return f64::to_bits(x) == 0;
-    }
-    false
+    x == 0.0 && x.to_bits() == 0
 }
 
 // The four values of an eye.
 pub fn kind_of(eye: Eye) -> u8
     ensures { result ≡ eye_kind eye }
 {
-    match eye {
-        Eye::Plano => PLANO,
-        Eye::Sphere(_) => SPHERE,
-        Eye::Toric {
-            sphere: _,
-            cylinder: _,
-            axis: _,
-        } => TORIC,
-    }
+    u8::from(eye.kind())
 }
 
 pub fn axis_of(eye: Eye) -> u8
     ensures { result ≡ eye_axis eye }
 {
     match eye {
-        Eye::Plano => 0,
-        Eye::Sphere(_) => 0,
-        Eye::Toric {
-            sphere: _,
-            cylinder: _,
-            axis,
-        } => axis,
+        Eye::Plano | Eye::Sphere(_) => 0,
+        Eye::Toric { axis, .. } => axis,
     }
 }
 
@@ -131,11 +96,7 @@ pub fn sphere_of(eye: Eye) -> f64
     match eye {
         Eye::Plano => 0.0,
         Eye::Sphere(power) => power,
-        Eye::Toric {
-            sphere,
-            cylinder: _,
-            axis: _,
-        } => sphere,
+        Eye::Toric { sphere, .. } => sphere,
     }
 }
 
@@ -143,12 +104,7 @@ pub fn cylinder_of(eye: Eye) -> f64
     ensures { result ≡ eye_cylinder eye }
 {
     match eye {
-        Eye::Plano => 0.0,
-        Eye::Sphere(_) => 0.0,
-        Eye::Toric {
-            sphere: _,
-            cylinder,
-            axis: _,
-        } => cylinder,
+        Eye::Plano | Eye::Sphere(_) => 0.0,
+        Eye::Toric { cylinder, .. } => cylinder,
     }
 }
