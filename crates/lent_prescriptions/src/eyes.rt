@@ -1,6 +1,7 @@
 // An eye as numbers: its kind, its powers in dioptres and its axis in degrees. Inner functions of transposing, the spherical equivalent and
 // prescriptions for other languages. Assumes nothing.
 ghost use Rattle.std.specs.Prelude.{◌≡◌};
+ghost use Rattle.refusals.specs.Numbers.{answer_of};
 ghost use Rattle.lent_prescriptions.specs.Eyes.{is_plus_zero, eye_from, eye_kind, eye_sphere, eye_cylinder, eye_axis, powers_lent, transpose_lent, power_lent};
 ghost use Rattle.lent_prescriptions.specs.Eyes.{equivalent_lent};
 
@@ -14,40 +15,40 @@ const EYE_LEN: usize = 2;
 pub fn transpose(eye: Eye, marks: &mut [u8], powers: &mut [f64]) -> u8
     ensures { powers_lent marks.new powers.new result ≡ transpose_lent eye marks.old powers.old }
 {
-    if marks.len() != EYE_LEN {
-        return Refusal::LENGTH;
+    refusals::answer(put_transposed(eye, marks, powers))
+}
+
+// The same by the refusal itself.
+fn put_transposed(eye: Eye, marks: &mut [u8], powers: &mut [f64]) -> Result<(), Refusal>
+    ensures { powers_lent marks.new powers.new (answer_of result) ≡ transpose_lent eye marks.old powers.old }
+{
+    if marks.len() != EYE_LEN || powers.len() != EYE_LEN {
+        return Err(Refusal::Length);
     }
-    if powers.len() != EYE_LEN {
-        return Refusal::LENGTH;
-    }
-    let answer = eye.transpose();
-    match answer {
-        Err(refusal) => u8::from(refusal),
-        Ok(transposed) => {
-            marks[0] = kind_of(transposed);
-            marks[1] = axis_of(transposed);
-            powers[0] = sphere_of(transposed);
-            powers[1] = cylinder_of(transposed);
-            Refusal::NONE
-        }
-    }
+    let transposed = eye.transpose()?;
+    marks[0] = kind_of(transposed);
+    marks[1] = axis_of(transposed);
+    powers[0] = sphere_of(transposed);
+    powers[1] = cylinder_of(transposed);
+    Ok(())
 }
 
 // Puts the spherical equivalent of an eye into `power`. Refusals: 3 16.
 pub fn spherical_equivalent(eye: Eye, power: &mut [f64]) -> u8
     ensures { power_lent power.new result ≡ equivalent_lent eye power.old }
 {
+    refusals::answer(put_equivalent(eye, power))
+}
+
+// The same by the refusal itself.
+fn put_equivalent(eye: Eye, power: &mut [f64]) -> Result<(), Refusal>
+    ensures { power_lent power.new (answer_of result) ≡ equivalent_lent eye power.old }
+{
     if power.len() != 1 {
-        return Refusal::LENGTH;
+        return Err(Refusal::Length);
     }
-    let answer = eye.spherical_equivalent();
-    match answer {
-        Err(refusal) => u8::from(refusal),
-        Ok(equivalent) => {
-            power[0] = equivalent;
-            Refusal::NONE
-        }
-    }
+    power[0] = eye.spherical_equivalent()?;
+    Ok(())
 }
 
 // The eye that four values are. Values that are none are taken as a sphere of power 0, which the rules refuse.
