@@ -6,18 +6,10 @@ ghost use Rattle.combinatorics.specs.Choose.{choose as ways};
 ghost use Rattle.cells.specs.Figures.{max_count, count_out, max_word, max_bursts};
 ghost use Rattle.binomials.specs.Limits.{max_taken, most_things, counted_as};
 
-// A count: its value, or that it exceeds the largest that is given.
-#[derive(Clone, Copy)]
-pub enum CountAnswer {
-    Ways(u64),
-    TooMany,
-}
+// The largest count that is given.
+pub const MAX_COUNT: u64 = 9223372036854775807;
 
-impl CountAnswer {
-    pub const MAX: u64 = 9223372036854775807;
-}
-
-// Out of so many things 7, and 8, are chosen in at most CountAnswer::MAX ways, and out of one more in more ways than that.
+// Out of so many things 7, and 8, are chosen in at most MAX_COUNT ways, and out of one more in more ways than that.
 const MOST_FOR_7: u64 = 1733;
 
 const MOST_FOR_8: u64 = 887;
@@ -25,16 +17,16 @@ const MOST_FOR_8: u64 = 887;
 // How many are taken by one product: so many factors fit 64 bits.
 const MAX_TAKEN: u64 = 5;
 
-// The ways to choose k things out of n, or that they are too many.
-pub fn count(n: u64, k: u64) -> CountAnswer
+// The ways to choose k things out of n, or None where they are more than MAX_COUNT.
+pub fn count(n: u64, k: u64) -> Option<u64>
     requires { (n ≤ max_word) × (k ≤ max_bursts) }
     ensures value { counted_as result ≡ count_out (ways n k) }
-    ensures limit { CountAnswer.MAX ≡ max_count }
+    ensures limit { MAX_COUNT ≡ max_count }
 {
     if too_many(n, k) {
-        return CountAnswer::TooMany;
+        return None;
     }
-    CountAnswer::Ways(choose(n, k))
+    Some(choose(n, k))
 }
 
 // The ways to choose k things out of n, where a count can give them: from the table of choices, or worked out where it doesn't have them.
@@ -80,7 +72,7 @@ pub fn worked_out(n: u64, k: u64) -> u64
     scaled(worked_out(n, fewer), n - fewer, k)
 }
 
-// Whether k things are chosen out of n in more than CountAnswer::MAX ways. Fewer than 7 never are, as no word has enough symbols.
+// Whether k things are chosen out of n in more than MAX_COUNT ways. Fewer than 7 never are, as no word has enough symbols.
 fn too_many(n: u64, k: u64) -> bool
     requires { (n ≤ max_word) × (k ≤ max_bursts) }
     ensures { result ≡ ltb (most_things k) n }
@@ -110,11 +102,9 @@ fn choose_few(n: u64, k: u64) -> u64
 {
     let mut taken: u64 = 1;
     let mut orders: u64 = 1;
-    let mut i: u64 = 0;
-    while i < k {
+    for i in 0..k {
         taken *= n - i;
-        i += 1;
-        orders *= i;
+        orders *= i + 1;
     }
     taken / orders
 }

@@ -48,14 +48,11 @@ fn mark_bursts(
 {
     let blocks = layout.parts * layout.m;
     let mut last: usize = 0;
-    let mut j: usize = 0;
-    while j < layout.m {
-        let s = at.starts[j];
-        let start = s as usize;
+    for j in 0..layout.m {
+        let start = at.starts[j] as usize;
         last = layout.block_from(heads, last, start + layout.b - 1);
         let next = burst_block(kinds, blocks, last);
         kinds[next] = BURST;
-        j += 1;
     }
 }
 
@@ -86,10 +83,8 @@ fn mark_part(kinds: &mut [u8; Layout::MAX_BLOCKS], m: usize, part: usize)
         ≡ marked (is_index_in m (burst_set kinds.old) (Chosen.whole part)) kinds.old k }
 {
     let from = part * m;
-    let mut j: usize = 0;
-    while j < m {
+    for j in 0..m {
         kinds[from + j] = INDEX;
-        j += 1;
     }
 }
 
@@ -99,11 +94,9 @@ fn mark_one_each(kinds: &mut [u8; Layout::MAX_BLOCKS], parts: usize, m: usize)
     ensures { (k : ℕ) → k < parts * m → get_or kinds.new k 0
         ≡ marked (is_index_in m (burst_set kinds.old) Chosen.one_each) kinds.old k }
 {
-    let mut i: usize = 0;
-    while i < parts {
+    for i in 0..parts {
         let at = i * m + beside(kinds, m, i);
         kinds[at] = INDEX;
-        i += 1;
     }
 }
 
@@ -123,14 +116,12 @@ fn first_spare(kinds: &[u8; Layout::MAX_BLOCKS], blocks: usize) -> usize
     requires { blocks ≤ max_blocks }
     ensures { result ≡ first blocks 0 (λ k. not (burst_set kinds.now k)) }
 {
-    let mut k: usize = 0;
-    while k < blocks {
+    for k in 0..blocks {
         if kinds[k] != BURST {
             return k;
         }
-        k += 1;
     }
-    k
+    blocks
 }
 
 // Whether part `part` has so many burst blocks: it is left as soon as it has more, or too few blocks to come.
@@ -140,16 +131,14 @@ fn has_bursts(kinds: &[u8; Layout::MAX_BLOCKS], m: usize, part: usize, wanted: u
 {
     let from = part * m;
     let mut missing = wanted;
-    let mut j: usize = 0;
-    while j < m {
+    for j in 0..m {
         if kinds[from + j] == BURST {
             if missing == 0 {
                 return false;
             }
             missing -= 1;
         }
-        j += 1;
-        if m - j < missing {
+        if m - (j + 1) < missing {
             return false;
         }
     }
@@ -161,14 +150,12 @@ fn part_with(kinds: &[u8; Layout::MAX_BLOCKS], parts: usize, m: usize, wanted: u
     requires { parts * m ≤ max_blocks }
     ensures { result ≡ part_with parts m (burst_set kinds.now) wanted }
 {
-    let mut i: usize = 0;
-    while i < parts {
+    for i in 0..parts {
         if has_bursts(kinds, m, i, wanted) {
             return i;
         }
-        i += 1;
     }
-    i
+    parts
 }
 
 // The block of a part that comes after its first burst block, 0 after the last; counted within the part.
@@ -177,14 +164,12 @@ fn beside(kinds: &[u8; Layout::MAX_BLOCKS], m: usize, part: usize) -> usize
     ensures { result ≡ Rattle.construction_a.specs.Writing.beside m (burst_set kinds.now) part }
 {
     let from = part * m;
-    let mut j: usize = 0;
-    while j < m {
+    for j in 0..m {
         if kinds[from + j] == BURST {
             return following(m, j);
         }
-        j += 1;
     }
-    following(m, j)
+    following(m, m)
 }
 
 // The number after i, of n: 0 after the last.

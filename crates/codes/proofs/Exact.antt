@@ -19,7 +19,8 @@ use Rattle.construction_b.proofs.DemandTwo as B
 use Rattle.larsson.proofs.DemandTwo as L
 use Rattle.params.specs.Bridge.{given, given_long}
 use Rattle.decoder.specs.declared.Decoded.{Decoded as Answered}
-use Rattle.decoder.specs.Answer.{word_number, decoded_as}
+use Rattle.refusals.specs.Numbers.{answer_of}
+use Rattle.decoder.specs.Answer.{decoded_as}
 use Rattle.decoder.proofs.DemandTwo.{decodes-exactly-under, by-outcome-under}
 use Rattle.codes.specs.declared.Figures.{Figures}
 use Rattle.codes.specs.declared.Figures.TheVariants.{Ranked, Long, Larsson}
@@ -40,7 +41,7 @@ own-refusals (Larsson p) = L.own-refusals (given p)
 -- the clauses of word read's contract
 pub by-outcome : (f : Figures) (w out : List ℕ) (r : Answered) (left : List ℕ) → decoded_as r left ≡ decode_under (coding_of f) w out
     → (decoded_as r left ≡ decode_under (coding_of f) w out)
-    × (DecodesExactly f w out (decoded_as r left) × (word_number r.answer ≡ answer_number (decode_under (coding_of f) w out).answer))
+    × (DecodesExactly f w out (decoded_as r left) × (answer_of r.answer ≡ answer_number (decode_under (coding_of f) w out).answer))
 by-outcome f w out =
     by-outcome-under (coding_of f) (ListedIn f) w out (decodes-exactly-under (coding_of f) (ListedIn f) (demand-two f) w out)
 

@@ -2,22 +2,24 @@
 #![tactic(auto)]
 
 ghost use Rattle.std.specs.Prelude.{◌≡◌};
+ghost use Rattle.refusals.specs.Numbers.{answer_of};
 ghost use Rattle.cells.specs.Outcomes.{answer_number, figures_under, encode_under, cover_under, decode_under};
 ghost use Rattle.placements.specs.Bridge.{held_as, covered_as};
-ghost use Rattle.decoder.specs.Answer.{word_number, decoded_as};
+ghost use Rattle.decoder.specs.Answer.{decoded_as};
 ghost use Rattle.codes.specs.Bridge.{coding_of};
 ghost use Rattle.codes.specs.Given.{coding_in, count_by, tail_by, Serves, of_blocks, of_sub_blocks};
-ghost use Rattle.codes.specs.Answer.{figured_as, LaidAs, by_blocks, by_sub_blocks};
+ghost use Rattle.codes.specs.Answer.{figured_as, LaidAs};
 ghost use Rattle.codes.specs.DemandTwo.{DecodesExactly};
 
 use decoder::{Decoded, unread};
-use larsson_params::{LarssonAnswer, LarssonLayout};
+use larsson_params::LarssonLayout;
 use params::long::LongParams;
-use params::{Layout, LayoutAnswer, Params};
-use placements::{CoverAnswer, Placement, unplaced};
+use params::{Layout, Params};
+use placements::Placement;
+use refusals::Refusal;
 
 // The figures of each code: Construction A, Construction B, and the Larsson code of the older trays.
-#[derive(Clone, Copy)]
+#[derive(Clone, Copy, Debug, PartialEq, Eq)]
 pub enum Figures {
     Ranked(Params),
     Long(LongParams),
@@ -25,7 +27,7 @@ pub enum Figures {
 }
 
 // A code's own layout: by blocks, as both constructions have it, or by sub-blocks.
-#[derive(Clone, Copy)]
+#[derive(Clone, Copy, Debug, PartialEq, Eq)]
 pub enum Laid {
     Blocks(Layout),
     SubBlocks(LarssonLayout),
@@ -33,7 +35,7 @@ pub enum Laid {
 
 // The figures of a word that can be laid out, and k, which every code has; beside them the code's own layout. Construction B has one burst. Positions and
 // lengths are usize, values u64.
-#[derive(Clone, Copy)]
+#[derive(Clone, Copy, Debug, PartialEq, Eq)]
 pub struct WordLayout {
     pub n: usize,
     pub q: u64,
@@ -43,23 +45,18 @@ pub struct WordLayout {
     pub laid: Laid,
 }
 
-// What "figures alone" answers.
-#[derive(Clone, Copy)]
-pub enum FiguresAnswer {
-    Fit(WordLayout),
-    Refused(u8),
-}
-
 impl Figures {
     // The layout that the figures give, whatever numbers come. Refusals in order: 1 2.
-    pub fn layout(self) -> FiguresAnswer
+    pub fn layout(self) -> Result<WordLayout, Refusal>
         ensures answer { figured_as result ≡ figures_under (coding_of self) }
         ensures layout { LaidAs self result }
     {
         match self {
-            Figures::Ranked(p) => by_blocks(Params::figures(p.n, p.q, p.m, p.b)),
-            Figures::Long(p) => by_blocks(LongParams::figures(p.n, p.q, p.b)),
-            Figures::Larsson(p) => by_sub_blocks(larsson_params::figures(p.n, p.q, p.m, p.b)),
+            Figures::Ranked(p) => Ok(WordLayout::from(Params::figures(p.n, p.q, p.m, p.b)?)),
+            Figures::Long(p) => Ok(WordLayout::from(LongParams::figures(p.n, p.q, p.b)?)),
+            Figures::Larsson(p) => {
+                Ok(WordLayout::from(larsson_params::figures(p.n, p.q, p.m, p.b)?))
+            }
         }
     }
 
@@ -91,8 +88,7 @@ impl WordLayout {
     pub fn placement_count(self) -> u64
         ensures { result ≡ count_by self.laid }
     {
-        let laid = self.laid;
-        match laid {
+        match self.laid {
             Laid::Blocks(own) => own.placement_count,
             Laid::SubBlocks(own) => own.placement_count,
         }
@@ -102,80 +98,68 @@ impl WordLayout {
     pub fn index_tail(self) -> usize
         ensures { result ≡ tail_by self.laid }
     {
-        let laid = self.laid;
-        match laid {
+        match self.laid {
             Laid::Blocks(own) => own.index_tail,
             Laid::SubBlocks(own) => own.sub_len,
         }
     }
 }
 
-// Either construction's answer.
-fn by_blocks(answer: LayoutAnswer) -> FiguresAnswer
-    ensures { result ≡ by_blocks answer }
-{
-    match answer {
-        LayoutAnswer::Refused(number) => FiguresAnswer::Refused(number),
-        LayoutAnswer::Fit(own) => FiguresAnswer::Fit(of_blocks(own)),
+impl From<Layout> for WordLayout {
+    ghost from_gives = { λ own layout. layout ≡ of_blocks own };
+
+    fn from(own: Layout) -> WordLayout {
+        WordLayout {
+            n: own.n,
+            q: own.q,
+            m: own.m,
+            b: own.b,
+            message_len: own.message_len,
+            laid: Laid::Blocks(own),
+        }
     }
 }
 
-fn of_blocks(own: Layout) -> WordLayout
-    ensures { result ≡ of_blocks own }
-{
-    WordLayout {
-        n: own.n,
-        q: own.q,
-        m: own.m,
-        b: own.b,
-        message_len: own.message_len,
-        laid: Laid::Blocks(own),
-    }
-}
+impl From<LarssonLayout> for WordLayout {
+    ghost from_gives = { λ own layout. layout ≡ of_sub_blocks own };
 
-// The Larsson code's answer.
-fn by_sub_blocks(answer: LarssonAnswer) -> FiguresAnswer
-    ensures { result ≡ by_sub_blocks answer }
-{
-    match answer {
-        LarssonAnswer::Refused(number) => FiguresAnswer::Refused(number),
-        LarssonAnswer::Fit(own) => FiguresAnswer::Fit(of_sub_blocks(own)),
-    }
-}
-
-fn of_sub_blocks(own: LarssonLayout) -> WordLayout
-    ensures { result ≡ of_sub_blocks own }
-{
-    WordLayout {
-        n: own.n,
-        q: own.q,
-        m: own.m,
-        b: own.b,
-        message_len: own.message_len,
-        laid: Laid::SubBlocks(own),
+    fn from(own: LarssonLayout) -> WordLayout {
+        WordLayout {
+            n: own.n,
+            q: own.q,
+            m: own.m,
+            b: own.b,
+            message_len: own.message_len,
+            laid: Laid::SubBlocks(own),
+        }
     }
 }
 
 // Word write: the word of a placement and of a message of k symbols, into the lent word of n. Refusals: 1 2 3 5 4.
-pub fn encode(figures: Figures, at: Placement, message: &[u8], word: &mut [u8]) -> u8
-    ensures answer { result ≡ (encode_under (coding_of figures) (held_as at) message.now word.old).answer }
+pub fn encode(
+    figures: Figures,
+    at: Placement,
+    message: &[u8],
+    word: &mut [u8],
+) -> Result<(), Refusal>
+    ensures answer { answer_of result ≡ (encode_under (coding_of figures) (held_as at) message.now word.old).answer }
     ensures word { word.new ≡ (encode_under (coding_of figures) (held_as at) message.now word.old).word }
 {
-    let answer = figures.layout();
-    match answer {
-        FiguresAnswer::Refused(number) => number,
-        FiguresAnswer::Fit(layout) => encode_fitting(layout, at, message, word),
-    }
+    encode_fitting(figures.layout()?, at, message, word)
 }
 
 // The same for figures that fit. Refusals: 3 5 4.
-pub fn encode_fitting(layout: WordLayout, at: Placement, message: &[u8], word: &mut [u8]) -> u8
+pub fn encode_fitting(
+    layout: WordLayout,
+    at: Placement,
+    message: &[u8],
+    word: &mut [u8],
+) -> Result<(), Refusal>
     requires { Serves layout }
-    ensures answer { result ≡ (encode_under (coding_in layout) (held_as at) message.now word.old).answer }
+    ensures answer { answer_of result ≡ (encode_under (coding_in layout) (held_as at) message.now word.old).answer }
     ensures word { word.new ≡ (encode_under (coding_in layout) (held_as at) message.now word.old).word }
 {
-    let laid = layout.laid;
-    match laid {
+    match layout.laid {
         Laid::Blocks(own) => encoder::encode_fitting(own, at, message, word),
         Laid::SubBlocks(own) => larsson_encoder::encode_fitting(own, at, message, word),
     }
@@ -186,12 +170,11 @@ pub fn encode_fitting(layout: WordLayout, at: Placement, message: &[u8], word: &
 pub fn decode(figures: Figures, word: &[u8], message: &mut [u8]) -> Decoded
     ensures outcome { decoded_as result message.new ≡ decode_under (coding_of figures) word.now message.old }
     ensures exactly { DecodesExactly figures word.now message.old (decoded_as result message.new) }
-    ensures number { word_number result.answer ≡ answer_number (decode_under (coding_of figures) word.now message.old).answer }
+    ensures number { answer_of result.answer ≡ answer_number (decode_under (coding_of figures) word.now message.old).answer }
 {
-    let answer = figures.layout();
-    match answer {
-        FiguresAnswer::Refused(number) => unread(number),
-        FiguresAnswer::Fit(layout) => decode_fitting(layout, word, message),
+    match figures.layout() {
+        Err(refusal) => unread(refusal),
+        Ok(layout) => decode_fitting(layout, word, message),
     }
 }
 
@@ -200,8 +183,7 @@ pub fn decode_fitting(layout: WordLayout, word: &[u8], message: &mut [u8]) -> De
     requires { Serves layout }
     ensures { decoded_as result message.new ≡ decode_under (coding_in layout) word.now message.old }
 {
-    let laid = layout.laid;
-    match laid {
+    match layout.laid {
         Laid::Blocks(own) => decoder::decode_fitting(own, word, message),
         Laid::SubBlocks(own) => larsson_decoder::decode_fitting(own, word, message),
     }
@@ -209,18 +191,14 @@ pub fn decode_fitting(layout: WordLayout, word: &[u8], message: &mut [u8]) -> De
 
 // The placement of least rank whose bursts cover every defect of a map of n bytes, 1 where a position is defective and 0 elsewhere.
 // Refusals: 1 2 3 4 6.
-pub fn cover(figures: Figures, map: &[u8]) -> CoverAnswer
+pub fn cover(figures: Figures, map: &[u8]) -> Result<Placement, Refusal>
     ensures { covered_as result ≡ cover_under (coding_of figures) map.now }
 {
-    let answer = figures.layout();
-    match answer {
-        FiguresAnswer::Refused(number) => unplaced(number),
-        FiguresAnswer::Fit(layout) => cover_fitting(layout, map),
-    }
+    cover_fitting(figures.layout()?, map)
 }
 
 // The same for figures that fit. Refusals: 3 4 6. Covering goes by n, m and b alone.
-pub fn cover_fitting(layout: WordLayout, map: &[u8]) -> CoverAnswer
+pub fn cover_fitting(layout: WordLayout, map: &[u8]) -> Result<Placement, Refusal>
     requires { Serves layout }
     ensures { covered_as result ≡ cover_under (coding_in layout) map.now }
 {

@@ -17,7 +17,9 @@ use Rattle.cells.specs.Outcomes.{Coding, unserved, figures_under, rank_is, Decod
 use Rattle.cells.proofs.Outcomes.{refused-alike}
 use Rattle.placements.specs.Bridge.{starts_in}
 use Rattle.decoder.specs.declared.Decoded.{Decoded}
-use Rattle.decoder.specs.declared.WordAnswer.TheVariants.{Accepted, Refused}
+use Rattle.std.specs.Prelude.{Ok, Err}
+use Rattle.refusals.specs.declared.Refusal.{Refusal}
+use Rattle.refusals.specs.Numbers.{number_of}
 use Rattle.decoder.specs.Answer.{answer_as, decoded_as}
 use Rattle.decoder.specs.Exported.{lent_as, start_bytes, exported_as, exported_under}
 use Rattle.decoder.specs.Reader.{StartsFit}
@@ -95,8 +97,8 @@ module _ (d : Coding) (w out bytes : List ℕ) where
 
 -- the word reader's answer in code, taken apart
 module _ (bytes out : List ℕ) (d : Decoded) where
-  pub exported-refused : (a : ℕ) → d.answer ≡ Refused a → exported_as bytes (decoded_as d out) ≡ lent_as a out bytes
+  pub exported-refused : (a : Refusal) → d.answer ≡ Err a → exported_as bytes (decoded_as d out) ≡ lent_as (number_of a) out bytes
   exported-refused a e = rw e
 
-  pub exported-served : (v : ℕ) → d.answer ≡ Accepted v → exported_as bytes (decoded_as d out) ≡ lent_as served out (start_bytes (starts_in d.placement))
+  pub exported-served : (v : ℕ) → d.answer ≡ Ok v → exported_as bytes (decoded_as d out) ≡ lent_as served out (start_bytes (starts_in d.placement))
   exported-served v e = rw e

@@ -30,8 +30,6 @@ use Rattle.params.proofs.Fitting.{served, shaped, plan-is}
 use Rattle.placements.specs.declared.Placement.{Placement}
 use Rattle.placements.specs.Bridge.{held_as, PlacesBursts}
 use Rattle.placements.proofs.Calls.{starts-held}
-use Rattle.heads.specs.declared.pattern.IndexBlocks.{IndexBlocks}
-use Rattle.heads.specs.Patterns.{index_in}
 use Rattle.decoder.specs.Reader.{read_message}
 
 module _ (d : Coding) (w out : List ℕ) where
@@ -110,11 +108,6 @@ placing l v p g below e =
       count = ap (λ (h : Held). h.count) e ∙ (placed-starts f ss valid).1;
       placed = ap (is_placement f) (starts-held ss e) ∙ valid;
     }
-
--- the index blocks of an answer
-pub index-some : (m : ℕ) (a : IndexBlocks) → a.found ≡ true → index_in m a ≡ some (take m a.blocks)
-unfolding index_in
-index-some m a e = rw e
 
 -- ---- An accepted word has a placement of m starts
 

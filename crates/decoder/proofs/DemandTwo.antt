@@ -11,10 +11,11 @@ use Rattle.combinatorics.proofs.Cases.{eqb_same}
 use Rattle.cells.specs.Codec.{Reading, accepted, refused, ReadsExactly}
 use Rattle.cells.specs.Figures.{max_bursts}
 use Rattle.cells.specs.Outcomes.{Coding, in_use, held, rank_is, refusal, answer_number, Decoded, unread, decoded_from, decode_under}
-use Rattle.decoder.specs.declared.WordAnswer.{WordAnswer}
-use Rattle.decoder.specs.declared.WordAnswer.TheVariants.{Accepted, Refused}
+use Rattle.std.specs.Prelude.{Result, Ok, Err}
+use Rattle.refusals.specs.declared.Refusal.{Refusal}
+use Rattle.refusals.specs.Numbers.{answer_of}
 use Rattle.decoder.specs.declared.Decoded.{Decoded as Answered}
-use Rattle.decoder.specs.Answer.{answer_as, word_number, decoded_as}
+use Rattle.decoder.specs.Answer.{answer_as, decoded_as}
 use Rattle.decoder.specs.DemandTwo.{DecodesExactlyUnder}
 
 held-starts : (ss : List ℕ) → in_use (held ss) ≡ ss
@@ -58,14 +59,14 @@ decodes-exactly-under d Listed reads w out g =
     }
 
 -- an answer's number is that of what it says
-number_is : (r : WordAnswer) → word_number r ≡ answer_number (answer_as r)
-number_is (Accepted v) = refl
-number_is (Refused a) = refl
+number_is : (r : Result ℕ Refusal) → answer_of r ≡ answer_number (answer_as r)
+number_is (Ok v) = refl
+number_is (Err a) = refl
 
 -- the clauses of a reader's contract, under any figures
 pub by-outcome-under : (d : Coding) (Listed : List ℕ → ℕ → Type 0) (w out : List ℕ) → DecodesExactlyUnder d Listed w out (decode_under d w out)
     → (r : Answered) (left : List ℕ) → decoded_as r left ≡ decode_under d w out
     → (decoded_as r left ≡ decode_under d w out)
-    × (DecodesExactlyUnder d Listed w out (decoded_as r left) × (word_number r.answer ≡ answer_number (decode_under d w out).answer))
+    × (DecodesExactlyUnder d Listed w out (decoded_as r left) × (answer_of r.answer ≡ answer_number (decode_under d w out).answer))
 by-outcome-under d Listed w out exact r left e =
     (e, (subst (DecodesExactlyUnder d Listed w out) (sym e) exact, number_is r.answer ∙ ap (λ (d : Decoded). answer_number d.answer) e))

@@ -1,5 +1,5 @@
 -- What the reader's inner functions ask for and go by. Assumes nothing.
-use Rattle.std.specs.Prelude.{◌≡◌, Bool, true, not, List, ℕ, ◌*◌, ◌≤◌, ◌<◌, min, length}
+use Rattle.std.specs.Prelude.{◌≡◌, Ok, Bool, true, not, List, ℕ, ◌*◌, ◌≤◌, ◌<◌, min, length, take}
 use Rattle.refusals.specs.Refusals.{must, erased}
 use Rattle.combinatorics.specs.Bursts.{rank_of}
 use Rattle.combinatorics.specs.Lists.{all_below}
@@ -10,7 +10,9 @@ use Rattle.cells.specs.Outcomes.{held}
 use Rattle.cells.specs.Plan.{plan_in}
 use Rattle.construction_a.specs.DemandTwo.{IndexRead}
 use Rattle.cells.specs.Figures.{max_bursts}
-use Rattle.construction_a.specs.Reading.{written}
+use Rattle.std.proofs.Math.Option.{some}
+use Rattle.construction_a.specs.Figures.{parts}
+use Rattle.construction_a.specs.Reading.{looks_fixed, index_found, written}
 use Rattle.construction_b.specs.DemandTwo as B
 use Rattle.construction_b.specs.Reading as B'
 use Rattle.params.specs.declared.Layout.{Layout}
@@ -19,7 +21,6 @@ use Rattle.placements.specs.declared.Placement.{Placement}
 use Rattle.placements.specs.Bridge.{held_as, starts_in, PlacesBursts}
 use Rattle.heads.specs.Given.{CompleteWord}
 use Rattle.decoder.specs.declared.Decoded.{Decoded}
-use Rattle.decoder.specs.declared.WordAnswer.TheVariants.{Accepted}
 
 -- "a q among message symbols, after 9" (02, 6): what is left to refuse once the placement is known; otherwise its message is taken
 abbrev pub read_message : Layout → List ℕ → List ℕ → Reading
@@ -34,6 +35,11 @@ pub record WordLent (l : Layout) (whole : Bool) (w out : List ℕ) : Type 0 wher
   pub found : all_below (found_bound l.q) w ≡ true
   pub scanned : whole ≡ all_below l.q w
   pub room : length out ≡ l.message_len
+
+-- the same with the index blocks that the word shows
+pub record IndexShown (l : Layout) (index : List ℕ) (whole : Bool) (w out : List ℕ) : Type 0 where
+  pub lent : WordLent l whole w out
+  pub pattern : index_found (parts (figures_of l)) l.m (looks_fixed (figures_of l) w) ≡ some (take l.m index)
 
 -- the same with the value that index blocks without an erasure spell, no further than T: of Construction A
 pub record RankRead (l : Layout) (ks : List ℕ) (v : ℕ) (whole : Bool) (w out : List ℕ) : Type 0 where
@@ -60,4 +66,4 @@ pub record Located (l : Layout) (at : Placement) (v : ℕ) (whole : Bool) (w out
 
 -- two bytes for each start of an accepted word
 abbrev pub StartsFit : Decoded → List ℕ → Type 0
-StartsFit d bytes = (v : ℕ) → d.answer ≡ Accepted v → (d.placement.count ≤ max_bursts) × (length bytes ≡ 2 * d.placement.count)
+StartsFit d bytes = (v : ℕ) → d.answer ≡ Ok v → (d.placement.count ≤ max_bursts) × (length bytes ≡ 2 * d.placement.count)

@@ -25,8 +25,7 @@ pub fn agrees(
 {
     let blocks = layout.parts * layout.m;
     let mut met: usize = 0;
-    let mut k: usize = 0;
-    while k < blocks {
+    for k in 0..blocks {
         let kind = kinds[k];
         if kind == FIXED {
             let head = layout.block_head(heads, k);
@@ -43,7 +42,6 @@ pub fn agrees(
             }
             met += 1;
         }
-        k += 1;
     }
     met == layout.m
 }

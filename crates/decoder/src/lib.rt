@@ -7,8 +7,9 @@ ghost use Rattle.construction_a.specs.Reading.{written, read_rank};
 ghost use Rattle.params.specs.Given.{figures_of, blocks_coding, BlocksServe, HeadsOf};
 ghost use Rattle.placements.specs.Bridge.{starts_in};
 ghost use Rattle.stretches.specs.ByBlock.{Tables};
-ghost use Rattle.decoder.specs.Answer.{word_number, decoded_as};
-ghost use Rattle.decoder.specs.Reader.{read_message, WordLent, RankRead, Located};
+ghost use Rattle.refusals.specs.Numbers.{number_of};
+ghost use Rattle.decoder.specs.Answer.{decoded_as};
+ghost use Rattle.decoder.specs.Reader.{read_message, WordLent, IndexShown, RankRead, Located};
 
 use params::heads::put_heads;
 use params::{Layout, Spells};
@@ -21,27 +22,10 @@ mod erasures;
 mod offset;
 pub mod starts;
 
-// What a found word is answered with: its rank where it is accepted, or the refusal.
-#[derive(Clone, Copy)]
-pub enum WordAnswer {
-    Accepted(u64),
-    Refused(u8),
-}
-
-// The number of a refused word, 0 for an accepted one.
-pub fn refused_with(answer: WordAnswer) -> u8
-    ensures { result ≡ word_number answer }
-{
-    match answer {
-        WordAnswer::Accepted(_) => Refusal::NONE,
-        WordAnswer::Refused(number) => number,
-    }
-}
-
-// The answer, and the placement beside it, with no starts where the word is refused.
-#[derive(Clone, Copy)]
+// What a found word is answered with: its rank where it is accepted, or the refusal; and the placement beside it, with no starts where the word is refused.
+#[derive(Clone, Copy, Debug, PartialEq, Eq)]
 pub struct Decoded {
-    pub answer: WordAnswer,
+    pub answer: Result<u64, Refusal>,
     pub placement: Placement,
 }
 
@@ -52,14 +36,14 @@ pub fn decode_fitting(layout: Layout, word: &[u8], message: &mut [u8]) -> Decode
     ensures { decoded_as result message.new ≡ decode_under (blocks_coding layout) word.now message.old }
 {
     if word.len() != layout.n {
-        return unread(Refusal::LENGTH);
+        return unread(Refusal::Length);
     }
     if message.len() != layout.message_len {
-        return unread(Refusal::LENGTH);
+        return unread(Refusal::Length);
     }
     let whole = symbols::all_below(word, layout.q);
     if !erasures::can_be_found(layout, whole, word) {
-        return unread(Refusal::SYMBOL);
+        return unread(Refusal::Symbol);
     }
     let mut heads = [0u16; Layout::MAX_HEADS];
     put_heads(&mut heads, layout);
@@ -77,17 +61,29 @@ fn decode_found(
     requires { WordLent layout whole word.now message.old × HeadsOf (figures_of layout) heads.now }
     ensures { decoded_as result message.new ≡ decoded_from layout.b message.old ((blocks_coding layout).codec.decode word.now) }
 {
-    let shown = heads::pattern::index_read(layout, heads, word);
-    if !shown.found {
-        return unread(Refusal::PATTERN);
+    match heads::pattern::index_read(layout, heads, word) {
+        Some(index) => decode_index(layout, heads, index, whole, word, message),
+        None => unread(Refusal::Pattern),
     }
-    let index = shown.blocks;
+}
+
+// The same for the index blocks that the word shows. Refusals: 19 8 9 19.
+fn decode_index(
+    layout: Layout,
+    heads: &[u16; Layout::MAX_HEADS],
+    index: [u8; Placement::MAX],
+    whole: bool,
+    word: &[u8],
+    message: &mut [u8],
+) -> Decoded
+    requires { IndexShown layout index whole word.now message.old × HeadsOf (figures_of layout) heads.now }
+    ensures { decoded_as result message.new ≡ decoded_from layout.b message.old ((blocks_coding layout).codec.decode word.now) }
+{
     if !erasures::index_whole(layout, heads, index, whole, word) {
-        return unread(Refusal::ERASED);
+        return unread(Refusal::Erased);
     }
     let value = heads::written::written_value(layout, heads, word, index);
-    let spells = layout.spells;
-    match spells {
+    match layout.spells {
         Spells::Rank => decode_rank(layout, heads, index, value, whole, word, message),
         Spells::EndOffset => {
             let part = index[0];
@@ -112,12 +108,12 @@ fn decode_rank(
         (read_rank (figures_of layout) word.now (take layout.m index) (written (figures_of layout) word.now (take layout.m index))) }
 {
     if layout.placement_count <= rank {
-        return unread(Refusal::VALUE);
+        return unread(Refusal::Value);
     }
     let placement = Placement::unrank(layout.n as u32, layout.m as u32, layout.b as u32, rank);
     let kinds = blocks::kinds_of(layout, heads, placement);
     if !agree::agrees(layout, heads, &kinds, index, word) {
-        return unread(Refusal::DISAGREES);
+        return unread(Refusal::Disagrees);
     }
     decode_placed(layout, heads, &kinds, placement, rank, whole, word, message)
 }
@@ -139,21 +135,21 @@ fn decode_placed(
 {
     let walk = stretches::walk_of(layout);
     if !message_whole(walk, layout.q, placement, whole, word) {
-        return unread(Refusal::ERASED);
+        return unread(Refusal::Erased);
     }
     take_message(walk, placement, heads, kinds, word, message);
     Decoded {
-        answer: WordAnswer::Accepted(rank),
+        answer: Ok(rank),
         placement,
     }
 }
 
 // A refusal, with no placement.
-pub fn unread(number: u8) -> Decoded
-    ensures { (out : List ℕ) → decoded_as result out ≡ unreadAs out number }
+pub fn unread(refusal: Refusal) -> Decoded
+    ensures { (out : List ℕ) → decoded_as result out ≡ unreadAs out (number_of refusal) }
 {
     Decoded {
-        answer: WordAnswer::Refused(number),
+        answer: Err(refusal),
         placement: Placement::none(),
     }
 }

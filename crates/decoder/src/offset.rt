@@ -31,11 +31,11 @@ pub fn decode_offset(
     let head = layout.block_head(heads, ends);
     let next = layout.block_head(heads, ends + 1);
     if (next - head) as u64 <= value {
-        return unread(Refusal::VALUE);
+        return unread(Refusal::Value);
     }
     let end = head + value as usize + 1;
     if end < layout.b {
-        return unread(Refusal::DISAGREES);
+        return unread(Refusal::Disagrees);
     }
     let start = (end - layout.b) as u64;
     let placement = Placement::unrank(layout.n as u32, layout.m as u32, layout.b as u32, start);

@@ -6,7 +6,7 @@ ghost use Rattle.decoder.specs.Answer.{decoded_as};
 ghost use Rattle.decoder.specs.Exported.{lent_as, start_bytes, exported_as};
 ghost use Rattle.decoder.specs.Reader.{StartsFit};
 
-use crate::{Decoded, WordAnswer};
+use crate::Decoded;
 use placements::Placement;
 use refusals::Refusal;
 use symbols::numbers::BYTE_VALUES;
@@ -16,10 +16,9 @@ pub fn put_decoded(decoded: Decoded, starts: &mut [u8]) -> u8
     requires { StartsFit decoded starts.old }
     ensures { (out : List ℕ) → lent_as result out starts.new ≡ exported_as starts.old (decoded_as decoded out) }
 {
-    let answer = decoded.answer;
-    match answer {
-        WordAnswer::Refused(number) => number,
-        WordAnswer::Accepted(_) => {
+    match decoded.answer {
+        Err(refusal) => u8::from(refusal),
+        Ok(_) => {
             put_starts(decoded.placement, starts);
             Refusal::NONE
         }
@@ -32,12 +31,10 @@ pub fn put_starts(at: Placement, bytes: &mut [u8])
     ensures { bytes.new ≡ start_bytes (starts_in at) }
 {
     let count = at.count as usize;
-    let mut j: usize = 0;
-    while j < count {
+    for j in 0..count {
         let s = at.starts[j];
         let start = s as u64;
         bytes[2 * j] = (start / BYTE_VALUES) as u8;
         bytes[2 * j + 1] = (start % BYTE_VALUES) as u8;
-        j += 1;
     }
 }

@@ -15,9 +15,7 @@ pub fn spelled(q: u64, m: usize, tail: usize, value: u64) -> [u8; MAX_DIGITS]
 {
     let mut digits = [0u8; MAX_DIGITS];
     let mut left = value;
-    let mut block = m;
-    while 0 < block {
-        block -= 1;
+    for block in (0..m).rev() {
         let first = block * (tail + 1);
         let high = put_plain(&mut digits, q, left, first + 1, tail);
         digits[first] = (high % (q - 1) + 1) as u8;
@@ -35,11 +33,9 @@ fn put_plain(digits: &mut [u8; MAX_DIGITS], q: u64, value: u64, from: usize, cou
         → SpelledFrom q ps v (from + count) value digits.old → SpelledFrom q ps v from result digits.new }
 {
     let mut left = value;
-    let mut j = count;
-    while 0 < j {
-        j -= 1;
+    for j in (0..count).rev() {
         digits[from + j] = (left % q) as u8;
-        left = left / q;
+        left /= q;
     }
     left
 }

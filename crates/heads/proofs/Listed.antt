@@ -15,8 +15,7 @@ use Rattle.combinatorics.proofs.Stretch.{count-le}
 use Rattle.cells.specs.Round.{later}
 use Rattle.construction_a.specs.Reading.{bare_parts, open_blocks, index_in_part, cons_both, collect, index_by, index_found}
 use Rattle.heads.specs.declared.pattern.Candidates.{Candidates}
-use Rattle.heads.specs.declared.pattern.IndexBlocks.{IndexBlocks}
-use Rattle.heads.specs.Patterns.{candidates_of, numbered, index_in}
+use Rattle.heads.specs.Patterns.{candidates_of}
 
 -- ---- The candidates of a list
 
@@ -78,27 +77,19 @@ candidates-in i w t = rw (members-on i w, t)
 
 -- ---- The later of two
 
-pub numbered-in : (n i : ℕ) → i < n → numbered n i ≡ some i
-unfolding numbered
-numbered-in n i h = rw (leb-holds (suc i) n h)
-
-pub numbered-out : (n i : ℕ) → n ≤ i → numbered n i ≡ none
-unfolding numbered
-numbered-out n i h = rw (leb-fails (suc i) n (omega arith))
-
 module _ (n : ℕ) (c : Candidates) (xs : List ℕ) (e : c ≡ candidates_of xs) where
-  pub later-alone : c.first < n → c.count ≡ 1 → numbered n c.first ≡ later n xs
+  pub later-alone : c.count ≡ 1 → some c.first ≡ later n xs
   unfolding later
-  later-alone l h = numbered-in n c.first l ∙ rw (first-is c xs e) (go xs (sym (count-is c xs e) ∙ h))
+  later-alone h = rw (first-is c xs e) (go xs (sym (count-is c xs e) ∙ h))
     where
       go : (ys : List ℕ) → length ys ≡ 1 → some (get_or ys 0 0) ≡ later n ys
       go [] z = absurd (omega arith)
       go (y ∷ []) z = refl
       go (y ∷ z ∷ zs) u = absurd (omega arith)
 
-  pub later-many : c.count ≢ 1 → c.count ≢ 2 → numbered n n ≡ later n xs
+  pub later-many : c.count ≢ 1 → c.count ≢ 2 → none ≡ later n xs
   unfolding later
-  later-many f g = numbered-out n n (omega arith) ∙ go xs (λ z. f (count-is c xs e ∙ z)) (λ z. g (count-is c xs e ∙ z))
+  later-many f g = go xs (λ z. f (count-is c xs e ∙ z)) (λ z. g (count-is c xs e ∙ z))
     where
       go : (ys : List ℕ) → length ys ≢ 1 → length ys ≢ 2 → none ≡ later n ys
       go [] u v = refl
@@ -119,35 +110,33 @@ module _ (n : ℕ) (c : Candidates) (xs : List ℕ) (e : c ≡ candidates_of xs)
         go (y ∷ z ∷ []) u = refl
         go (y ∷ z ∷ a ∷ r) u = absurd (omega arith)
 
-    pub later-next : c.second < n → c.second ≡ c.first + 1 → numbered n c.second ≡ later n xs
-    later-next l d = rw (two_is, eqb_same c.second (suc c.first) (omega arith)) (numbered-in n c.second l)
+    pub later-next : c.second ≡ c.first + 1 → some c.second ≡ later n xs
+    later-next d = rw (two_is, eqb_same c.second (suc c.first) (omega arith))
 
     module _ (f : c.second ≢ c.first + 1) where
-      pub later-inner : c.first ≢ 0 → numbered n n ≡ later n xs
+      pub later-inner : c.first ≢ 0 → none ≡ later n xs
       later-inner g =
-          rw (two_is, eqb-other c.second (suc c.first) (omega arith), eqb-other c.first 0 g) (numbered-out n n (omega arith))
+          rw (two_is, eqb-other c.second (suc c.first) (omega arith), eqb-other c.first 0 g)
 
-      pub later-short : c.first ≡ 0 → c.second + 1 ≢ n → numbered n n ≡ later n xs
+      pub later-short : c.first ≡ 0 → c.second + 1 ≢ n → none ≡ later n xs
       later-short z g =
           rw (two_is, eqb-other c.second (suc c.first) (omega arith), eqb_same c.first 0 z, eqb-other (suc c.second) n (omega arith))
-          (numbered-out n n (omega arith))
 
-      pub later-ends : c.first ≡ 0 → c.second + 1 ≡ n → numbered n 0 ≡ later n xs
+      pub later-ends : c.first ≡ 0 → c.second + 1 ≡ n → some 0 ≡ later n xs
       later-ends z g =
           rw (two_is, eqb-other c.second (suc c.first) (omega arith), eqb_same c.first 0 z, eqb_same (suc c.second) n (omega arith))
-          (numbered-in n 0 (omega arith))
 
 -- ---- Parts
 
 -- the index block of a part, by its number within the part
-module _ (m i j : ℕ) (looks : ℕ → Bool) (found : numbered m j ≡ later m (open_blocks m looks i)) where
-  pub in-part : j < m → index_in_part m looks i ≡ some (i * m + j)
+module _ (m i : ℕ) (looks : ℕ → Bool) where
+  pub in-part : (j : ℕ) → some j ≡ later m (open_blocks m looks i) → index_in_part m looks i ≡ some (i * m + j)
   unfolding open_blocks index_in_part
-  in-part l = rw (← found, numbered-in m j l)
+  in-part j found = rw (← found)
 
-  pub in-part-none : m ≤ j → index_in_part m looks i ≡ none
+  pub in-part-none : none ≡ later m (open_blocks m looks i) → index_in_part m looks i ≡ none
   unfolding open_blocks index_in_part
-  in-part-none l = rw (← found, numbered-out m j l)
+  in-part-none found = rw (← found)
 
 both-none : (o : Option ℕ) → cons_both o none ≡ none
 both-none none = refl
@@ -194,13 +183,3 @@ module _ (p m : ℕ) (looks : ℕ → Bool) where
       pub found-each : 2 < m → index_found p m looks ≡ collect p 0 (index_in_part m looks)
       unfolding index_found
       found-each l = rw (e, no_bare, leb-holds 3 m l)
-
--- ---- The answer
-
-pub index-none : (m : ℕ) (a : IndexBlocks) → a.found ≡ false → index_in m a ≡ none
-unfolding index_in
-index-none m a e = rw e
-
-pub index-some : (m : ℕ) (blocks ks : List ℕ) → take m blocks ≡ ks → index_in m (record { found = true; blocks = blocks }) ≡ some ks
-unfolding index_in
-index-some m blocks ks e = rw e

@@ -20,9 +20,7 @@ use Rattle.params.specs.declared.Layout.{Layout}
 use Rattle.params.proofs.Shape.{bound, blocks-fit, head-room, head-is}
 use Rattle.params.specs.Given.{figures_of, max_blocks, Shaped}
 use Rattle.heads.specs.Given.{CompleteWord}
-use Rattle.heads.specs.declared.pattern.IndexBlocks.{IndexBlocks}
 use Rattle.heads.specs.Looks.{starts_fixed}
-use Rattle.heads.specs.Patterns.{index_in}
 use Rattle.heads.specs.Written.{OpenHeads}
 
 -- ---- A layout's parts and blocks
@@ -90,10 +88,9 @@ module _ {l : Layout} {w : List ℕ} (h : CompleteWord l w) where
 
 -- ---- The index blocks read are blocks of the word, and none looks fixed
 
-pub shown : (l : Layout) (w : List ℕ) (a : IndexBlocks) → CompleteWord l w → a.found ≡ true
-    → index_in l.m a ≡ index_found (parts (figures_of l)) l.m (looks_fixed (figures_of l) w) → OpenHeads l w a.blocks
-unfolding index_in
-shown l w a h t e =
+pub shown : (l : Layout) (w blocks : List ℕ) → CompleteWord l w
+    → some (take l.m blocks) ≡ index_found (parts (figures_of l)) l.m (looks_fixed (figures_of l) w) → OpenHeads l w blocks
+shown l w blocks h e =
     record {
       finding = h;
       within = λ j g. rw (← same j g) (each_at (λ k. k < p * l.m) ks j (rw count g) (found_within p l.m looks ks found));
@@ -105,16 +102,16 @@ shown l w a h t e =
     p = parts (figures_of l)
 
     ks : List ℕ
-    ks = take l.m a.blocks
+    ks = take l.m blocks
 
     looks : ℕ → Bool
     looks = looks_fixed (figures_of l) w
 
     found : index_found p l.m looks ≡ some ks
-    found = sym e ∙ rw t
+    found = sym e
 
     count : length ks ≡ l.m
     count = found-count p l.m looks ks (λ g. sym h.layout.parts_is ∙ (parted l h.layout).alike g) found
 
-    same : (j : ℕ) → j < l.m → get_or ks j 0 ≡ get_or a.blocks j 0
-    same j g = get_or-take l.m a.blocks j 0 g
+    same : (j : ℕ) → j < l.m → get_or ks j 0 ≡ get_or blocks j 0
+    same j g = get_or-take l.m blocks j 0 g

@@ -1,6 +1,5 @@
 // The listed patterns: from the blocks that look fixed to the index blocks. Each block is examined as its own stretch of the word. Assumes nothing.
-ghost use Rattle.std.specs.Prelude.{◌≡◌, not, false, List, [], ◌∷◌, ◌++◌, ℕ, ◌+◌, ◌*◌, ◌≤◌, ◌<◌};
-ghost use Rattle.std.proofs.Math.Option.{some};
+ghost use Rattle.std.specs.Prelude.{◌≡◌, not, IfSome, List, [], ◌∷◌, ◌++◌, ℕ, ◌+◌, ◌*◌, ◌≤◌, ◌<◌, take};
 ghost use Rattle.combinatorics.specs.Stretch.{has, consecutive};
 ghost use Rattle.cells.specs.Figures.{max_bursts};
 ghost use Rattle.construction_a.specs.Figures.{parts as parts_of};
@@ -9,21 +8,14 @@ ghost use Rattle.cells.specs.Round.{later};
 ghost use Rattle.construction_a.specs.Reading.{looks_fixed, bare_parts, open_blocks, index_in_part, collect, index_found};
 ghost use Rattle.params.specs.Given.{figures_of, max_blocks, HeadsOf};
 ghost use Rattle.heads.specs.Given.{CompleteWord};
-ghost use Rattle.heads.specs.Patterns.{candidates_of, numbered, index_in};
+ghost use Rattle.heads.specs.Patterns.{candidates_of, picked, index_in};
 
 use crate::looks::looks_fixed;
 use params::Layout;
 use placements::Placement;
 
-// The index blocks read, ascending, where a listed pattern shows them.
-#[derive(Clone, Copy)]
-pub struct IndexBlocks {
-    pub found: bool,
-    pub blocks: [u8; Placement::MAX],
-}
-
 // Numbers taken in ascending order: how many, and the first two of them.
-#[derive(Clone, Copy)]
+#[derive(Clone, Copy, Debug, PartialEq, Eq)]
 struct Candidates {
     count: usize,
     first: usize,
@@ -32,64 +24,62 @@ struct Candidates {
 
 // The index blocks that a found word shows: every block of the part without a block that looks fixed, or of the later of two such parts, or one block
 // of each part; otherwise refusal 7.
-pub fn index_read(layout: Layout, heads: &[u16; Layout::MAX_HEADS], word: &[u8]) -> IndexBlocks
+pub fn index_read(
+    layout: Layout,
+    heads: &[u16; Layout::MAX_HEADS],
+    word: &[u8],
+) -> Option<[u8; Placement::MAX]>
     requires { CompleteWord layout word.now × HeadsOf (figures_of layout) heads.now }
     ensures { index_in layout.m result ≡ index_found (parts_of (figures_of layout)) layout.m (looks_fixed (figures_of layout) word.now) }
 {
     let parts = layout.parts;
     let m = layout.m;
     let bare = bare_parts(layout, heads, word);
-    let part = bare.later(parts);
-    if part < parts {
-        return whole_part(m, part);
+    match bare.later(parts) {
+        Some(part) => Some(whole_part(m, part)),
+        None => {
+            if bare.count != 0 {
+                return None;
+            }
+            if m <= 2 {
+                return None;
+            }
+            one_each(layout, heads, word)
+        }
     }
-    if bare.count != 0 {
-        return IndexBlocks::none();
-    }
-    if m <= 2 {
-        return IndexBlocks::none();
-    }
-    one_each(layout, heads, word)
 }
 
 // Every block of a part.
-fn whole_part(m: usize, part: usize) -> IndexBlocks
+fn whole_part(m: usize, part: usize) -> [u8; Placement::MAX]
     requires { (m ≤ max_bursts) × (part * m + m ≤ max_blocks) }
-    ensures { index_in m result ≡ some (consecutive m (part * m)) }
+    ensures { take m result ≡ consecutive m (part * m) }
 {
     let from = part * m;
     let mut blocks = [0u8; Placement::MAX];
-    let mut j: usize = 0;
-    while j < m {
+    for j in 0..m {
         blocks[j] = (from + j) as u8;
-        j += 1;
     }
-    IndexBlocks {
-        found: true,
-        blocks,
-    }
+    blocks
 }
 
 // One block of each part, where each part shows one.
-fn one_each(layout: Layout, heads: &[u16; Layout::MAX_HEADS], word: &[u8]) -> IndexBlocks
+fn one_each(
+    layout: Layout,
+    heads: &[u16; Layout::MAX_HEADS],
+    word: &[u8],
+) -> Option<[u8; Placement::MAX]>
     requires { CompleteWord layout word.now × HeadsOf (figures_of layout) heads.now }
     ensures { index_in layout.parts result ≡ collect layout.parts 0 (index_in_part layout.m (looks_fixed (figures_of layout) word.now)) }
 {
     let m = layout.m;
     let mut blocks = [0u8; Placement::MAX];
-    let mut i: usize = 0;
-    while i < layout.parts {
-        let j = open_blocks(layout, heads, word, i).later(m);
-        if m <= j {
-            return IndexBlocks::none();
+    for i in 0..layout.parts {
+        match open_blocks(layout, heads, word, i).later(m) {
+            Some(j) => blocks[i] = (i * m + j) as u8,
+            None => return None,
         }
-        blocks[i] = (i * m + j) as u8;
-        i += 1;
     }
-    IndexBlocks {
-        found: true,
-        blocks,
-    }
+    Some(blocks)
 }
 
 // The parts without a block that looks fixed.
@@ -98,12 +88,10 @@ fn bare_parts(layout: Layout, heads: &[u16; Layout::MAX_HEADS], word: &[u8]) -> 
     ensures { result ≡ candidates_of (bare_parts layout.parts layout.m (looks_fixed (figures_of layout) word.now)) }
 {
     let mut bare = Candidates::none();
-    let mut i: usize = 0;
-    while i < layout.parts {
+    for i in 0..layout.parts {
         if is_bare(layout, heads, word, i) {
             bare = bare.with_next(i);
         }
-        i += 1;
     }
     bare
 }
@@ -114,13 +102,11 @@ fn is_bare(layout: Layout, heads: &[u16; Layout::MAX_HEADS], word: &[u8], part: 
     ensures { result ≡ not (has layout.m 0 (row layout.m (looks_fixed (figures_of layout) word.now) part)) }
 {
     let from = part * layout.m;
-    let mut j: usize = 0;
-    while j < layout.m {
+    for j in 0..layout.m {
         let head = layout.block_head(heads, from + j);
         if looks_fixed(&word[head..]) {
             return false;
         }
-        j += 1;
     }
     true
 }
@@ -137,27 +123,13 @@ fn open_blocks(
 {
     let from = part * layout.m;
     let mut shown = Candidates::none();
-    let mut j: usize = 0;
-    while j < layout.m {
+    for j in 0..layout.m {
         let head = layout.block_head(heads, from + j);
         if !looks_fixed(&word[head..]) {
             shown = shown.with_next(j);
         }
-        j += 1;
     }
     shown
-}
-
-impl IndexBlocks {
-    // No listed pattern.
-    fn none() -> IndexBlocks
-        ensures { result.found ≡ false }
-    {
-        IndexBlocks {
-            found: false,
-            blocks: [0; Placement::MAX],
-        }
-    }
 }
 
 impl Candidates {
@@ -197,26 +169,27 @@ impl Candidates {
         }
     }
 
-    // Of numbers below n the one candidate, or the later of two neighbours, which for the first and the last is the first; n or more where there is none.
-    fn later(self, n: usize) -> usize
+    // Of numbers below n the one candidate, or the later of two neighbours, which for the first and the last is the first.
+    fn later(self, n: usize) -> Option<usize>
         requires { (self.first < n) × (self.second < n) }
-        ensures { (xs : List ℕ) → self ≡ candidates_of xs → numbered n result ≡ later n xs }
+        ensures later { (xs : List ℕ) → self ≡ candidates_of xs → picked result ≡ later n xs }
+        ensures below { IfSome result (λ i. i < n) }
     {
         if self.count == 1 {
-            return self.first;
+            return Some(self.first);
         }
         if self.count != 2 {
-            return n;
+            return None;
         }
         if self.second == self.first + 1 {
-            return self.second;
+            return Some(self.second);
         }
         if self.first != 0 {
-            return n;
+            return None;
         }
         if self.second + 1 != n {
-            return n;
+            return None;
         }
-        0
+        Some(0)
     }
 }

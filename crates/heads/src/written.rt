@@ -22,12 +22,10 @@ pub fn written_value(
 {
     let cap = layout.placement_count;
     let mut value: u64 = 0;
-    let mut j: usize = 0;
-    while j < layout.m {
+    for j in 0..layout.m {
         let block = blocks[j] as usize;
         let head = layout.block_head(heads, block);
         value = with_block(value, layout.q, layout.index_tail, &word[head..], cap);
-        j += 1;
     }
     value
 }
@@ -42,15 +40,13 @@ pub fn heads_below(
     requires { OpenHeads layout word.now blocks × HeadsOf (figures_of layout) heads.now }
     ensures { result ≡ all_below layout.q (first_symbols_in layout word.now (take layout.m blocks)) }
 {
-    let mut j: usize = 0;
-    while j < layout.m {
+    for j in 0..layout.m {
         let number = blocks[j];
         let head = layout.block_head(heads, number as usize);
         let end = head + layout.index_tail + 1;
         if !symbols::all_below(&word[head..end], layout.q) {
             return false;
         }
-        j += 1;
     }
     true
 }
@@ -71,11 +67,9 @@ pub fn with_digits(high: u64, q: u64, digits: &[u8], cap: u64) -> u64
     ensures { result ≡ min (high * span q (plain_places digits.now) + value q (plain_places digits.now) digits.now) cap }
 {
     let mut value = high;
-    let mut i: usize = 0;
-    while i < digits.len() {
+    for i in 0..digits.len() {
         let digit = digits[i] as u64;
         value = with_digit(value, q, digit, cap);
-        i += 1;
     }
     value
 }

@@ -1,5 +1,5 @@
 -- Job write and job read test by test, as the code makes them. Assumes nothing.
-use mathlib.Core.Path.{◌≡◌, refl, ap₂, ◌∙◌}
+use mathlib.Core.Path.{◌≡◌, refl, ap, ap₂, ◌∙◌}
 use mathlib.Core.Logic.{◌≢◌}
 use mathlib.Core.Bool.{Bool, true, false, not, ◌&&◌}
 use mathlib.Core.List.{List}
@@ -8,6 +8,8 @@ use native.Mathlib.Omega.{arith}
 use lib.Dec.{eqb}
 use lib.ListN.{length, take, replicate, length-replicate}
 use lib.Seq.{length-take-le}
+use Rattle.refusals.specs.Numbers.{number_of}
+use Rattle.refusals.proofs.Numbers.{never-served}
 use Rattle.refusals.specs.Refusals.{must, served, invalid, unfit, wrong_length, bad_starts, bad_payload, number_zero}
 use Rattle.combinatorics.specs.Bursts.{apart}
 use Rattle.combinatorics.proofs.Cases.{eqb_same, eqb-other, leb-holds, leb-fails}
@@ -18,8 +20,8 @@ use Rattle.codes.specs.Answer.{figured_as, LaidAs}
 use Rattle.codes.specs.Given.{HasNumbers, coding_in}
 use Rattle.codes.specs.Bridge.{coding_of}
 use Rattle.codes.specs.declared.Figures.{Figures}
-use Rattle.codes.specs.declared.FiguresAnswer.{FiguresAnswer}
-use Rattle.codes.specs.declared.FiguresAnswer.TheVariants.{Fit}
+use Rattle.std.specs.Prelude.{Result, Ok}
+use Rattle.refusals.specs.declared.Refusal.{Refusal}
 use Rattle.codes.specs.declared.WordLayout.{WordLayout}
 use Rattle.codes.proofs.Answered.{serves}
 use Rattle.codes.proofs.Layouts.{in_order, numbers-in, small-in}
@@ -58,7 +60,7 @@ pub record LaidFor (f : Figures) (es : List Entry) (l : WordLayout) : Type 0 whe
   pub fitting : ServesTable l es
 
 -- what a caller learns of an answer that is a layout
-pub laid : (f : Figures) (es : List Entry) (answer : FiguresAnswer) (l : WordLayout) → answer ≡ Fit l
+pub laid : (f : Figures) (es : List Entry) (answer : Result WordLayout Refusal) (l : WordLayout) → answer ≡ Ok l
     → (figured_as answer ≡ figures_under (coding_of f)) × LaidAs f answer → twice es ≡ false → LaidFor f es l
 laid f es answer l e told once =
     let own = serves f answer l e told.0 told.1 in
@@ -205,6 +207,10 @@ module _ (out : List ℕ) where
       (keeps (apart d.burst_len d.codec.word_len 0 (in_use at)) bad_starts job
       (keeps (is_job (job_number payload)) number_zero last
       (keeps (eqb (needs_open (job_status es payload)) served) (needs_open (job_status es payload)) done (λ d. absurd (d refl))))))))
+
+  pub kept : (d : Coding) (es : List Entry) (at : Held) (payload : List ℕ) (r : Refusal) → number_of r ≡ (job_write_under d es at payload out).answer
+      → unwritten out (number_of r) ≡ job_write_under d es at payload out
+  kept d es at payload r e = ap (unwritten out) e ∙ refused-keeps d es at payload (λ z. never-served r (e ∙ z))
 
 -- ---- Reading
 

@@ -25,7 +25,8 @@ use Rattle.payloads.specs.Payload.{IsPayload, job_number, message_of, spells_pay
 use Rattle.jobcodec.specs.JobWrite.{job_status, job_write_under}
 use Rattle.jobcodec.specs.JobRead.{withhold, job_in, job_reading, job_read_under}
 use Rattle.jobcodec.specs.Given.{ReadyUnder, ReadableJob, SpellsJob, spelled_as, spelled_answer}
-use Rattle.decoder.specs.declared.WordAnswer.{WordAnswer as Answer}
+use Rattle.std.specs.Prelude.{Result}
+use Rattle.refusals.specs.declared.Refusal.{Refusal}
 use Rattle.decoder.specs.Answer.{answer_as}
 use Rattle.payloads.proofs.Payload.{carries-five, length-message, message-symbols}
 
@@ -106,7 +107,7 @@ module _ {A : Type 0} (refuse : ℕ → A) (go : List ℕ → A) where
 
     -- with room for the message, from what was said of it
     pub spelled-decodes : (ms ms' : List ℕ) → d.in_range ≡ true → d.fits ≡ true → length ms ≡ d.codec.message_len_of
-        → (r said : Answer) → r ≡ said → answer_as r ≡ spelled_answer d.codec.alphabet (length ms) (decode_under d w ms) → ms' ≡ (decode_under d w ms).message
+        → (r said : Result ℕ Refusal) → r ≡ said → answer_as r ≡ spelled_answer d.codec.alphabet (length ms) (decode_under d w ms) → ms' ≡ (decode_under d w ms).message
         → word_first ≡ after_spelled (answer_as said) ms'
     spelled-decodes ms ms' range fit room r said is e lent =
         let o = decode_under d w ms in

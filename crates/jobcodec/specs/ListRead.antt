@@ -1,13 +1,13 @@
 -- A list of calls and the job reading after it: what they answer and what the lent buffers hold afterwards, for every input, and demand 3's
 -- claim about what was seen. Assumes nothing.
-use Rattle.std.specs.Prelude.{List, ℕ, eqb}
+use Rattle.std.specs.Prelude.{Result, Ok, Err, List, ℕ, eqb}
+use Rattle.refusals.specs.declared.Refusal.{Refusal}
+use Rattle.refusals.specs.Numbers.{number_of, answer_of}
 use Rattle.refusals.specs.Refusals.{must, served}
 use Rattle.cells.specs.Outcomes.{Coding}
 use Rattle.jobs.specs.declared.Entry.{Entry}
 use Rattle.jobs.specs.Jobs.{Call}
 use Rattle.ledger.specs.Replay.{ReplayOut, replay_out}
-use Rattle.jobcodec.specs.declared.ListAnswer.{ListAnswer}
-use Rattle.jobcodec.specs.declared.ListAnswer.TheVariants.{Refused, Read}
 use Rattle.jobcodec.specs.JobRead.{JobRead, job_read_under}
 use Rattle.jobcodec.specs.DemandThree.{Claim}
 use Rattle.jobcodec.specs.Given.{seen}
@@ -36,12 +36,12 @@ list_out d es letters numbers answers w out =
     (list_read r (job_read_under d r.table w out))
 
 -- what was seen: the answer case by case, and both buffers
-abbrev pub list_seen : ListAnswer → List ℕ → List ℕ → ListOut
-list_seen (Refused a) answers out = record { answer = list_refused a; answers = answers; payload = out }
-list_seen (Read a) answers out = record { answer = job_answer a; answers = answers; payload = out }
+abbrev pub list_seen : Result (Result (Unit {0}) Refusal) Refusal → List ℕ → List ℕ → ListOut
+list_seen (Err r) answers out = record { answer = list_refused (number_of r); answers = answers; payload = out }
+list_seen (Ok a) answers out = record { answer = job_answer (answer_of a); answers = answers; payload = out }
 
 -- "It is a single claim about the whole list and the job reading after it": where the list is not refused, of the answers and the buffer out'
 -- that were then seen. `before` are the calls accepted earlier.
-abbrev pub Claimed : ListAnswer → Coding → List Call → List Call → List ℕ → List ℕ → List ℕ → List ℕ → Type 0
-Claimed (Refused a) d before calls w out answers out' = Unit {0}
-Claimed (Read a) d before calls w out answers out' = Claim d before calls w out answers (seen a out')
+abbrev pub Claimed : Result (Result (Unit {0}) Refusal) Refusal → Coding → List Call → List Call → List ℕ → List ℕ → List ℕ → List ℕ → Type 0
+Claimed (Err r) d before calls w out answers out' = Unit {0}
+Claimed (Ok a) d before calls w out answers out' = Claim d before calls w out answers (seen (answer_of a) out')

@@ -15,7 +15,7 @@ impl JobTable {
             b'O' => self.open(number),
             b'C' => self.cancel(number),
             b'F' => self.finish(number),
-            _ => self.refuse(Refusal::RECORD),
+            _ => self.refuse(Refusal::Record),
         }
     }
 
@@ -36,22 +36,12 @@ impl JobTable {
 pub fn is_list_letter(letter: u8) -> bool
     ensures { result ≡ is_list_letter letter }
 {
-    match letter {
-        b'I' => true,
-        b'H' => true,
-        b'U' => true,
-        _ => is_letter(letter),
-    }
+    is_letter(letter) || matches!(letter, b'I' | b'H' | b'U')
 }
 
 // Whether a record's call has this letter.
 pub fn is_letter(letter: u8) -> bool
     ensures { result ≡ is_letter letter }
 {
-    match letter {
-        b'O' => true,
-        b'C' => true,
-        b'F' => true,
-        _ => false,
-    }
+    matches!(letter, b'O' | b'C' | b'F')
 }

@@ -1,10 +1,12 @@
 // The job table (document 01's book), by value. Assumes nothing.
 #![tactic(auto)]
 
-ghost use Rattle.std.specs.Prelude.{◌≡◌, ◌+◌, drop};
+ghost use Rattle.std.specs.Prelude.{Bool, ◌≡◌, ◌<◌, IfSome, position};
+ghost use Rattle.refusals.specs.Numbers.{number_of};
+ghost use Rattle.jobs.specs.declared.Entry.{Entry};
 ghost use Rattle.jobs.specs.Jobs.{slot_count, is_job};
 ghost use Rattle.jobs.specs.Table.{is_free, empty_table, open_out, cancel_out, finish_out, reinstate_out, hold_out, release_out, decide, turn_open_at};
-ghost use Rattle.jobs.specs.Slots.{entries, outcome, seeks, first_that};
+ghost use Rattle.jobs.specs.Slots.{entries, outcome};
 
 use refusals::Refusal;
 
@@ -12,7 +14,7 @@ pub mod by_letter;
 mod twice;
 
 // What a number was before its cancellation.
-#[derive(Clone, Copy)]
+#[derive(Clone, Copy, Debug, PartialEq, Eq)]
 pub enum Before {
     WasAbsent,
     WasOpen,
@@ -20,7 +22,7 @@ pub enum Before {
 }
 
 // What a slot holds. A number is any of 32 bits. 0 is no job; a table holds it only where it was put there before it was refused.
-#[derive(Clone, Copy)]
+#[derive(Clone, Copy, Debug, PartialEq, Eq)]
 pub enum Entry {
     Free,
     Open(u32),
@@ -28,30 +30,17 @@ pub enum Entry {
     Cancelled(u32, Before),
 }
 
-// A place of the table.
-#[derive(Clone, Copy)]
-pub struct Slot {
-    pub entry: Entry,
-}
-
 // The table of jobs, slot by slot. A new number takes the first free slot.
 #[derive(Clone, Copy)]
 pub struct JobTable {
-    pub slots: [Slot; JobTable::SLOTS],
+    pub slots: [Entry; JobTable::SLOTS],
 }
 
-// The answer to a call, 0 or a refusal, and the table that holds afterwards.
+// The answer to a call, and the table that holds afterwards.
 #[derive(Clone, Copy)]
 pub struct TableAnswer {
-    pub answer: u8,
+    pub answer: Result<(), Refusal>,
     pub table: JobTable,
-}
-
-// What a search through the slots looks for.
-#[derive(Clone, Copy)]
-enum Sought {
-    FreeSlot,
-    Number(u32),
 }
 
 impl JobTable {
@@ -63,7 +52,7 @@ impl JobTable {
         ensures limit { JobTable.SLOTS ≡ slot_count }
     {
         JobTable {
-            slots: [Slot { entry: Entry::Free }; JobTable::SLOTS],
+            slots: [Entry::Free; JobTable::SLOTS],
         }
     }
 
@@ -72,17 +61,17 @@ impl JobTable {
         ensures { outcome result ≡ open_out (entries self) number }
     {
         if self.twice() {
-            return self.refuse(Refusal::INVALID);
+            return self.refuse(Refusal::Invalid);
         }
         if !is_job(number) {
-            return self.refuse(Refusal::NUMBER_ZERO);
+            return self.refuse(Refusal::NumberZero);
         }
         let entry = self.lookup(number);
         match entry {
-            Entry::Cancelled(_, _) => self.refuse(Refusal::CANCELLED),
-            Entry::Open(_) => self.refuse(Refusal::ALREADY_OPEN),
-            Entry::OnHold(_) => self.refuse(Refusal::ALREADY_OPEN),
-            Entry::Free => self.put(Sought::FreeSlot, Entry::Open(number)),
+            Entry::Cancelled(_, _) => self.refuse(Refusal::Cancelled),
+            Entry::Open(_) => self.refuse(Refusal::AlreadyOpen),
+            Entry::OnHold(_) => self.refuse(Refusal::AlreadyOpen),
+            Entry::Free => self.put(self.free_slot(), Entry::Open(number)),
         }
     }
 
@@ -91,25 +80,25 @@ impl JobTable {
         ensures { outcome result ≡ cancel_out (entries self) number }
     {
         if self.twice() {
-            return self.refuse(Refusal::INVALID);
+            return self.refuse(Refusal::Invalid);
         }
         let entry = self.lookup(number);
         match entry {
-            Entry::Cancelled(_, _) => self.refuse(Refusal::CANCELLED),
+            Entry::Cancelled(_, _) => self.refuse(Refusal::Cancelled),
             Entry::Open(_) => self.put(
-                Sought::Number(number),
+                self.slot_of(number),
                 Entry::Cancelled(number, Before::WasOpen),
             ),
             Entry::OnHold(_) => self.put(
-                Sought::Number(number),
+                self.slot_of(number),
                 Entry::Cancelled(number, Before::WasOnHold),
             ),
             Entry::Free => {
                 if !is_job(number) {
-                    return self.refuse(Refusal::NUMBER_ZERO);
+                    return self.refuse(Refusal::NumberZero);
                 }
                 self.put(
-                    Sought::FreeSlot,
+                    self.free_slot(),
                     Entry::Cancelled(number, Before::WasAbsent),
                 )
             }
@@ -128,16 +117,16 @@ impl JobTable {
         ensures { outcome result ≡ reinstate_out (entries self) number }
     {
         if self.twice() {
-            return self.refuse(Refusal::INVALID);
+            return self.refuse(Refusal::Invalid);
         }
         let entry = self.lookup(number);
         match entry {
             Entry::Cancelled(_, before) => {
-                self.put(Sought::Number(number), restored(before, number))
+                self.put(self.slot_of(number), restored(before, number))
             }
-            Entry::Open(_) => self.refuse(Refusal::NOT_CANCELLED),
-            Entry::OnHold(_) => self.refuse(Refusal::NOT_CANCELLED),
-            Entry::Free => self.refuse(Refusal::NOT_CANCELLED),
+            Entry::Open(_) => self.refuse(Refusal::NotCancelled),
+            Entry::OnHold(_) => self.refuse(Refusal::NotCancelled),
+            Entry::Free => self.refuse(Refusal::NotCancelled),
         }
     }
 
@@ -153,14 +142,14 @@ impl JobTable {
         ensures { outcome result ≡ release_out (entries self) number }
     {
         if self.twice() {
-            return self.refuse(Refusal::INVALID);
+            return self.refuse(Refusal::Invalid);
         }
         let entry = self.lookup(number);
         match entry {
-            Entry::Cancelled(_, _) => self.refuse(Refusal::CANCELLED),
-            Entry::OnHold(_) => self.put(Sought::Number(number), Entry::Open(number)),
-            Entry::Open(_) => self.refuse(Refusal::NOT_HELD),
-            Entry::Free => self.refuse(Refusal::NOT_HELD),
+            Entry::Cancelled(_, _) => self.refuse(Refusal::Cancelled),
+            Entry::OnHold(_) => self.put(self.slot_of(number), Entry::Open(number)),
+            Entry::Open(_) => self.refuse(Refusal::NotHeld),
+            Entry::Free => self.refuse(Refusal::NotHeld),
         }
     }
 
@@ -169,14 +158,14 @@ impl JobTable {
         ensures { outcome result ≡ decide (turn_open_at next) (entries self) number }
     {
         if self.twice() {
-            return self.refuse(Refusal::INVALID);
+            return self.refuse(Refusal::Invalid);
         }
         let entry = self.lookup(number);
         match entry {
-            Entry::Cancelled(_, _) => self.refuse(Refusal::CANCELLED),
-            Entry::OnHold(_) => self.refuse(Refusal::HELD),
-            Entry::Open(_) => self.put(Sought::Number(number), next),
-            Entry::Free => self.refuse(Refusal::NOT_OPEN),
+            Entry::Cancelled(_, _) => self.refuse(Refusal::Cancelled),
+            Entry::OnHold(_) => self.refuse(Refusal::Held),
+            Entry::Open(_) => self.put(self.slot_of(number), next),
+            Entry::Free => self.refuse(Refusal::NotOpen),
         }
     }
 
@@ -184,54 +173,52 @@ impl JobTable {
     pub fn lookup(self, number: u32) -> Entry
         ensures { result ≡ Rattle.jobs.specs.Table.lookup (entries self) number }
     {
-        let i = self.find(0, Sought::Number(number));
-        if i < JobTable::SLOTS {
-            let slot = self.slots[i];
-            return slot.entry;
+        match self.slot_of(number) {
+            Some(i) => self.slots[i],
+            None => Entry::Free,
         }
-        Entry::Free
     }
 
     // The table as it was, beside a refusal.
-    pub fn refuse(self, answer: u8) -> TableAnswer
-        ensures { outcome result ≡ Rattle.jobs.specs.Table.refuse (entries self) answer }
+    pub fn refuse(self, refusal: Refusal) -> TableAnswer
+        ensures { outcome result ≡ Rattle.jobs.specs.Table.refuse (entries self) (number_of refusal) }
     {
         TableAnswer {
-            answer,
+            answer: Err(refusal),
             table: self,
         }
     }
 
-    // The first slot that is sought takes the entry. Refusal: 15 where there is none; a number that was looked up has its slot.
-    fn put(self, sought: Sought, entry: Entry) -> TableAnswer
-        ensures { outcome result ≡ Rattle.jobs.specs.Table.put (seeks sought) entry (entries self) }
+    // The slot that was found takes the entry. Refusal: 15 where there is none; a number that was looked up has its slot.
+    fn put(self, slot: Option<usize>, entry: Entry) -> TableAnswer
+        requires { IfSome slot (λ i. i < slot_count) }
+        ensures { (t : Entry → Bool) → slot ≡ position t (entries self) → outcome result ≡ Rattle.jobs.specs.Table.put t entry (entries self) }
     {
-        let at = self.find(0, sought);
-        if at < JobTable::SLOTS {
-            let mut next = self;
-            next.slots[at] = Slot { entry };
-            return TableAnswer {
-                answer: Refusal::NONE,
-                table: next,
-            };
+        let Some(i) = slot else {
+            return self.refuse(Refusal::Full);
+        };
+        let mut next = self;
+        next.slots[i] = entry;
+        TableAnswer {
+            answer: Ok(()),
+            table: next,
         }
-        self.refuse(Refusal::FULL)
     }
 
-    // The first slot from `start` on that is sought, or one past the last.
-    fn find(self, start: usize, sought: Sought) -> usize
-        ensures { result ≡ start + first_that (seeks sought) (drop start (entries self)) }
+    // The first free slot.
+    fn free_slot(self) -> Option<usize>
+        ensures slot { result ≡ position is_free (entries self) }
+        ensures within { IfSome result (λ i. i < slot_count) }
     {
-        let mut i = start;
-        while i < JobTable::SLOTS {
-            let slot = self.slots[i];
-            let entry = slot.entry;
-            if is_sought(entry, sought) {
-                return i;
-            }
-            i += 1;
-        }
-        i
+        self.slots.iter().position(|entry| is_free(*entry))
+    }
+
+    // The first slot that holds the number.
+    fn slot_of(self, number: u32) -> Option<usize>
+        ensures slot { result ≡ position (Rattle.jobs.specs.Table.holds number) (entries self) }
+        ensures within { IfSome result (λ i. i < slot_count) }
+    {
+        self.slots.iter().position(|entry| holds(*entry, number))
     }
 }
 
@@ -253,24 +240,10 @@ pub fn is_job(number: u32) -> bool
     number != 0
 }
 
-fn is_sought(entry: Entry, sought: Sought) -> bool
-    ensures { result ≡ seeks sought entry }
-{
-    match sought {
-        Sought::FreeSlot => is_free(entry),
-        Sought::Number(number) => holds(entry, number),
-    }
-}
-
 fn is_free(entry: Entry) -> bool
     ensures { result ≡ is_free entry }
 {
-    match entry {
-        Entry::Free => true,
-        Entry::Open(_) => false,
-        Entry::OnHold(_) => false,
-        Entry::Cancelled(_, _) => false,
-    }
+    matches!(entry, Entry::Free)
 }
 
 fn holds(entry: Entry, number: u32) -> bool

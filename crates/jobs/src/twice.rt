@@ -1,9 +1,11 @@
 // Whether the job table holds one number twice. Assumes nothing.
-ghost use Rattle.std.specs.Prelude.{◌≡◌, false, length, drop};
+ghost use Rattle.std.specs.Prelude.{◌≡◌, ◌≤◌, length, drop};
+ghost use Rattle.std.specs.List.{list_any};
+ghost use Rattle.jobs.specs.Jobs.{slot_count};
 ghost use Rattle.jobs.specs.Slots.{entries, mark_count, mark_of};
 ghost use Rattle.jobs.specs.Table;
 
-use crate::{Entry, JobTable, Sought};
+use crate::{Entry, JobTable, holds};
 
 // How many places there are for marks.
 const MARKS: usize = 1024;
@@ -13,52 +15,46 @@ impl JobTable {
     pub fn twice(self) -> bool
         ensures { result ≡ Table.twice (entries self) }
     {
-        let mut marks = [0u8; MARKS];
-        self.twice_by(&mut marks[..MARKS])
+        let mut marks = [false; MARKS];
+        self.twice_by(&mut marks)
     }
 
     // The same, slot by slot from the last one back. Each leaves a mark at its number's remainder; where there is none yet, no later slot has the number.
     // A mark too many, as one that was there before, costs a search and changes no answer.
-    fn twice_by(self, marks: &mut [u8]) -> bool
+    fn twice_by(self, marks: &mut [bool]) -> bool
         requires { length marks.old ≡ mark_count }
         ensures { result ≡ Table.twice (entries self) }
     {
-        let mut i = JobTable::SLOTS;
-        while 0 < i {
-            i -= 1;
-            let slot = self.slots[i];
-            let entry = slot.entry;
+        for i in (0..JobTable::SLOTS).rev() {
+            let entry = self.slots[i];
             let mark = mark_of(entry);
-            if self.again_marked(i + 1, entry, marks[mark]) {
+            if marks[mark] && self.again(i + 1, entry) {
                 return true;
             }
-            marks[mark] = 1;
+            marks[mark] = true;
         }
         false
     }
 
-    // Whether a slot from `start` on holds the entry's number too; without a mark none does.
-    fn again_marked(self, start: usize, entry: Entry, mark: u8) -> bool
-        requires { mark ≡ 0 → Table.again (drop start (entries self)) entry ≡ false }
-        ensures { result ≡ Table.again (drop start (entries self)) entry }
-    {
-        if mark == 0 {
-            return false;
-        }
-        self.again(start, entry)
-    }
-
     // Whether a slot from `start` on holds the entry's number too.
     fn again(self, start: usize, entry: Entry) -> bool
+        requires { start ≤ slot_count }
         ensures { result ≡ Table.again (drop start (entries self)) entry }
     {
         match entry {
             Entry::Free => false,
             Entry::Open(x) | Entry::OnHold(x) | Entry::Cancelled(x, _) => {
-                self.find(start, Sought::Number(x)) < JobTable::SLOTS
+                one_holds(&self.slots[start..], x)
             }
         }
     }
+}
+
+// Whether one of the slots holds the number.
+fn one_holds(slots: &[Entry], number: u32) -> bool
+    ensures { result ≡ list_any (Table.holds number) slots.now }
+{
+    slots.iter().any(|entry| holds(*entry, number))
 }
 
 // The place of an entry's mark.

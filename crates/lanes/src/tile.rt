@@ -46,12 +46,10 @@ fn copy_lines(from: &[u8], at: usize, step: usize, to: &mut [u8], onto: usize, s
     requires { LinesWithin at step from.now × LinesWithin onto stride to.old }
     ensures { LinesCopied at step from.now onto stride 16 to.old to.new }
 {
-    let mut k: usize = 0;
-    while k < TILE {
+    for k in 0..TILE {
         let start = onto + k * stride;
         let source = at + k * step;
         symbols::copy_prefix(&mut to[start..start + TILE], &from[source..source + TILE]);
-        k += 1;
     }
 }
 
@@ -77,10 +75,8 @@ fn shuffle(from: &[u8], to: &mut [u8])
     requires { (length from.now ≡ 256) × (length to.old ≡ 256) }
     ensures { to.new ≡ transposed_table 2 128 from.now }
 {
-    let mut i: usize = 0;
-    while i < HALF {
+    for i in 0..HALF {
         to[2 * i] = from[i];
         to[2 * i + 1] = from[HALF + i];
-        i += 1;
     }
 }

@@ -23,10 +23,8 @@ fn move_tiles(rows: usize, columns: usize, across: usize, down: usize, from: &[u
     requires { SizedTables rows columns from.now to.old × (across * 16 ≤ columns) × (down * 16 ≤ rows) }
     ensures { CellsMoved rows columns from.now to.old to.new 0 (across * 16) 0 (down * 16) }
 {
-    let mut k: usize = 0;
-    while k < across {
+    for k in 0..across {
         move_band(rows, columns, k * TILE, down, from, to);
-        k += 1;
     }
 }
 
@@ -35,10 +33,8 @@ fn move_band(rows: usize, columns: usize, left: usize, down: usize, from: &[u8],
     requires { SizedTables rows columns from.now to.old × (left + 16 ≤ columns) × (down * 16 ≤ rows) }
     ensures { CellsMoved rows columns from.now to.old to.new left (left + 16) 0 (down * 16) }
 {
-    let mut k: usize = 0;
-    while k < down {
+    for k in 0..down {
         tile::move_tile(rows, columns, left, k * TILE, from, to);
-        k += 1;
     }
 }
 
@@ -47,10 +43,8 @@ fn move_rows(rows: usize, columns: usize, right: usize, top: usize, from: &[u8],
     requires { SizedTables rows columns from.now to.old × (right ≤ columns) × (top ≤ rows) }
     ensures { CellsMoved rows columns from.now to.old to.new 0 right top rows }
 {
-    let mut j = top;
-    while j < rows {
+    for j in top..rows {
         move_row(rows, columns, right, j, from, to);
-        j += 1;
     }
 }
 
@@ -59,10 +53,8 @@ fn move_row(rows: usize, columns: usize, right: usize, j: usize, from: &[u8], to
     requires { SizedTables rows columns from.now to.old × (right ≤ columns) × (j < rows) }
     ensures { CellsMoved rows columns from.now to.old to.new 0 right j (j + 1) }
 {
-    let mut i: usize = 0;
-    while i < right {
+    for i in 0..right {
         to[i * rows + j] = from[j * columns + i];
-        i += 1;
     }
 }
 
@@ -71,10 +63,8 @@ fn move_columns(rows: usize, columns: usize, left: usize, from: &[u8], to: &mut 
     requires { SizedTables rows columns from.now to.old × (left ≤ columns) }
     ensures { CellsMoved rows columns from.now to.old to.new left columns 0 rows }
 {
-    let mut i = left;
-    while i < columns {
+    for i in left..columns {
         move_column(rows, columns, i, from, to);
-        i += 1;
     }
 }
 
@@ -83,9 +73,7 @@ fn move_column(rows: usize, columns: usize, i: usize, from: &[u8], to: &mut [u8]
     requires { SizedTables rows columns from.now to.old × (i < columns) }
     ensures { CellsMoved rows columns from.now to.old to.new i (i + 1) 0 rows }
 {
-    let mut j: usize = 0;
-    while j < rows {
+    for j in 0..rows {
         to[i * rows + j] = from[j * columns + i];
-        j += 1;
     }
 }

@@ -9,11 +9,9 @@ pub fn spoil_defects(map: &[u8], damage: &[u8], interleaved: &mut [u8])
     requires { DefectsLent map.now damage.now interleaved.old }
     ensures { interleaved.new ≡ damaged (defect_at map.now) damage.now interleaved.old }
 {
-    let mut x: usize = 0;
-    while x < interleaved.len() {
+    for x in 0..interleaved.len() {
         if map[x] == 1 {
             interleaved[x] = damage[x];
         }
-        x += 1;
     }
 }

@@ -13,14 +13,12 @@ pub fn all_covered(layout: WordLayout, depth: usize, maps: &[u8]) -> bool
     requires { LaneParts layout depth maps.now }
     ensures { result ≡ all_covered (coding_in layout) layout.n depth maps.now }
 {
-    let mut j: usize = 0;
-    while j < depth {
+    for j in 0..depth {
         let start = j * layout.n;
         let cover = codes::cover_fitting(layout, &maps[start..start + layout.n]);
         if cover.answer != Refusal::NONE {
             return false;
         }
-        j += 1;
     }
     true
 }
@@ -31,8 +29,7 @@ pub fn write_lanes(layout: WordLayout, depth: usize, messages: &[u8], words: &mu
     ensures { words.new
         ≡ cover_words (coding_in layout) layout.n layout.message_len depth messages.now words.old }
 {
-    let mut j: usize = 0;
-    while j < depth {
+    for j in 0..depth {
         let from = j * layout.message_len;
         let start = j * layout.n;
         write_lane(
@@ -40,7 +37,6 @@ pub fn write_lanes(layout: WordLayout, depth: usize, messages: &[u8], words: &mu
             &messages[from..from + layout.message_len],
             &mut words[start..start + layout.n],
         );
-        j += 1;
     }
 }
 
@@ -60,8 +56,7 @@ pub fn read_lanes(layout: WordLayout, depth: usize, words: &[u8], read: &mut [u8
     ensures { (messages : List ℕ) → ReadsLanes (coding_in layout) layout.n layout.message_len depth words.now messages
         → (result ≡ served) × (read.new ≡ messages) }
 {
-    let mut j: usize = 0;
-    while j < depth {
+    for j in 0..depth {
         let start = j * layout.n;
         let to = j * layout.message_len;
         let refusal = read_lane(
@@ -72,7 +67,6 @@ pub fn read_lanes(layout: WordLayout, depth: usize, words: &[u8], read: &mut [u8
         if refusal != Refusal::NONE {
             return refusal;
         }
-        j += 1;
     }
     Refusal::NONE
 }

@@ -17,13 +17,11 @@ use Rattle.larsson.specs.Reading.{found, agrees, read_value, read}
 use Rattle.placements.specs.declared.Placement.{Placement}
 use Rattle.placements.specs.Bridge.{held_as, starts_in}
 use Rattle.placements.proofs.Calls.{starts-held}
-use Rattle.decoder.specs.declared.WordAnswer.TheVariants.{Refused}
 use Rattle.larsson_params.specs.declared.LarssonLayout.{LarssonLayout}
 use Rattle.larsson_params.specs.Given.{larsson_figures_of, LarssonLayoutFits}
 use Rattle.larsson_params.proofs.Shape.{served}
 use Rattle.sub_blocks.specs.Given.{BurstsOfLayout, BearersOf}
-use Rattle.larsson_decoder.specs.declared.locate.Located.{Located}
-use Rattle.larsson_decoder.specs.Located.{read_larsson_message, LocatedAt, LocatedAs, LocatedIn}
+use Rattle.larsson_decoder.specs.Located.{read_larsson_message, LocatedAt}
 
 -- ---- The readings
 
@@ -48,10 +46,6 @@ module _ (f : Params) (w : List ℕ) where
       pub agreeing : agrees f w v (placement_of f v) ≡ true → read f w ≡ read_larsson_message f w (placement_of f v)
       unfolding read read_value
       agreeing e = rw (taken, leb-holds (suc v) (placement_count_of f) below, e)
-
--- a refusal, whatever stands beside it
-pub refused-in : (f : Params) (w : List ℕ) (r : Located) (a : ℕ) → r.answer ≡ Refused a → read f w ≡ refused a → LocatedIn f w r
-refused-in f w r a e is = subst (LocatedAs f w r.placement r.kinds) (sym e) is
 
 -- ---- The placement of a rank
 

@@ -1,6 +1,8 @@
 -- What the reader has found where it knows a word's placement, before it looks at the message. Assumes nothing.
-use Rattle.std.specs.Prelude.{◌≡◌, true, not, List, ℕ, ◌<◌, length}
+use Rattle.std.specs.Prelude.{◌≡◌, Result, Ok, Err, true, not, List, ℕ, ◌<◌, length}
 use Rattle.std.proofs.Math.Option.{some}
+use Rattle.refusals.specs.declared.Refusal.{Refusal}
+use Rattle.refusals.specs.Numbers.{number_of}
 use Rattle.refusals.specs.Refusals.{must, erased}
 use Rattle.combinatorics.specs.Bursts.{rank_of}
 use Rattle.cells.specs.Cells.{message, pick}
@@ -12,8 +14,6 @@ use Rattle.larsson.specs.Reading.{found, read}
 use Rattle.larsson.specs.Writing.{plan}
 use Rattle.placements.specs.declared.Placement.{Placement}
 use Rattle.placements.specs.Bridge.{held_as, starts_in}
-use Rattle.decoder.specs.declared.WordAnswer.{WordAnswer}
-use Rattle.decoder.specs.declared.WordAnswer.TheVariants.{Accepted, Refused}
 use Rattle.larsson_params.specs.declared.LarssonLayout.{LarssonLayout}
 use Rattle.larsson_params.specs.Given.{larsson_figures_of}
 use Rattle.sub_blocks.specs.Given.{BearersOf}
@@ -44,12 +44,9 @@ pub record LocatedAt (f : Params) (w : List ℕ) (v : ℕ) (at : Placement) (kin
   pub read-as : read f w ≡ read_larsson_message f w (starts_in at)
 
 -- or the refusal of the word
-abbrev pub LocatedAs : Params → List ℕ → Placement → List ℕ → WordAnswer → Type 0
-LocatedAs f w at kinds (Accepted v) = LocatedAt f w v at kinds
-LocatedAs f w at kinds (Refused a) = read f w ≡ refused a
-
-abbrev pub LocatedIn : Params → List ℕ → Located → Type 0
-LocatedIn f w r = LocatedAs f w r.placement r.kinds r.answer
+abbrev pub LocatedIn : Params → List ℕ → Result Located Refusal → Type 0
+LocatedIn f w (Ok found) = LocatedAt f w found.rank found.placement found.kinds
+LocatedIn f w (Err r) = read f w ≡ refused (number_of r)
 
 -- a complete word without values above q, of sub-blocks that have a symbol, and a buffer of k symbols
 pub record LarssonWordLent (l : LarssonLayout) (w out : List ℕ) : Type 0 where

@@ -11,8 +11,8 @@ ghost use Rattle.decoder.specs.Answer.{decoded_as};
 ghost use Rattle.larsson_params.specs.Given.{larsson_figures_of, LarssonLayoutFits, SubStartsOf};
 ghost use Rattle.larsson_decoder.specs.Located.{LarssonWordLent, LocatedAt};
 
-use crate::locate::locate;
-use decoder::{Decoded, WordAnswer, unread};
+use crate::locate::{Located, locate};
+use decoder::{Decoded, unread};
 use larsson_params::LarssonLayout;
 use larsson_params::starts::starts_of;
 use params::Layout;
@@ -29,13 +29,13 @@ pub fn decode_fitting(layout: LarssonLayout, word: &[u8], message: &mut [u8]) ->
     ensures { decoded_as result message.new ≡ decode_under (coding (larsson_figures_of layout)) word.now message.old }
 {
     if word.len() != layout.n {
-        return unread(Refusal::LENGTH);
+        return unread(Refusal::Length);
     }
     if message.len() != layout.message_len {
-        return unread(Refusal::LENGTH);
+        return unread(Refusal::Length);
     }
     if !symbols::all_below(word, layout.q + 1) {
-        return unread(Refusal::SYMBOL);
+        return unread(Refusal::Symbol);
     }
     if layout.sub_len == 0 {
         return only_placement(layout);
@@ -49,7 +49,7 @@ fn only_placement(layout: LarssonLayout) -> Decoded
     ensures { decoded_as result [] ≡ decoded_from layout.b [] (accepted (placement_of (larsson_figures_of layout) 0) []) }
 {
     Decoded {
-        answer: WordAnswer::Accepted(0),
+        answer: Ok(0),
         placement: Placement::unrank(layout.n as u32, layout.m as u32, layout.b as u32, 0),
     }
 }
@@ -64,39 +64,40 @@ fn decode_found(
     requires { LarssonWordLent layout word.now message.old × SubStartsOf (larsson_figures_of layout) starts.now }
     ensures { decoded_as result message.new ≡ decoded_from layout.b message.old (read (larsson_figures_of layout) word.now) }
 {
-    let located = locate(layout, starts, word);
-    let placement = located.placement;
-    let kinds = located.kinds;
-    let answer = located.answer;
-    match answer {
-        WordAnswer::Refused(number) => unread(number),
-        WordAnswer::Accepted(rank) => {
-            decode_placed(layout, starts, &kinds, placement, rank, word, message)
-        }
+    match locate(layout, starts, word) {
+        Err(refusal) => unread(refusal),
+        Ok(located) => decode_placed(layout, starts, located, word, message),
     }
 }
 
-// The same for the placement that the word was read to have, and its rank. Refusal: 19. The message is taken where nothing can be refused any more.
+// The same for what the word was read to have. Refusal: 19. The message is taken where nothing can be refused any more.
 fn decode_placed(
     layout: LarssonLayout,
     starts: &[u16; Layout::MAX_HEADS],
-    kinds: &[u8; Layout::MAX_BLOCKS],
-    placement: Placement,
-    rank: u64,
+    located: Located,
     word: &[u8],
     message: &mut [u8],
 ) -> Decoded
     requires { LarssonWordLent layout word.now message.old × SubStartsOf (larsson_figures_of layout) starts.now
-        × LocatedAt (larsson_figures_of layout) word.now rank placement kinds.now }
+        × LocatedAt (larsson_figures_of layout) word.now located.rank located.placement located.kinds }
     ensures { decoded_as result message.new ≡ decoded_from layout.b message.old (read (larsson_figures_of layout) word.now) }
 {
+    let placement = located.placement;
     if !cover_erasures(placement, layout.b as u32, layout.q, word) {
-        return unread(Refusal::ERASED);
+        return unread(Refusal::Erased);
     }
     let walk = larsson_words::walk_of(layout.n, layout.m, layout.b, layout.sub_len);
-    larsson_words::take_message(walk, layout.q, placement, starts, kinds, word, message);
+    larsson_words::take_message(
+        walk,
+        layout.q,
+        placement,
+        starts,
+        &located.kinds,
+        word,
+        message,
+    );
     Decoded {
-        answer: WordAnswer::Accepted(rank),
+        answer: Ok(located.rank),
         placement,
     }
 }

@@ -1,11 +1,9 @@
 // From a found word to the placement that its sub-blocks show, or the refusal; the message is not looked at. Assumes nothing.
-ghost use Rattle.std.specs.Prelude.{◌≡◌, ◌<◌};
-ghost use Rattle.decoder.specs.declared.WordAnswer.TheVariants.{Refused};
+ghost use Rattle.std.specs.Prelude.{◌<◌};
 ghost use Rattle.larsson_params.specs.Given.{larsson_figures_of, SubStartsOf};
 ghost use Rattle.sub_blocks.specs.Found.{FoundWord};
 ghost use Rattle.larsson_decoder.specs.Located.{MajorityValued, LocatedIn};
 
-use decoder::WordAnswer;
 use larsson_params::LarssonLayout;
 use params::Layout;
 use placements::Placement;
@@ -14,26 +12,30 @@ use sub_blocks::bearers::bearers_of;
 use sub_blocks::held::{agrees, value_of};
 use sub_blocks::majority::majority_block;
 
-// The answer so far: the rank, or the refusal. Beside a rank stand its placement and the kinds of the sub-blocks.
+// What a word shows so far: a rank, its placement and the kinds of the sub-blocks.
 #[derive(Clone, Copy)]
 pub struct Located {
-    pub answer: WordAnswer,
+    pub rank: u64,
     pub placement: Placement,
     pub kinds: [u8; Layout::MAX_BLOCKS],
 }
 
 // The placement that a found word shows, where sub-blocks have a symbol. Refusals: 21 8 9.
-pub fn locate(layout: LarssonLayout, starts: &[u16; Layout::MAX_HEADS], word: &[u8]) -> Located
+pub fn locate(
+    layout: LarssonLayout,
+    starts: &[u16; Layout::MAX_HEADS],
+    word: &[u8],
+) -> Result<Located, Refusal>
     requires { FoundWord layout word.now × SubStartsOf (larsson_figures_of layout) starts.now × (0 < layout.sub_len) }
     ensures { LocatedIn (larsson_figures_of layout) word.now result }
 {
     let block = majority_block(layout, starts, word);
     if 2 * layout.m < block {
-        return nowhere(Refusal::MAJORITY);
+        return Err(Refusal::Majority);
     }
     let rank = value_of(layout, starts, word, block);
     if layout.placement_count <= rank {
-        return nowhere(Refusal::VALUE);
+        return Err(Refusal::Value);
     }
     locate_rank(layout, starts, word, block, rank)
 }
@@ -45,29 +47,18 @@ fn locate_rank(
     word: &[u8],
     block: usize,
     rank: u64,
-) -> Located
+) -> Result<Located, Refusal>
     requires { MajorityValued layout word.now block rank × SubStartsOf (larsson_figures_of layout) starts.now }
     ensures { LocatedIn (larsson_figures_of layout) word.now result }
 {
     let placement = Placement::unrank(layout.n as u32, layout.m as u32, layout.b as u32, rank);
     let kinds = bearers_of(layout, starts, placement);
     if !agrees(layout, starts, &kinds, word, block) {
-        return nowhere(Refusal::DISAGREES);
+        return Err(Refusal::Disagrees);
     }
-    Located {
-        answer: WordAnswer::Accepted(rank),
+    Ok(Located {
+        rank,
         placement,
         kinds,
-    }
-}
-
-// A refusal, with no placement.
-fn nowhere(number: u8) -> Located
-    ensures { result.answer ≡ Refused number }
-{
-    Located {
-        answer: WordAnswer::Refused(number),
-        placement: Placement::none(),
-        kinds: [0; Layout::MAX_BLOCKS],
-    }
+    })
 }

@@ -6,13 +6,13 @@ use Rattle.cells.specs.Figures.{Params, in_range}
 use Rattle.larsson.specs.Figures.{fits}
 use Rattle.larsson.specs.Outcomes.{coding}
 use Rattle.larsson_params.specs.declared.LarssonLayout.{LarssonLayout}
-use Rattle.larsson_params.specs.declared.LarssonAnswer.{LarssonAnswer}
-use Rattle.larsson_params.specs.declared.LarssonAnswer.TheVariants.{Fit}
+use Rattle.std.specs.Prelude.{Result, Ok}
+use Rattle.refusals.specs.declared.Refusal.{Refusal}
 use Rattle.larsson_params.specs.Answer.{larsson_figured_as, LarssonLaidOut, LarssonLaidIn}
 use Rattle.larsson_params.specs.Given.{larsson_figures_of, LarssonLayoutFits}
 
 -- a layout that was answered has the figures, and they fit
-pub fit-learnt : (f : Params) (r : LarssonAnswer) (l : LarssonLayout) → r ≡ Fit l → larsson_figured_as r ≡ figures_under (coding f) → LarssonLaidIn f r
+pub fit-learnt : (f : Params) (r : Result LarssonLayout Refusal) (l : LarssonLayout) → r ≡ Ok l → larsson_figured_as r ≡ figures_under (coding f) → LarssonLaidIn f r
     → (larsson_figures_of l ≡ f) × LarssonLayoutFits l
 fit-learnt f r l e answer told =
     let laid : LarssonLaidOut f l = subst (LarssonLaidIn f) e told in

@@ -8,7 +8,6 @@ ghost use Rattle.larsson.specs.Outcomes.{coding};
 ghost use Rattle.params.specs.Bridge.{given as figures_of};
 ghost use Rattle.larsson_params.specs.Answer.{larsson_figured_as, LarssonLaidIn};
 
-use binomials::CountAnswer;
 use params::{Params, cut, tail};
 use refusals::Refusal;
 
@@ -16,7 +15,7 @@ pub mod starts;
 
 // The figures of a word that can be laid out, and what follows from them: T, R (the symbols of a sub-block), the symbols of all the gaps, and k.
 // Positions and lengths are usize, values u64.
-#[derive(Clone, Copy)]
+#[derive(Clone, Copy, Debug, PartialEq, Eq)]
 pub struct LarssonLayout {
     pub n: usize,
     pub q: u64,
@@ -28,44 +27,36 @@ pub struct LarssonLayout {
     pub message_len: usize,
 }
 
-// What "figures alone" answers.
-#[derive(Clone, Copy)]
-pub enum LarssonAnswer {
-    Fit(LarssonLayout),
-    Refused(u8),
-}
-
 // The layout that the figures give, whatever numbers come. Refusals in order: 1 for a figure out of range, 2 for figures that don't fit.
-pub fn figures(n: u32, q: u32, m: u32, b: u32) -> LarssonAnswer
+pub fn figures(n: u32, q: u32, m: u32, b: u32) -> Result<LarssonLayout, Refusal>
     ensures answer { larsson_figured_as result ≡ figures_under (coding (params n q m b)) }
     ensures layout { LarssonLaidIn (params n q m b) result }
 {
     let given = Params { n, q, m, b };
     if !given.in_range() {
-        return LarssonAnswer::Refused(Refusal::INVALID);
+        return Err(Refusal::Invalid);
     }
     if (n as u64) < (m as u64) * (b as u64) {
-        return LarssonAnswer::Refused(Refusal::UNFIT);
+        return Err(Refusal::Unfit);
     }
     laid_out(given)
 }
 
 // The layout of figures in range whose bursts a word can hold. Refusal: 2.
-fn laid_out(given: Params) -> LarssonAnswer
+fn laid_out(given: Params) -> Result<LarssonLayout, Refusal>
     requires { (in_range (figures_of given) ≡ true) × (given.m * given.b ≤ given.n) }
     ensures answer { larsson_figured_as result ≡ figures_under (coding (figures_of given)) }
     ensures layout { LarssonLaidIn (figures_of given) result }
 {
     let things = (given.n - given.m * given.b + given.m) as u64;
-    let count = binomials::count(things, given.m as u64);
-    match count {
-        CountAnswer::Ways(placements) => counted(given, placements),
-        CountAnswer::TooMany => LarssonAnswer::Refused(Refusal::UNFIT),
+    match binomials::count(things, given.m as u64) {
+        Some(placements) => counted(given, placements),
+        None => Err(Refusal::Unfit),
     }
 }
 
 // The same for figures whose placements are counted: the sub-blocks have to fit in the word, and a burst may touch one of them. Refusal: 2.
-fn counted(given: Params, count: u64) -> LarssonAnswer
+fn counted(given: Params, count: u64) -> Result<LarssonLayout, Refusal>
     requires { (in_range (figures_of given) ≡ true) × (given.m * given.b ≤ given.n) × (count ≡ placement_count_of (figures_of given)) × (count ≤ max_count) }
     ensures answer { larsson_figured_as result ≡ figures_under (coding (figures_of given)) }
     ensures layout { LarssonLaidIn (figures_of given) result }
@@ -76,13 +67,13 @@ fn counted(given: Params, count: u64) -> LarssonAnswer
     let b = given.b as usize;
     let sub_len = tail::least_factors(1, q, count, n);
     if n / (2 * m + 1) < sub_len {
-        return LarssonAnswer::Refused(Refusal::UNFIT);
+        return Err(Refusal::Unfit);
     }
     let gap_total = n - (2 * m + 1) * sub_len;
     if cut::piece_len(gap_total, 2 * m, 0) + 1 < b {
-        return LarssonAnswer::Refused(Refusal::UNFIT);
+        return Err(Refusal::Unfit);
     }
-    LarssonAnswer::Fit(LarssonLayout {
+    Ok(LarssonLayout {
         n,
         q,
         m,

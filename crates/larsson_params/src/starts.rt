@@ -10,13 +10,12 @@ pub fn starts_of(layout: LarssonLayout) -> [u16; Layout::MAX_HEADS]
     ensures { SubStartsOf (larsson_figures_of layout) result }
 {
     let gaps = 2 * layout.m;
+    let sub_blocks = gaps + 1;
     let mut starts = [0u16; Layout::MAX_HEADS];
-    let mut i: usize = 0;
-    while i < gaps + 1 {
+    for i in 0..sub_blocks {
         let start = i * layout.sub_len + cut::piece_start(layout.gap_total, gaps, i);
         starts[i] = start as u16;
-        i += 1;
     }
-    starts[gaps + 1] = layout.n as u16;
+    starts[sub_blocks] = layout.n as u16;
     starts
 }

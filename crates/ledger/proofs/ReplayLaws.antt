@@ -7,6 +7,7 @@ use Prim.Native.Nat.{ℕ}
 use native.Mathlib.Omega.{arith}
 use lib.ListN.{length}
 use Rattle.refusals.specs.Refusals.{served, wrong_length, bad_record, must}
+use Rattle.refusals.specs.Numbers.{answer_of}
 use Rattle.combinatorics.specs.Lists.{all}
 use Rattle.combinatorics.proofs.Cases.{eqb_same, eqb-other}
 use Rattle.jobs.specs.declared.Entry.{Entry}
@@ -66,7 +67,7 @@ module _ (start : List Entry) (letters numbers answers : List ℕ) where
 
   pub meets : (r : TableAnswer) (after : List ℕ) → replayed r after ≡ replay_out start letters numbers answers
       → (replayed r after ≡ replay_out start letters numbers answers)
-      × ((before : List Call) → Agrees start before → r.answer ≡ served → Follows before (calls_of letters numbers) after (entries r.table))
+      × ((before : List Call) → Agrees start before → answer_of r.answer ≡ served → Follows before (calls_of letters numbers) after (entries r.table))
   meets r after e = (
     e,
     λ before agrees z.

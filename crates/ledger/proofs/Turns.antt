@@ -1,6 +1,6 @@
 -- One turn of a loop over lent lists. Assumes nothing.
 use mathlib.Core.Path.{◌≡◌, refl, sym, ap, ap₂, ◌∙◌}
-use mathlib.Core.Bool.{Bool, true, false, ◌&&◌, false≢true}
+use mathlib.Core.Bool.{Bool, true, ◌&&◌, false≢true}
 use mathlib.Core.List.{List, [], ◌∷◌, ◌++◌, append_assoc, append-nil}
 use mathlib.Core.Option.{Option, none, some}
 use Prim.Native.Nat.{ℕ, ◌+◌, ◌≤◌, ◌<◌}
@@ -8,7 +8,9 @@ use native.Mathlib.Numerals.{add-one}
 use native.Mathlib.Omega.{arith}
 use lib.ListN.{length, get_or, drop, take, set, drop_of_length-le, length-set}
 use lib.Seq.{drop-cons, take-suc-set, take_all}
-use Rattle.refusals.specs.Refusals.{served}
+use Rattle.refusals.specs.Numbers.{answer_of}
+use Rattle.std.specs.List.{list_all}
+use Rattle.std.specs.Prelude.{Ok}
 use Rattle.combinatorics.specs.Lists.{all}
 use Rattle.combinatorics.proofs.Lists.{both}
 use Rattle.jobs.specs.declared.Entry.{Entry}
@@ -23,20 +25,17 @@ use Rattle.ledger.specs.Replay.{call_before, calls_of, replayed, made, AreCalls}
 
 -- ---- A test of every number
 
-module _ (t : ℕ → Bool) (xs : List ℕ) (i : ℕ) where
-  all-next : i < length xs → all t (drop i xs) ≡ (t (get_or xs i 0) && all t (drop (i + 1) xs))
-  unfolding all
-  all-next h = rw (drop-cons xs i 0 h, add-one)
+pub all-listed : (t : ℕ → Bool) (xs : List ℕ) → list_all t xs ≡ all t xs
+unfolding all
+all-listed t [] = refl
+all-listed t (x ∷ xs) = rw (all-listed t xs)
 
-  pub all-fails : i < length xs → t (get_or xs i 0) ≡ false → all t (drop i xs) ≡ false
-  all-fails h p = rw (all-next h, p)
+pub all_known : (letters : List ℕ) {b : Bool} → b ≡ list_all is_list_letter letters → all is_list_letter letters ≡ b
+all_known letters h = sym (h ∙ all-listed is_list_letter letters)
 
-  pub all-later : i < length xs → t (get_or xs i 0) ≡ true → all t (drop i xs) ≡ all t (drop (i + 1) xs)
-  all-later h p = rw (all-next h, p)
-
-  pub all_end : length xs ≤ i → all t (drop i xs) ≡ true
-  unfolding all
-  all_end h = rw (drop_of_length-le xs h)
+all-next : (t : ℕ → Bool) (xs : List ℕ) (i : ℕ) → i < length xs → all t (drop i xs) ≡ (t (get_or xs i 0) && all t (drop (i + 1) xs))
+unfolding all
+all-next t xs i h = rw (drop-cons xs i 0 h, add-one)
 
 -- ---- The calls that lent lists spell
 
@@ -71,7 +70,7 @@ pub record Replaying (start : List Entry) (letters numbers answers : List ℕ) (
 module _ (start : List Entry) (letters numbers answers : List ℕ) (es : List Entry) (i : ℕ) (s : Replaying start letters numbers answers es i) where
   pub call-made : i < length letters → length numbers ≡ length letters
       → (r : TableAnswer) → outcome r ≡ call_by (list_kind (get_or letters i 0)) es (get_or numbers i 0)
-      → Replaying start letters numbers (set answers i r.answer) (entries r.table) (i + 1)
+      → Replaying start letters numbers (set answers i (answer_of r.answer)) (entries r.table) (i + 1)
   call-made h fit r out =
       let o = list_kind (get_or letters i 0) in
       let n = get_or numbers i 0 in
@@ -80,20 +79,20 @@ module _ (start : List Entry) (letters numbers answers : List ℕ) (es : List En
       let ha : i < length answers = omega (arith, s.room) in
       let next : calls_of (drop i letters) (drop i numbers) ≡ call_before o n cs = calls-next letters numbers i h hn in
       let ls = both (is_list_letter (get_or letters i 0)) (all is_list_letter (drop (i + 1) letters)) (sym (all-next is_list_letter letters i h) ∙ s.letters-left) in
-      let a : r.answer ≡ (call_by o es n).answer = ap (λ (x : TableOut). x.answer) out in
+      let a : (answer_of r.answer) ≡ (call_by o es n).answer = ap (λ (x : TableOut). x.answer) out in
       let t : entries r.table ≡ (call_by o es n).table = ap (λ (x : TableOut). x.table) out in
-      let filled : take (i + 1) (set answers i r.answer) ≡ take i answers ++ (r.answer ∷ []) = rw add-one (take-suc-set answers i r.answer ha) in
-      let rest : r.answer ∷ answers_from (entries r.table) cs ≡ answers_from es (calls_of (drop i letters) (drop i numbers)) =
+      let filled : take (i + 1) (set answers i (answer_of r.answer)) ≡ take i answers ++ ((answer_of r.answer) ∷ []) = rw add-one (take-suc-set answers i (answer_of r.answer) ha) in
+      let rest : (answer_of r.answer) ∷ answers_from (entries r.table) cs ≡ answers_from es (calls_of (drop i letters) (drop i numbers)) =
       ap₂ {C = List ℕ} ◌∷◌ a (ap (λ (x : List Entry). answers_from x cs) t) ∙ sym (answers_next es n cs o ls.0) ∙ ap (answers_from es) (sym next) in
       record {
-        room = length-set answers i r.answer ∙ s.room;
+        room = length-set answers i (answer_of r.answer) ∙ s.room;
         letters-left = ls.1;
         table-left = ap (λ (x : List Entry). table_from x cs) t ∙ sym (table-next es n cs o ls.0) ∙ ap (table_from es) (sym next) ∙ s.table-left;
         answers-left = rw (filled, append_assoc) (ap (λ (x : List ℕ). take i answers ++ x) rest ∙ s.answers-left);
       }
 
   pub calls-made : length letters ≤ i → (t : JobTable) → es ≡ entries t
-      → replayed (record { answer = served; table = t }) answers ≡ made start (calls_of letters numbers)
+      → replayed (record { answer = Ok tt; table = t }) answers ≡ made start (calls_of letters numbers)
   unfolding table_from answers_from
   calls-made h t e =
       let end : calls_of (drop i letters) (drop i numbers) ≡ [] = calls-end letters numbers i h in

@@ -2,6 +2,7 @@
 use Rattle.std.specs.Prelude.{◌≡◌, Bool, true, ◌&&◌, List, [], ◌∷◌, ℕ, eqb, length}
 use Rattle.std.proofs.Math.Option.{Option, none, some}
 use Rattle.refusals.specs.Refusals.{served, wrong_length, bad_record, must}
+use Rattle.refusals.specs.Numbers.{answer_of}
 use Rattle.combinatorics.specs.Lists.{all}
 use Rattle.jobs.specs.declared.Entry.{Entry}
 use Rattle.jobs.specs.declared.TableAnswer.{TableAnswer}
@@ -31,7 +32,7 @@ pub record ReplayOut : Type 0 where
   pub answers : List ℕ
 
 abbrev pub replayed : TableAnswer → List ℕ → ReplayOut
-replayed r answers = record { answer = r.answer; table = entries r.table; answers = answers }
+replayed r answers = record { answer = answer_of r.answer; table = entries r.table; answers = answers }
 
 -- no call is made: "output buffers and book keep their contents"
 abbrev pub turn_away : List Entry → List ℕ → ℕ → ReplayOut

@@ -3,7 +3,8 @@
 
 ghost use Rattle.std.specs.Prelude.{◌≡◌, false, List, ◌+◌};
 ghost use Rattle.refusals.specs.Refusals.{served};
-ghost use Rattle.combinatorics.specs.Lists.{all};
+ghost use Rattle.refusals.specs.Numbers.{answer_of};
+ghost use Rattle.std.specs.List.{list_all};
 ghost use Rattle.jobs.specs.Jobs.{Call};
 ghost use Rattle.jobs.specs.Slots.{entries, outcome};
 ghost use Rattle.jobs.specs.Letters.{is_list_letter};
@@ -19,32 +20,27 @@ use refusals::Refusal;
 pub fn replay(table: JobTable, letters: &[u8], numbers: &[u32], answers: &mut [u8]) -> TableAnswer
     ensures outcome { replayed result answers.new
         ≡ replay_out (entries table) letters.now numbers.now answers.old }
-    ensures ledger { (before : List Call) → Agrees (entries table) before → result.answer ≡ served
+    ensures ledger { (before : List Call) → Agrees (entries table) before → answer_of result.answer ≡ served
         → Follows before (calls_of letters.now numbers.now) answers.new (entries result.table) }
 {
     if numbers.len() != letters.len() {
-        return table.refuse(Refusal::LENGTH);
+        return table.refuse(Refusal::Length);
     }
     if answers.len() != letters.len() {
-        return table.refuse(Refusal::LENGTH);
+        return table.refuse(Refusal::Length);
     }
     if !all_letters(letters) {
-        return table.refuse(Refusal::RECORD);
+        return table.refuse(Refusal::Record);
     }
     make_calls(table, letters, numbers, answers)
 }
 
 fn all_letters(letters: &[u8]) -> bool
-    ensures { result ≡ all is_list_letter letters.now }
+    ensures { result ≡ list_all is_list_letter letters.now }
 {
-    let mut i: usize = 0;
-    while i < letters.len() {
-        if !jobs::by_letter::is_list_letter(letters[i]) {
-            return false;
-        }
-        i += 1;
-    }
-    true
+    letters
+        .iter()
+        .all(|letter| jobs::by_letter::is_list_letter(*letter))
 }
 
 // All tests are done: the calls are made, and `answers` is filled.
@@ -53,15 +49,13 @@ fn make_calls(start: JobTable, letters: &[u8], numbers: &[u32], answers: &mut [u
     ensures { replayed result answers.new ≡ made (entries start) (calls_of letters.now numbers.now) }
 {
     let mut table = start;
-    let mut i: usize = 0;
-    while i < letters.len() {
-        let out = table.list_call(letters[i], numbers[i]);
-        answers[i] = out.answer;
+    for (i, letter) in letters.iter().enumerate() {
+        let out = table.list_call(*letter, numbers[i]);
+        answers[i] = refusals::answer(out.answer);
         table = out.table;
-        i += 1;
     }
     TableAnswer {
-        answer: Refusal::NONE,
+        answer: Ok(()),
         table,
     }
 }

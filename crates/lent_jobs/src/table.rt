@@ -50,12 +50,10 @@ pub fn states_known(bytes: &[u8]) -> bool
     requires { length bytes.now ≡ table_len }
     ensures { result ≡ states_known bytes.now }
 {
-    let mut i: usize = 0;
-    while i < JobTable::SLOTS {
+    for i in 0..JobTable::SLOTS {
         if CANCELLED_ON_HOLD < bytes[i * SLOT_LEN] {
             return false;
         }
-        i += 1;
     }
     true
 }
@@ -66,14 +64,12 @@ pub fn table_in(bytes: &[u8]) -> JobTable
     ensures { entries result ≡ table_in bytes.now }
 {
     let mut table = JobTable::empty();
-    let mut i: usize = 0;
-    while i < JobTable::SLOTS {
+    for i in 0..JobTable::SLOTS {
         let at = i * SLOT_LEN;
         let number = payloads::job_number(&bytes[at + 1..]);
         table.slots[i] = Slot {
             entry: entry_of(bytes[at], number),
         };
-        i += 1;
     }
     table
 }
@@ -97,13 +93,9 @@ pub fn put_table(table: JobTable, bytes: &mut [u8])
     requires { length bytes.old ≡ table_len }
     ensures { bytes.new ≡ table_bytes (entries table) }
 {
-    let mut i: usize = 0;
-    while i < JobTable::SLOTS {
-        let slot = table.slots[i];
-        let entry = slot.entry;
+    for i in 0..JobTable::SLOTS {
         let at = i * SLOT_LEN;
-        put_entry(entry, &mut bytes[at..at + SLOT_LEN]);
-        i += 1;
+        put_entry(table.slots[i].entry, &mut bytes[at..at + SLOT_LEN]);
     }
 }
 

@@ -9,9 +9,9 @@ ghost use Rattle.lines.specs.Lines.{space, refusal_line, served_line, stop_line,
 use refusals::Refusal;
 use symbols::numbers::NUMBER_BYTES;
 
-const SPACE: u8 = 32;
+const SPACE: u8 = b' ';
 
-const LINE_FEED: u8 = 10;
+const LINE_FEED: u8 = b'\n';
 
 // The letter, 0 or the refusal.
 pub fn put_refusal(line: &mut [u8], letter: u8, answer: u8) -> usize

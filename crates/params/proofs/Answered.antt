@@ -4,17 +4,18 @@ use Prim.Native.Nat.{ℕ, ◌*◌, ◌≤◌, ◌<◌}
 use Rattle.cells.specs.Figures.{Params, max_word, max_alphabet, max_bursts}
 use Rattle.construction_a.specs.Outcomes.{unserved, figures_number, figures_out}
 use Rattle.params.specs.declared.Layout.{Layout}
-use Rattle.params.specs.declared.LayoutAnswer.{LayoutAnswer}
-use Rattle.params.specs.declared.LayoutAnswer.TheVariants.{Fit, Refused}
-use Rattle.params.specs.Answer.{blocks_figured, layout_number}
+use Rattle.std.specs.Prelude.{Result, Ok, Err}
+use Rattle.refusals.specs.declared.Refusal.{Refusal}
+use Rattle.refusals.specs.Numbers.{number_of, answer_of}
+use Rattle.params.specs.Answer.{blocks_figured}
 
 -- an answer's number follows from its values
-pub number_is : (f : Params) (r : LayoutAnswer) → blocks_figured r ≡ figures_out f → layout_number r ≡ figures_number (figures_out f)
-number_is f (Fit l) answer = ap figures_number answer
-number_is f (Refused a) answer = ap figures_number answer
+pub number_is : (f : Params) (r : Result Layout Refusal) → blocks_figured r ≡ figures_out f → answer_of r ≡ figures_number (figures_out f)
+number_is f (Ok l) answer = ap figures_number answer
+number_is f (Err a) answer = ap figures_number answer
 
 -- of an answer that was taken apart: a refusal is that of the figures alone
-pub refused-learnt : (f : Params) (r : LayoutAnswer) (a : ℕ) → r ≡ Refused a → blocks_figured r ≡ figures_out f → figures_out f ≡ unserved a
+pub refused-learnt : (f : Params) (r : Result Layout Refusal) (a : Refusal) → r ≡ Err a → blocks_figured r ≡ figures_out f → figures_out f ≡ unserved (number_of a)
 refused-learnt f r a e answer = sym answer ∙ ap blocks_figured e
 
 -- the layout's numbers, as facts that arithmetic can use

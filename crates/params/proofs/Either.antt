@@ -12,8 +12,8 @@ use Rattle.construction_b.specs.Figures.{LongParams, long_params}
 use Rattle.construction_b.specs.Figures as B
 use Rattle.construction_b.specs.Outcomes.{coding as coding_b}
 use Rattle.params.specs.declared.Layout.{Layout}
-use Rattle.params.specs.declared.LayoutAnswer.{LayoutAnswer}
-use Rattle.params.specs.declared.LayoutAnswer.TheVariants.{Fit}
+use Rattle.std.specs.Prelude.{Result, Ok}
+use Rattle.refusals.specs.declared.Refusal.{Refusal}
 use Rattle.params.specs.declared.Spells.{Spells}
 use Rattle.params.specs.declared.Spells.TheVariants.{Rank, EndOffset}
 use Rattle.params.specs.Answer.{blocks_figured, LaidOut, LaidIn, LongLaidOut, LongLaidIn, BlocksHaveNumbers}
@@ -63,7 +63,7 @@ module _ (l : Layout) where
   apart_in g ss = let is = numbers-in g in sym (ap₂ (λ (b n : ℕ). apart b n 0 ss) is.burst-is is.word-is)
 
 -- figures that a layout is answered to are in range and fit
-fitting : (d : Coding) (r : LayoutAnswer) (l : Layout) → r ≡ Fit l → blocks_figured r ≡ figures_under d → (d.in_range ≡ true) × (d.fits ≡ true)
+fitting : (d : Coding) (r : Result Layout Refusal) (l : Layout) → r ≡ Ok l → blocks_figured r ≡ figures_under d → (d.in_range ≡ true) × (d.fits ≡ true)
 fitting d r l e answer = figured-fits d l.placement_count l.index_tail l.message_len (sym answer ∙ ap blocks_figured e)
 
 long_same : {f : LongParams} {n q b : ℕ} → n ≡ f.n → q ≡ f.q → b ≡ f.b → long_params n q b ≡ f
@@ -74,14 +74,14 @@ abbrev pub BlocksServeAs : Coding → Layout → Type 0
 BlocksServeAs d l = (blocks_coding l ≡ d) × BlocksServe l
 
 -- of an answer that was taken apart
-pub ranked-serves : (f : Params) (r : LayoutAnswer) (l : Layout) → r ≡ Fit l → blocks_figured r ≡ figures_under (coding_a f) → LaidIn f r → BlocksServeAs (coding_a f) l
+pub ranked-serves : (f : Params) (r : Result Layout Refusal) (l : Layout) → r ≡ Ok l → blocks_figured r ≡ figures_under (coding_a f) → LaidIn f r → BlocksServeAs (coding_a f) l
 ranked-serves f r l e answer laid =
     let fit = fitting (coding_a f) r l e answer in
     let is : LaidOut f l = subst (LaidIn f) e laid in
     let own = laid-fits f l fit.0 fit.1 is in
     (ap₂ coding_with is.spells-is own.0, subst (λ (s : Spells). LayoutFitsWith s l) (sym is.spells-is) own.1)
 
-pub long-serves : (f : LongParams) (r : LayoutAnswer) (l : Layout) → r ≡ Fit l → blocks_figured r ≡ figures_under (coding_b f) → LongLaidIn f r
+pub long-serves : (f : LongParams) (r : Result Layout Refusal) (l : Layout) → r ≡ Ok l → blocks_figured r ≡ figures_under (coding_b f) → LongLaidIn f r
     → BlocksServeAs (coding_b f) l
 long-serves f r l e answer laid =
     let fit = fitting (coding_b f) r l e answer in

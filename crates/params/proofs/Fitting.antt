@@ -15,8 +15,8 @@ use Rattle.construction_a.proofs.Figures.{Served, serve, message-room}
 use Rattle.construction_a.proofs.Outcomes.{figured-fits}
 use Rattle.construction_a.proofs.Plan as Plan
 use Rattle.params.specs.declared.Layout.{Layout}
-use Rattle.params.specs.declared.LayoutAnswer.{LayoutAnswer}
-use Rattle.params.specs.declared.LayoutAnswer.TheVariants.{Fit}
+use Rattle.std.specs.Prelude.{Result, Ok}
+use Rattle.refusals.specs.declared.Refusal.{Refusal}
 use Rattle.params.specs.Answer.{blocks_figured, LaidOut, LaidIn}
 use Rattle.params.specs.Given.{figures_of, LayoutFits, frame_of, Shaped}
 use Rattle.params.proofs.Answered.{Bounds}
@@ -32,7 +32,7 @@ laid-fits f l range fit is =
     (same, record { range = ap in_range same ∙ range; fit = ap fits same ∙ fit; laid = subst (λ (g : Params). LaidOut g l) (sym same) is })
 
 -- of an answer that was taken apart: the layout's figures are the caller's, and they fit
-pub layout-fits : (f : Params) (r : LayoutAnswer) (l : Layout) → r ≡ Fit l → blocks_figured r ≡ figures_out f → LaidIn f r → (figures_of l ≡ f) × LayoutFits l
+pub layout-fits : (f : Params) (r : Result Layout Refusal) (l : Layout) → r ≡ Ok l → blocks_figured r ≡ figures_out f → LaidIn f r → (figures_of l ≡ f) × LayoutFits l
 layout-fits f r l e answer laid =
     let fit = figured-fits f l.placement_count l.index_tail l.message_len (sym answer ∙ ap blocks_figured e) in
     laid-fits f l fit.0 fit.1 (subst (LaidIn f) e laid)

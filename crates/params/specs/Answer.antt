@@ -1,6 +1,7 @@
 -- What an answer of "figures alone" says: its number and values case by case, and what each field of a layout is. Assumes nothing.
-use Rattle.std.specs.Prelude.{◌≡◌, ℕ, ◌≤◌}
-use Rattle.refusals.specs.Refusals.{served}
+use Rattle.std.specs.Prelude.{◌≡◌, Result, Ok, Err, ℕ, ◌≤◌}
+use Rattle.refusals.specs.declared.Refusal.{Refusal}
+use Rattle.refusals.specs.Numbers.{number_of}
 use Rattle.cells.specs.Outcomes.{Coding}
 use Rattle.cells.specs.Figures.{Params, max_word, max_alphabet, max_bursts, placement_count_of}
 use Rattle.construction_a.specs.Figures.{parts, index_tail_of, message_len_of}
@@ -8,19 +9,12 @@ use Rattle.construction_a.specs.Outcomes.{FiguresOut, figured, unserved}
 use Rattle.construction_b.specs.Figures.{LongParams}
 use Rattle.construction_b.specs.Figures as B
 use Rattle.params.specs.declared.Layout.{Layout}
-use Rattle.params.specs.declared.LayoutAnswer.{LayoutAnswer}
-use Rattle.params.specs.declared.LayoutAnswer.TheVariants.{Fit, Refused}
 use Rattle.params.specs.declared.Spells.TheVariants.{Rank, EndOffset}
 
 -- T, r and k of figures that fit, or the refusal's number
-abbrev pub blocks_figured : LayoutAnswer → FiguresOut
-blocks_figured (Fit l) = figured l.placement_count l.index_tail l.message_len
-blocks_figured (Refused a) = unserved a
-
--- document 01's number for each case: 0, or the refusal
-abbrev pub layout_number : LayoutAnswer → ℕ
-layout_number (Fit l) = served
-layout_number (Refused a) = a
+abbrev pub blocks_figured : Result Layout Refusal → FiguresOut
+blocks_figured (Ok l) = figured l.placement_count l.index_tail l.message_len
+blocks_figured (Err r) = unserved (number_of r)
 
 -- the layout has the figures, and each number that follows from them
 pub record LaidOut (f : Params) (l : Layout) : Type 0 where
@@ -35,9 +29,9 @@ pub record LaidOut (f : Params) (l : Layout) : Type 0 where
   pub spells-is : l.spells ≡ Rank
 
 -- a layout that is answered is that of the figures
-abbrev pub LaidIn : Params → LayoutAnswer → Type 0
-LaidIn f (Fit l) = LaidOut f l
-LaidIn f (Refused a) = Unit {0}
+abbrev pub LaidIn : Params → Result Layout Refusal → Type 0
+LaidIn f (Ok l) = LaidOut f l
+LaidIn f (Err r) = Unit {0}
 
 -- ---- Construction B
 
@@ -54,9 +48,9 @@ pub record LongLaidOut (f : LongParams) (l : Layout) : Type 0 where
   pub spells-is : l.spells ≡ EndOffset
 
 -- a layout that is answered is that of the figures
-abbrev pub LongLaidIn : LongParams → LayoutAnswer → Type 0
-LongLaidIn f (Fit l) = LongLaidOut f l
-LongLaidIn f (Refused a) = Unit {0}
+abbrev pub LongLaidIn : LongParams → Result Layout Refusal → Type 0
+LongLaidIn f (Ok l) = LongLaidOut f l
+LongLaidIn f (Err r) = Unit {0}
 
 -- ---- Either construction
 

@@ -14,13 +14,11 @@ pub fn byte_width(q: u64) -> usize
     ensures { result ≡ byte_width q }
 {
     let mut values: u64 = 1;
-    let mut width: usize = 0;
-    while width < MAX_BYTE_WIDTH {
+    for width in 0..MAX_BYTE_WIDTH {
         if BYTE_VALUES <= values {
             return width;
         }
         values = values * q;
-        width += 1;
     }
     MAX_BYTE_WIDTH
 }

@@ -16,13 +16,11 @@ pub fn put_heads(heads: &mut [u16; Layout::MAX_HEADS], layout: Layout)
     let m = layout.m;
     let mut first: usize = 0;
     let mut from: usize = 0;
-    let mut i: usize = 0;
-    while i < parts {
+    for i in 0..parts {
         let len = cut::piece_len(layout.n, parts, i);
         put_part(heads, first, m, from, len);
         first += m;
         from += len;
-        i += 1;
     }
     heads[first] = layout.n as u16;
 }
@@ -35,10 +33,8 @@ fn put_part(heads: &mut [u16; Layout::MAX_HEADS], first: usize, m: usize, from: 
     ensures part { (j : ℕ) → j < m → get_or heads.new (first + j) 0 ≡ from + piece_start len m j }
 {
     let mut head = from;
-    let mut j: usize = 0;
-    while j < m {
+    for j in 0..m {
         heads[first + j] = head as u16;
         head += cut::piece_len(len, m, j);
-        j += 1;
     }
 }

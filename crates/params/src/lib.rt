@@ -7,10 +7,10 @@ ghost use Rattle.construction_a.specs.Figures.{parts as parts_of};
 ghost use Rattle.construction_a.specs.Outcomes.{figures_number, figures_out};
 ghost use Rattle.cells.specs.Cut.{block_head, block_with};
 ghost use Rattle.params.specs.Bridge.{given};
-ghost use Rattle.params.specs.Answer.{blocks_figured, layout_number, LaidIn};
+ghost use Rattle.params.specs.Answer.{blocks_figured, LaidIn};
+ghost use Rattle.refusals.specs.Numbers.{answer_of};
 ghost use Rattle.params.specs.Given.{figures_of, Shaped, HeadsOf};
 
-use binomials::CountAnswer;
 use refusals::Refusal;
 
 pub mod bytes;
@@ -21,7 +21,7 @@ pub mod long;
 pub mod tail;
 
 // The figures as a caller passes them: any numbers.
-#[derive(Clone, Copy)]
+#[derive(Clone, Copy, Debug, PartialEq, Eq)]
 pub struct Params {
     pub n: u32,
     pub q: u32,
@@ -30,7 +30,7 @@ pub struct Params {
 }
 
 // What the index blocks spell: the rank of the placement (Construction A), or how far into its part the one burst ends (Construction B).
-#[derive(Clone, Copy)]
+#[derive(Clone, Copy, Debug, PartialEq, Eq)]
 pub enum Spells {
     Rank,
     EndOffset,
@@ -38,7 +38,7 @@ pub enum Spells {
 
 // The figures of a word that can be laid out, and document 01's p, T, r and k, in this order, which follow from them; Construction B has one burst
 // and three parts, which are its blocks. Positions and lengths are usize, values u64.
-#[derive(Clone, Copy)]
+#[derive(Clone, Copy, Debug, PartialEq, Eq)]
 pub struct Layout {
     pub n: usize,
     pub q: u64,
@@ -49,13 +49,6 @@ pub struct Layout {
     pub index_tail: usize,
     pub message_len: usize,
     pub spells: Spells,
-}
-
-// What "figures alone" answers.
-#[derive(Clone, Copy)]
-pub enum LayoutAnswer {
-    Fit(Layout),
-    Refused(u8),
 }
 
 impl Params {
@@ -79,17 +72,17 @@ impl Params {
     pub const MIN_PARTS: u32 = 3;
 
     // The layout that the figures give, whatever numbers come. Refusals in order: 1 for a figure out of range, 2 for figures that don't fit.
-    pub fn figures(n: u32, q: u32, m: u32, b: u32) -> LayoutAnswer
+    pub fn figures(n: u32, q: u32, m: u32, b: u32) -> Result<Layout, Refusal>
         ensures answer { blocks_figured result ≡ figures_out (params n q m b) }
         ensures layout { LaidIn (params n q m b) result }
-        ensures number { layout_number result ≡ figures_number (figures_out (params n q m b)) }
+        ensures number { answer_of result ≡ figures_number (figures_out (params n q m b)) }
     {
         let given = Params { n, q, m, b };
         if !given.in_range() {
-            return LayoutAnswer::Refused(Refusal::INVALID);
+            return Err(Refusal::Invalid);
         }
         if (n as u64) < (m as u64) * (b as u64) {
-            return LayoutAnswer::Refused(Refusal::UNFIT);
+            return Err(Refusal::Unfit);
         }
         given.laid_out()
     }
@@ -123,21 +116,20 @@ impl Params {
     }
 
     // The layout of figures in range whose bursts a word can hold. Refusal: 2.
-    fn laid_out(self) -> LayoutAnswer
+    fn laid_out(self) -> Result<Layout, Refusal>
         requires { (in_range (given self) ≡ true) × (self.m * self.b ≤ self.n) }
         ensures answer { blocks_figured result ≡ figures_out (given self) }
         ensures layout { LaidIn (given self) result }
     {
         let things = (self.n - self.m * self.b + self.m) as u64;
-        let count = binomials::count(things, self.m as u64);
-        match count {
-            CountAnswer::Ways(placements) => self.counted(placements),
-            CountAnswer::TooMany => LayoutAnswer::Refused(Refusal::UNFIT),
+        match binomials::count(things, self.m as u64) {
+            Some(placements) => self.counted(placements),
+            None => Err(Refusal::Unfit),
         }
     }
 
     // The same for figures whose placements are counted. Refusal: 2.
-    fn counted(self, count: u64) -> LayoutAnswer
+    fn counted(self, count: u64) -> Result<Layout, Refusal>
         requires { (in_range (given self) ≡ true) × (self.m * self.b ≤ self.n) × (count ≡ placement_count_of (given self)) × (count ≤ max_count) }
         ensures answer { blocks_figured result ≡ figures_out (given self) }
         ensures layout { LaidIn (given self) result }
@@ -150,13 +142,13 @@ impl Params {
         let block_min = n / (parts * m);
         let index_tail = tail::least_tail(q, m, count, block_min);
         if block_min <= index_tail {
-            return LayoutAnswer::Refused(Refusal::UNFIT);
+            return Err(Refusal::Unfit);
         }
         if block_min - index_tail < b {
-            return LayoutAnswer::Refused(Refusal::UNFIT);
+            return Err(Refusal::Unfit);
         }
         let message_len = n - m * (b + parts + index_tail - 1);
-        LayoutAnswer::Fit(Layout {
+        Ok(Layout {
             n,
             q,
             m,

@@ -6,11 +6,11 @@ ghost use Rattle.construction_b.specs.Outcomes.{coding};
 ghost use Rattle.params.specs.Bridge.{given_long};
 ghost use Rattle.params.specs.Answer.{blocks_figured, LongLaidIn};
 
-use crate::{Layout, LayoutAnswer, Params, Spells, tail};
+use crate::{Layout, Params, Spells, tail};
 use refusals::Refusal;
 
 // The figures as a caller passes them: any numbers.
-#[derive(Clone, Copy)]
+#[derive(Clone, Copy, Debug, PartialEq, Eq)]
 pub struct LongParams {
     pub n: u32,
     pub q: u32,
@@ -21,20 +21,20 @@ const PARTS: usize = Params::MIN_PARTS as usize;
 
 impl LongParams {
     // The layout that the figures give, whatever numbers come. Refusals in order: 1 for a figure out of range, 2 for figures that don't fit.
-    pub fn figures(n: u32, q: u32, b: u32) -> LayoutAnswer
+    pub fn figures(n: u32, q: u32, b: u32) -> Result<Layout, Refusal>
         ensures answer { blocks_figured result ≡ figures_under (coding (long_params n q b)) }
         ensures layout { LongLaidIn (long_params n q b) result }
     {
         let base = Params { n, q, m: 1, b };
         if !base.in_range() {
-            return LayoutAnswer::Refused(Refusal::INVALID);
+            return Err(Refusal::Invalid);
         }
         let given = LongParams { n, q, b };
         given.laid_out()
     }
 
     // The same for figures in range. Refusal: 2.
-    fn laid_out(self) -> LayoutAnswer
+    fn laid_out(self) -> Result<Layout, Refusal>
         requires { in_range (given_long self) ≡ true }
         ensures answer { blocks_figured result ≡ figures_under (coding (given_long self)) }
         ensures layout { LongLaidIn (given_long self) result }
@@ -43,16 +43,16 @@ impl LongParams {
         let b = self.b as usize;
         let block_min = n / PARTS;
         if block_min < b {
-            return LayoutAnswer::Refused(Refusal::UNFIT);
+            return Err(Refusal::Unfit);
         }
         let q = self.q as u64;
         let offsets = (n + 2) / PARTS;
         let index_tail = tail::least_tail(q, 1, offsets as u64, block_min);
         if block_min <= index_tail {
-            return LayoutAnswer::Refused(Refusal::UNFIT);
+            return Err(Refusal::Unfit);
         }
         let placements = n - b + 1;
-        LayoutAnswer::Fit(Layout {
+        Ok(Layout {
             n,
             q,
             m: 1,

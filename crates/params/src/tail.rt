@@ -19,13 +19,11 @@ pub fn least_factors(start: u64, step: u64, count: u64, limit: usize) -> usize
     ensures { result ≡ first limit 0 (λ x. leb count (start * step ^ x)) }
 {
     let mut values = capped_product(start, 1, count);
-    let mut r: usize = 0;
-    while r < limit {
+    for r in 0..limit {
         if count <= values {
             return r;
         }
         values = capped_product(values, step, count);
-        r += 1;
     }
     limit
 }
@@ -35,10 +33,8 @@ fn capped_power(base: u64, times: usize, cap: u64) -> u64
     ensures { result ≡ min (base ^ times) cap }
 {
     let mut power = capped_product(1, 1, cap);
-    let mut i: usize = 0;
-    while i < times {
+    for i in 0..times {
         power = capped_product(power, base, cap);
-        i += 1;
     }
     power
 }

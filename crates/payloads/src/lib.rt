@@ -32,13 +32,11 @@ fn spell_bytes(q: u64, width: usize, payload: &[u8], message: &mut [u8])
     requires { Measured q width (length payload.now) message.old }
     ensures { message.new ≡ message_of q (length message.old) payload.now }
 {
-    let mut i: usize = 0;
-    while i < payload.len() {
+    for (i, byte) in payload.iter().enumerate() {
         let at = i * width;
-        spell_byte(q, payload[i], &mut message[at..at + width]);
-        i += 1;
+        spell_byte(q, *byte, &mut message[at..at + width]);
     }
-    let spelled = i * width;
+    let spelled = payload.len() * width;
     symbols::clear(&mut message[spelled..]);
 }
 
@@ -56,11 +54,9 @@ pub fn spell_value(q: u64, value: u64, symbols: &mut [u8])
     ensures { symbols.new ≡ spell q (replicate (length symbols.old) plain) value }
 {
     let mut left = value;
-    let mut i = symbols.len();
-    while 0 < i {
-        i -= 1;
+    for i in (0..symbols.len()).rev() {
         symbols[i] = (left % q) as u8;
-        left = left / q;
+        left /= q;
     }
 }
 
@@ -80,13 +76,11 @@ fn spells_bytes(q: u64, width: usize, count: usize, message: &[u8]) -> bool
     requires { Measured q width count message.now }
     ensures { result ≡ spells_payload q (length message.now) message.now }
 {
-    let mut i: usize = 0;
-    while i < count {
+    for i in 0..count {
         let at = i * width;
         if MAX_BYTE < spelled_value(q, width, &message[at..]) {
             return false;
         }
-        i += 1;
     }
     let spelled = count * width;
     symbols::all_below(&message[spelled..], 1)
@@ -109,11 +103,9 @@ fn unspell_bytes(q: u64, width: usize, message: &[u8], payload: &mut [u8])
     requires { Measured q width (length payload.old) message.now × (spells_payload q (length message.now) message.now ≡ true) }
     ensures { payload.new ≡ payload_in q (length message.now) message.now }
 {
-    let mut i: usize = 0;
-    while i < payload.len() {
+    for (i, byte) in payload.iter_mut().enumerate() {
         let at = i * width;
-        payload[i] = spelled_value(q, width, &message[at..]) as u8;
-        i += 1;
+        *byte = spelled_value(q, width, &message[at..]) as u8;
     }
 }
 
@@ -131,12 +123,10 @@ pub fn number_in(q: u64, width: usize, count: usize, message: &[u8]) -> u32
     ensures { result ≡ job_number (payload_in q (length message.now) message.now) }
 {
     let mut number: u64 = 0;
-    let mut i: usize = 0;
-    while i < NUMBER_BYTES {
+    for i in 0..NUMBER_BYTES {
         let at = i * width;
         let byte = spelled_value(q, width, &message[at..]);
         number = number * BYTE_VALUES + byte;
-        i += 1;
     }
     number as u32
 }
@@ -147,11 +137,8 @@ fn spelled_value(q: u64, width: usize, symbols: &[u8]) -> u64
     ensures { result ≡ value q (replicate width plain) symbols.now }
 {
     let mut value: u64 = 0;
-    let mut i: usize = 0;
-    while i < width {
-        let digit = symbols[i] as u64;
-        value = value * q + digit;
-        i += 1;
+    for symbol in &symbols[..width] {
+        value = value * q + *symbol as u64;
     }
     value
 }

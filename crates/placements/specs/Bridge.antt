@@ -1,5 +1,7 @@
 -- A placement of the code as the definitions hold it, what a call may be given, and what covering answers. Assumes nothing.
-use Rattle.std.specs.Prelude.{◌≡◌, Bool, true, not, cond, ◌&&◌, List, [], ℕ, ◌+◌, ◌*◌, ◌≤◌, leb, ltb, eqb, length, get_or}
+use Rattle.std.specs.Prelude.{◌≡◌, Result, Ok, Err, Bool, true, not, cond, ◌&&◌, List, [], ℕ, ◌+◌, ◌*◌, ◌≤◌, leb, ltb, eqb, length, get_or}
+use Rattle.refusals.specs.declared.Refusal.{Refusal}
+use Rattle.refusals.specs.Numbers.{number_of}
 use Rattle.refusals.specs.Refusals.{must, served, wrong_length, bad_symbol, uncovered}
 use Rattle.combinatorics.specs.Lists.{all_below}
 use Rattle.combinatorics.specs.Bursts.{apart, placements, rank_of, starts_of, cover_rank}
@@ -10,7 +12,6 @@ use Rattle.construction_a.specs.Outcomes.{Held, in_use, held, defect_at, Covered
 use Rattle.params.specs.Given.{figures_of, Shaped}
 use Rattle.params.specs.declared.Layout.{Layout}
 use Rattle.placements.specs.declared.Placement.{Placement}
-use Rattle.placements.specs.declared.CoverAnswer.{CoverAnswer}
 
 -- "A placement is held as six starts and the count in use", eight since document 02, ticket 11
 abbrev pub held_as : Placement → Held
@@ -59,17 +60,21 @@ coverable n m b map = ltb (cover_rank n m b (defect_at map)) (placements n m b)
 abbrev pub least_cover : ℕ → ℕ → ℕ → List ℕ → Held
 least_cover n m b map = cond (coverable n m b map) (held (starts_of n m b (cover_rank n m b (defect_at map)))) (held [])
 
+-- and the refusal where none covers
+abbrev pub covered_least : ℕ → ℕ → ℕ → List ℕ → Covered
+covered_least n m b map = must (coverable n m b map) (unplaced uncovered) (record { answer = served; placement = least_cover n m b map })
+
 -- covering behind the figures, "3 4 6"
 abbrev pub cover_within : ℕ → ℕ → ℕ → List ℕ → Covered
 cover_within n m b map =
     must (eqb (length map) n) (unplaced wrong_length)
     (must (all_below 2 map) (unplaced bad_symbol)
-    (must (coverable n m b map) (unplaced uncovered)
-    (record { answer = served; placement = least_cover n m b map })))
+    (covered_least n m b map))
 
 -- the answer of covering, and the placement beside it
-abbrev pub covered_as : CoverAnswer → Covered
-covered_as c = record { answer = c.answer; placement = held_as c.placement }
+abbrev pub covered_as : Result Placement Refusal → Covered
+covered_as (Ok at) = record { answer = served; placement = held_as at }
+covered_as (Err r) = unplaced (number_of r)
 
 -- a placement of the bursts of a layout
 pub record PlacesBursts (l : Layout) (at : Placement) : Type 0 where

@@ -14,15 +14,13 @@ pub fn cover_erasures(at: Placement, b: u32, q: u64, word: &[u8]) -> bool
 {
     let count = at.count as usize;
     let mut from: usize = 0;
-    let mut j: usize = 0;
-    while j < count {
+    for j in 0..count {
         let s = at.starts[j];
         let start = s as usize;
         if !symbols::all_below(&word[from..start], q) {
             return false;
         }
         from = start + b as usize;
-        j += 1;
     }
     symbols::all_below(&word[from..], q)
 }
@@ -32,14 +30,12 @@ pub fn cover_differences(at: Placement, b: u32, word: &[u8], other: &[u8]) -> bo
     requires { (at.count ≤ max_bursts) × (length other.now ≡ length word.now) }
     ensures { result ≡ covers (length word.now) b (differ_at word.now other.now) (starts_in at) }
 {
-    let mut x: usize = 0;
-    while x < word.len() {
+    for x in 0..word.len() {
         if word[x] != other[x] {
             if !in_burst(at, b, x as u64) {
                 return false;
             }
         }
-        x += 1;
     }
     true
 }
@@ -50,14 +46,12 @@ pub fn in_burst(at: Placement, b: u32, x: u64) -> bool
     ensures { result ≡ in_burst b (starts_in at) x }
 {
     let count = at.count as usize;
-    let mut j: usize = 0;
-    while j < count {
+    for j in 0..count {
         let s = at.starts[j];
         let start = s as u64;
         if has(start, b, x) {
             return true;
         }
-        j += 1;
     }
     false
 }

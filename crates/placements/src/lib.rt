@@ -6,9 +6,9 @@ ghost use Rattle.combinatorics.specs.Bursts.{apart, placements, rank_of, starts_
 ghost use Rattle.combinatorics.specs.Choose.{choose};
 ghost use Rattle.combinatorics.specs.Rank.{ways_from};
 ghost use Rattle.combinatorics.specs.Stretch.{top, last_end};
-ghost use Rattle.cells.specs.Outcomes.{held, defect_at, unplaced as unplacedAs};
+ghost use Rattle.cells.specs.Outcomes.{held, defect_at};
 ghost use Rattle.cells.specs.Figures.{max_word, max_bursts, max_count};
-ghost use Rattle.placements.specs.Bridge.{held_as, covered_as, starts_in, coverable, least_cover, cover_within, Rankable, Room};
+ghost use Rattle.placements.specs.Bridge.{held_as, covered_as, starts_in, covered_least, cover_within, Rankable, Room};
 
 use params::Params;
 use refusals::Refusal;
@@ -18,7 +18,7 @@ pub mod starts;
 
 // "A placement is held as six starts and the count in use"; document 02, ticket 11: "Raise .. a placement's starts to eight." Starts past the
 // count are 0 in an answer and unread in a call.
-#[derive(Clone, Copy)]
+#[derive(Clone, Copy, Debug, PartialEq, Eq)]
 pub struct Placement {
     pub starts: [u16; Placement::MAX],
     pub count: u32,
@@ -47,15 +47,13 @@ impl Placement {
         let count = self.count as usize;
         // One past the bursts so far.
         let mut free: u64 = 0;
-        let mut j: usize = 0;
-        while j < count {
+        for j in 0..count {
             let s = self.starts[j];
             let start = s as u64;
             if start < free {
                 return false;
             }
             free = start + b as u64;
-            j += 1;
         }
         free <= n as u64
     }
@@ -68,13 +66,11 @@ impl Placement {
         let count = self.count as usize;
         let gap = (b - 1) as u64;
         let mut rank: u64 = 0;
-        let mut j: usize = 0;
-        while j < count {
+        for j in 0..count {
             let s = self.starts[j];
             let before = j as u64;
             let reduced = s as u64 - before * gap;
             rank += binomials::choose(reduced, before + 1);
-            j += 1;
         }
         rank
     }
@@ -92,13 +88,11 @@ impl Placement {
         };
         let mut below = (n - m * b + m) as u64;
         let mut left = rank;
-        let mut i = m as usize;
-        while 0 < i {
-            let number = i as u64;
-            let last = last_burst(below, number, left);
+        for i in (0..m as usize).rev() {
+            let before = i as u64;
+            let last = last_burst(below, before + 1, left);
             left -= last.share;
-            i -= 1;
-            let start = last.reduced + (number - 1) * gap;
+            let start = last.reduced + before * gap;
             found.starts[i] = start as u16;
             below = last.reduced;
         }
@@ -145,59 +139,26 @@ fn last_burst(below: u64, number: u64, rank: u64) -> LastBurst
     }
 }
 
-// The answer of covering, 0 or a refusal, and the placement beside it, with no starts where the answer is a refusal.
-#[derive(Clone, Copy)]
-pub struct CoverAnswer {
-    pub answer: u8,
-    pub placement: Placement,
-}
-
 // The placement of least rank whose bursts cover every defect of a map of n bytes, 1 where a position is defective and 0 elsewhere: covering by m bursts of b
 // among n positions, whatever lays the strip out. Refusals: 3 4 6.
-pub fn cover_within(n: usize, m: usize, b: usize, map: &[u8]) -> CoverAnswer
+pub fn cover_within(n: usize, m: usize, b: usize, map: &[u8]) -> Result<Placement, Refusal>
     requires { Room n m b }
     ensures { covered_as result ≡ cover_within n m b map.now }
 {
     if map.len() != n {
-        return unplaced(Refusal::LENGTH);
+        return Err(Refusal::Length);
     }
     if !symbols::all_below(map, 2) {
-        return unplaced(Refusal::SYMBOL);
+        return Err(Refusal::Symbol);
     }
-    let found = least_cover(n, m, b, map);
-    if !found.covered {
-        return unplaced(Refusal::UNCOVERED);
-    }
-    let placement = found.placement;
-    CoverAnswer {
-        answer: Refusal::NONE,
-        placement,
-    }
-}
-
-// A refusal, with no placement.
-pub fn unplaced(number: u8) -> CoverAnswer
-    ensures { covered_as result ≡ unplacedAs number }
-{
-    CoverAnswer {
-        answer: number,
-        placement: Placement::none(),
-    }
-}
-
-// Whether some placement covers the map, and the one of least rank that does.
-#[derive(Clone, Copy)]
-pub struct Covering {
-    pub covered: bool,
-    pub placement: Placement,
+    least_cover(n, m, b, map)
 }
 
 // The placement of m bursts of b that covers every defect of a map of n positions and has the least rank. The map is read once, from the
-// right: each burst ends with the last defect that is left, or starts where those before it just have room.
-fn least_cover(n: usize, m: usize, b: usize, map: &[u8]) -> Covering
+// right: each burst ends with the last defect that is left, or starts where those before it just have room. Refusal: 6.
+fn least_cover(n: usize, m: usize, b: usize, map: &[u8]) -> Result<Placement, Refusal>
     requires { Room n m b × (length map.now ≡ n) }
-    ensures covered { result.covered ≡ coverable n m b map.now }
-    ensures placement { held_as result.placement ≡ least_cover n m b map.now }
+    ensures { covered_as result ≡ covered_least n m b map.now }
 {
     let count = m as u32;
     let mut found = Placement {
@@ -206,9 +167,7 @@ fn least_cover(n: usize, m: usize, b: usize, map: &[u8]) -> Covering
     };
     let mut start = n;
     let mut end = last_end(map, start);
-    let mut i = m;
-    while 0 < i {
-        i -= 1;
+    for i in (0..m).rev() {
         start = burst_start(end, b, i * b);
         found.starts[i] = start as u16;
         // A defect that lies left of the burst anyway was found before.
@@ -217,15 +176,9 @@ fn least_cover(n: usize, m: usize, b: usize, map: &[u8]) -> Covering
         }
     }
     if end == 0 {
-        Covering {
-            covered: true,
-            placement: found,
-        }
+        Ok(found)
     } else {
-        Covering {
-            covered: false,
-            placement: Placement::none(),
-        }
+        Err(Refusal::Uncovered)
     }
 }
 
@@ -234,13 +187,10 @@ fn last_end(map: &[u8], below: usize) -> usize
     requires { below ≤ length map.now }
     ensures { result ≡ last_end (defect_at map.now) below }
 {
-    let mut end = below;
-    while 0 < end {
-        let last = end - 1;
-        if map[last] == 1 {
-            return end;
+    for x in (0..below).rev() {
+        if map[x] == 1 {
+            return x + 1;
         }
-        end = last;
     }
     0
 }

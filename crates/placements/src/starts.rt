@@ -16,10 +16,8 @@ pub fn placement_at(bytes: &[u8], from: usize, m: usize) -> Placement
         starts: [0; Placement::MAX],
         count: m as u32,
     };
-    let mut j: usize = 0;
-    while j < m {
+    for j in 0..m {
         found.starts[j] = numbers::two_bytes(bytes, from + 2 * j);
-        j += 1;
     }
     found
 }

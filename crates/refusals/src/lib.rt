@@ -185,11 +185,11 @@ impl Refusal {
 }
 
 // What a call answers for C and in a line: 0 for an accepted one, or the refusal's number.
-pub fn answer(outcome: Result<(), Refusal>) -> u8
+pub fn answer<T: Copy>(outcome: Result<T, Refusal>) -> u8
     ensures { result ≡ answer_of outcome }
 {
     match outcome {
-        Ok(()) => Refusal::NONE,
+        Ok(_) => Refusal::NONE,
         Err(refusal) => u8::from(refusal),
     }
 }

@@ -40,11 +40,9 @@ pub fn spoil(at: Placement, b: u32, damage: &[u8], word: &mut [u8])
     requires { DamageLent at damage.now word.old }
     ensures { word.new ≡ damaged (in_burst b (starts_in at)) damage.now word.old }
 {
-    let mut x: usize = 0;
-    while x < word.len() {
+    for x in 0..word.len() {
         if in_burst(at, b, x as u64) {
             word[x] = damage[x];
         }
-        x += 1;
     }
 }

@@ -32,10 +32,8 @@ pub fn fill_cells(
         passed: 0,
         stop: crate::next_start(walk, at, 0),
     };
-    let mut block: usize = 0;
-    while block < walk.blocks {
+    for block in 0..walk.blocks {
         here = fill_block(walk, at, heads, kinds, digits, message, word, block, here);
-        block += 1;
     }
 }
 
@@ -100,10 +98,7 @@ fn fill_head(
         word[start] = 0;
         return Filling {
             at: start + 1,
-            indexed: from.indexed,
-            sent: from.sent,
-            passed: from.passed,
-            stop: from.stop,
+            ..from
         };
     }
     if kind == blocks::INDEX {
@@ -113,9 +108,7 @@ fn fill_head(
         return Filling {
             at: start + len,
             indexed: from.indexed + 1,
-            sent: from.sent,
-            passed: from.passed,
-            stop: from.stop,
+            ..from
         };
     }
     from
@@ -132,10 +125,8 @@ fn fill_message(message: &[u8], word: &mut [u8], to: usize, from: Filling) -> Fi
     symbols::copy_first(&mut word[start..], &message[sent..], len);
     Filling {
         at: to,
-        indexed: from.indexed,
         sent: sent + len,
-        passed: from.passed,
-        stop: from.stop,
+        ..from
     }
 }
 
@@ -151,9 +142,8 @@ fn fill_burst(walk: Walk, at: Placement, word: &mut [u8], from: Filling) -> Fill
     let stop = crate::next_start(walk, at, passed);
     Filling {
         at: start + walk.b,
-        indexed: from.indexed,
-        sent: from.sent,
         passed,
         stop,
+        ..from
     }
 }

@@ -34,10 +34,8 @@ pub fn take_message(
         passed: 0,
         stop: crate::next_start(walk, at, 0),
     };
-    let mut block: usize = 0;
-    while block < walk.blocks {
+    for block in 0..walk.blocks {
         here = take_block(walk, at, heads, kinds, word, message, block, here);
-        block += 1;
     }
 }
 
@@ -79,9 +77,7 @@ fn take_block(
     let edge = heads[block + 1] as usize;
     let mut here = Taking {
         at: from.at + head_cells(walk, kinds[block]),
-        taken: from.taken,
-        passed: from.passed,
-        stop: from.stop,
+        ..from
     };
     while here.stop < edge {
         here = take_cells(word, message, here.stop, here);
@@ -118,8 +114,7 @@ fn take_cells(word: &[u8], message: &mut [u8], to: usize, from: Taking) -> Takin
     Taking {
         at: to,
         taken: taken + len,
-        passed: from.passed,
-        stop: from.stop,
+        ..from
     }
 }
 
@@ -133,8 +128,8 @@ fn pass_burst(walk: Walk, at: Placement, from: Taking) -> Taking
     let stop = crate::next_start(walk, at, passed);
     Taking {
         at: from.at + walk.b,
-        taken: from.taken,
         passed,
         stop,
+        ..from
     }
 }

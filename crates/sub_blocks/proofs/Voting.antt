@@ -1,20 +1,20 @@
 -- Laws for the search of the majority: stretch by stretch, and sub-block by sub-block. Assumes nothing.
-use mathlib.Core.Path.{◌≡◌, sym, ap, ◌∙◌}
-use mathlib.Core.Logic.{◌≢◌}
-use mathlib.Core.Bool.{true, false, true≢false}
-use mathlib.Core.List.{List}
+use mathlib.Core.Path.{◌≡◌, refl, sym, ap, ◌∙◌}
+use mathlib.Core.Bool.{Bool, ◌&&◌, true, false, true≢false}
+use mathlib.Core.List.{List, [], ◌∷◌}
 use mathlib.Core.Option.{none, some}
 use Prim.Native.Nat.{ℕ, suc, ◌+◌, ◌-◌, ◌*◌, ◌≤◌, ◌<◌}
 use native.Mathlib.Omega.{arith}
-use lib.Dec.{ltb}
+use lib.Dec.{ltb, eqb}
+use lib.Pointwise.{pointwise}
 use lib.ListN.{length, get_or, take, drop, length-drop}
 use lib.Seq.{get_or-drop}
 use Rattle.combinatorics.specs.Lists.{all_below, same_list}
 use Rattle.combinatorics.specs.Majority.{is_value, common, has_common}
 use Rattle.combinatorics.specs.Stretch.{count, tabulate}
 use Rattle.combinatorics.proofs.Cases.{by_bool}
-use Rattle.combinatorics.proofs.Lists.{same-list, list_same, below_at}
-use Rattle.combinatorics.proofs.Members.{length-tabulate, take-is, tabulate-at}
+use Rattle.combinatorics.proofs.Lists.{below_at}
+use Rattle.combinatorics.proofs.Members.{take-is}
 use Rattle.combinatorics.proofs.Stretch.{count-ext}
 use Rattle.cells.specs.Erasures.{found_bound, has_erasure}
 use Rattle.cells.proofs.Erasures.{found-least, below-whole, whole_below}
@@ -29,24 +29,24 @@ use Rattle.sub_blocks.specs.Found.{FoundWord, spelled_at, MajorityAt}
 
 -- ---- Two stretches
 
-module _ (f : ℕ → ℕ) (a b : ℕ) where
-  tabulate-alike : (n : ℕ) → ((j : ℕ) → j < n → f (a + j) ≡ f (b + j)) → tabulate n a f ≡ tabulate n b f
-  tabulate-alike n h =
-      let xs = tabulate n a f in
-      let l : n ≤ length xs = omega (arith, length-tabulate n a f) in
-      sym (take-is n a xs f l (λ j g. tabulate-at n a j f g)) ∙ take-is n b xs f l (λ j g. tabulate-at n a j f g ∙ h j g)
+-- their symbols are the same by the library's test where they are by the definition
+alike : (xs ys : List ℕ) → pointwise eqb xs ys ≡ same_list xs ys
+unfolding same_list
+alike [] [] = refl
+alike [] (y ∷ ys) = refl
+alike (x ∷ xs) [] = refl
+alike (x ∷ xs) (y ∷ ys) = ap (λ (t : Bool). eqb x y && t) (alike xs ys)
 
-  -- all their symbols are alike
-  pub stretches-same : (n : ℕ) → ((j : ℕ) → j < n → f (a + j) ≡ f (b + j)) → same_list (tabulate n a f) (tabulate n b f) ≡ true
-  stretches-same n h = rw (tabulate-alike n h) (same-list (tabulate n b f))
+-- a stretch, lent as a part of the word
+stretch-is : (w : List ℕ) (a len : ℕ) → a + len ≤ length w → take (a + len - a) (drop a w) ≡ tabulate len a (λ x. get_or w x 0)
+stretch-is w a len h =
+    let n : a + len - a ≡ len = omega arith in
+    rw n (take-is len a (drop a w) (λ x. get_or w x 0) (omega (arith, length-drop a w)) (λ j _. get_or-drop a w j 0))
 
-  -- or two are not
-  pub stretches-differ : (n j : ℕ) → j < n → f (a + j) ≢ f (b + j) → same_list (tabulate n a f) (tabulate n b f) ≡ false
-  stretches-differ n j l d =
-      by_bool (same_list (tabulate n a f) (tabulate n b f))
-      (λ t. absurd (d (sym (tabulate-at n a j f l) ∙ ap (λ (xs : List ℕ). get_or xs j 0) (list_same (tabulate n a f) (tabulate n b f) t)
-      ∙ tabulate-at n b j f l)))
-      (λ t. t)
+pub stretches-alike : (w : List ℕ) (a b len : ℕ) → a + len ≤ length w → b + len ≤ length w
+    → pointwise eqb (take (a + len - a) (drop a w)) (take (b + len - b) (drop b w))
+    ≡ same_list (tabulate len a (λ x. get_or w x 0)) (tabulate len b (λ x. get_or w x 0))
+stretches-alike w a b len h g = rw (stretch-is w a len h, stretch-is w b len g) (alike (tabulate len a (λ x. get_or w x 0)) (tabulate len b (λ x. get_or w x 0)))
 
 -- ---- The sub-blocks of a found word
 
@@ -63,11 +63,7 @@ module _ (l : LarssonLayout) (w : List ℕ) (g : FoundWord l w) where
   -- the same, lent as a part of the word
   pub part-is : (i from : ℕ) → i < sub_blocks (larsson_figures_of l) → from ≡ sub_start (larsson_figures_of l) i
       → take (from + l.sub_len - from) (drop from w) ≡ sub_symbols (larsson_figures_of l) w i
-  part-is i from h e =
-      let n : from + l.sub_len - from ≡ l.sub_len = omega arith in
-      (rw n (take-is l.sub_len from (drop from w) (λ x. get_or w x 0) (omega (arith, e, length-drop from w, sub-room l g.layout i h, g.complete))
-      (λ j _. get_or-drop from w j 0)))
-      ∙ symbols-from i from e
+  part-is i from h e = stretch-is w from l.sub_len (omega (arith, e, sub-room l g.layout i h, g.complete)) ∙ symbols-from i from e
 
   module _ (i : ℕ) where
     -- symbols alone have a value

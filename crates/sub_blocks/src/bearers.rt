@@ -26,14 +26,12 @@ pub fn bearers_of(
     let blocks = 2 * layout.m + 1;
     let mut kinds = [BURST; Layout::MAX_BLOCKS];
     let mut met: usize = 0;
-    let mut i: usize = 0;
-    while i < blocks {
+    for i in 0..blocks {
         let untouched = is_untouched(layout, starts, at, i);
         kinds[i] = kind_of(untouched, met, layout.m);
         if untouched {
             met += 1;
         }
-        i += 1;
     }
     kinds
 }
@@ -42,13 +40,7 @@ pub fn bearers_of(
 fn kind_of(untouched: bool, met: usize, m: usize) -> u8
     ensures { result ≡ cond (untouched && ltb met (suc m)) index_kind burst_kind }
 {
-    if !untouched {
-        return BURST;
-    }
-    if m < met {
-        return BURST;
-    }
-    INDEX
+    if untouched && met <= m { INDEX } else { BURST }
 }
 
 // Whether no burst touches sub-block i.
@@ -63,14 +55,10 @@ fn is_untouched(
 {
     let from = starts[i] as usize;
     let end = from + layout.sub_len;
-    let count = at.count as usize;
-    let mut j: usize = 0;
-    while j < count {
-        let s = at.starts[j];
-        if touches(s as usize, layout.b, from, end) {
+    for j in 0..at.count as usize {
+        if touches(at.starts[j] as usize, layout.b, from, end) {
             return false;
         }
-        j += 1;
     }
     true
 }
@@ -80,8 +68,5 @@ fn touches(start: usize, b: usize, from: usize, end: usize) -> bool
     requires { (start < 2 ^ 16) × (b ≤ max_word) }
     ensures { result ≡ (ltb start end && ltb from (start + b)) }
 {
-    if end <= start {
-        return false;
-    }
-    from < start + b
+    start < end && from < start + b
 }

@@ -40,14 +40,10 @@ pub fn agrees(
         ≡ Rattle.larsson.specs.Reading.agrees (larsson_figures_of layout) word.now (spelled_at (larsson_figures_of layout) word.now i) ss }
 {
     let blocks = 2 * layout.m + 1;
-    let mut j: usize = 0;
-    while j < blocks {
-        if kinds[j] == INDEX {
-            if !same_symbols(layout, starts, word, j, i) {
-                return false;
-            }
+    for j in 0..blocks {
+        if kinds[j] == INDEX && !same_symbols(layout, starts, word, j, i) {
+            return false;
         }
-        j += 1;
     }
     true
 }

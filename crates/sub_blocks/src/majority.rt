@@ -23,12 +23,10 @@ pub fn majority_block(
     ensures { MajorityAt (larsson_figures_of layout) word.now result }
 {
     let m = layout.m;
-    let mut i: usize = 0;
-    while i <= m {
+    for i in 0..m + 1 {
         if has_majority(layout, starts, word, i) {
             return i;
         }
-        i += 1;
     }
     2 * m + 1
 }
@@ -60,12 +58,10 @@ fn votes(layout: LarssonLayout, starts: &[u16; Layout::MAX_HEADS], word: &[u8], 
 {
     let blocks = 2 * layout.m + 1;
     let mut met: usize = 0;
-    let mut j: usize = 0;
-    while j < blocks {
+    for j in 0..blocks {
         if same_symbols(layout, starts, word, j, i) {
             met += 1;
         }
-        j += 1;
     }
     met
 }
@@ -90,12 +86,5 @@ fn same_stretches(word: &[u8], a: usize, b: usize, len: usize) -> bool
     requires { (a + len ≤ length word.now) × (b + len ≤ length word.now) }
     ensures { result ≡ same_list (tabulate len a (λ x. get_or word.now x 0)) (tabulate len b (λ x. get_or word.now x 0)) }
 {
-    let mut k: usize = 0;
-    while k < len {
-        if word[a + k] != word[b + k] {
-            return false;
-        }
-        k += 1;
-    }
-    true
+    word[a..a + len] == word[b..b + len]
 }

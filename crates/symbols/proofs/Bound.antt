@@ -5,39 +5,28 @@ use mathlib.Core.List.{List, [], ◌∷◌}
 use Prim.Native.Nat.{ℕ, suc, ◌+◌, ◌≤◌, ◌<◌}
 use native.Mathlib.Numerals.{add-one}
 use native.Mathlib.Omega.{arith}
+use Rattle.std.proofs.Common.{max}
+use Rattle.std.proofs.lemmas.Bool.Decides.{nat_tests}
 use lib.Dec.{ltb, eqb}
 use lib.ListN.{length, get_or, drop, drop_of_length-le}
 use lib.Seq.{drop-cons}
 use Rattle.combinatorics.specs.Lists.{all, all_below}
-use Rattle.combinatorics.proofs.Cases.{by_le, leb-holds, leb-fails, eqb-other}
+use Rattle.combinatorics.proofs.Cases.{leb-fails, eqb-other}
 
--- where a symbol is at most another, the other's bound is both's
-pub larger-below : (a b q : ℕ) → a ≤ b → ltb b q ≡ (ltb a q && ltb b q)
-larger-below a b q h =
-    by_le (suc b) q (λ t. t ≡ (ltb a q && t))
-    (λ l. rw (leb-holds (suc a) q (omega arith)))
-    (λ _. and-false (ltb a q))
-  where
-    and-false : (t : Bool) → false ≡ (t && false)
-    and-false true = refl
-    and-false false = refl
-
-pub and-swap : (s t : Bool) → (s && t) ≡ (t && s)
-and-swap true true = refl
-and-swap true false = refl
-and-swap false true = refl
-and-swap false false = refl
+-- a bound over the larger of two is one over both
+max-below : (a b q : ℕ) → ltb (max a b) q ≡ (ltb a q && ltb b q)
+max-below a b q = grind (arith, nat_tests)
 
 and_assoc : (r s t : Bool) → ((r && s) && t) ≡ (r && (s && t))
 and_assoc true s t = refl
 and_assoc false s t = refl
 
 -- one symbol further
-pub below-turn : (most more q : ℕ) (xs : List ℕ) (i : ℕ) → i < length xs → ltb more q ≡ (ltb most q && ltb (get_or xs i 0) q)
+pub below-turn : (most more q : ℕ) (xs : List ℕ) (i : ℕ) → i < length xs → more ≡ max most (get_or xs i 0)
     → (ltb more q && all_below q (drop (i + 1) xs)) ≡ (ltb most q && all_below q (drop i xs))
 unfolding all
 below-turn most more q xs i h e =
-    rw (e, drop-cons xs i 0 h, add-one i) (and_assoc (ltb most q) (ltb (get_or xs i 0) q) (all_below q (drop (suc i) xs)))
+    rw (e, max-below most (get_or xs i 0) q, drop-cons xs i 0 h, add-one i) (and_assoc (ltb most q) (ltb (get_or xs i 0) q) (all_below q (drop (suc i) xs)))
 
 -- behind the last symbol
 pub below-done : (most q : ℕ) (xs : List ℕ) (i : ℕ) → length xs ≤ i → ltb most q ≡ (ltb most q && all_below q (drop i xs))

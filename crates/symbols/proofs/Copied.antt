@@ -1,20 +1,11 @@
 -- Laws of copying the first symbols of a list over another's, part by part. Assumes nothing.
-use mathlib.Core.Path.{◌≡◌, refl, sym, ap, ap₂, ◌∙◌, subst}
-use mathlib.Core.List.{List, ◌∷◌, ◌++◌}
-use Prim.Native.Nat.{ℕ, zero, suc, ◌+◌, ◌-◌, ◌≤◌, ◌<◌}
+use mathlib.Core.Path.{◌≡◌, sym, ap, ap₂, ◌∙◌, subst}
+use mathlib.Core.List.{List, ◌++◌}
+use Prim.Native.Nat.{ℕ, ◌+◌, ◌-◌, ◌≤◌}
 use native.Mathlib.Omega.{arith}
-use lib.ListN.{length, get_or, take, drop, set, replicate, length-drop, length-replicate}
-use lib.Seq.{take_all, take-add, take-append-add, take-append-le, length-take-le, get_or-take, take-take, take_at}
-use Rattle.combinatorics.proofs.Lists.{fill-turn}
+use lib.ListN.{length, take, drop, length-drop}
+use lib.Seq.{take_all, take-add, take-append-add, take-append-le, length-take-le, take-take}
 use borrow.Rule.Slice.PartMut.{put_mid}
-
--- one symbol more, by way of a list that starts with it too
-pub fill-over : (out room t : List ℕ) (i size : ℕ) → i < size → size ≤ length room → i < length out → size ≤ length t → take size room ≡ take size t
-    → take i out ≡ take i t
-    → take (i + 1) (set out i (get_or room i 0)) ≡ take (i + 1) t
-fill-over out room t i size h r o l e f =
-    let same : get_or room i 0 ≡ get_or t i 0 = sym (get_or-take size room i 0 h) ∙ ap (λ (x : List ℕ). get_or x i 0) e ∙ get_or-take size t i 0 h in
-    rw same (fill-turn out t i o (omega arith) f)
 
 -- a part more: what is copied so far, and the first symbols of a part from there on; what lies behind them may be anything
 pub copied-turn : (d n : ℕ) (out t part : List ℕ) → d ≤ length out → n ≤ length part → take d out ≡ take d t
@@ -42,16 +33,3 @@ copied-last d n len out t part s h l k e f =
     let all : (len - n) + n ≡ len = omega arith in
     subst (λ (x : ℕ). take x (put_mid (len - n) (length out - (len - n)) out part) ≡ take x t) all
     (copied-turn (len - n) n out t part (omega arith) k (fewer (len - n) d out t h e) f)
-
--- ---- Clearing
-
-pub first-zeros : (n m : ℕ) → n ≤ m → take n (replicate m 0) ≡ replicate {A = ℕ} n 0
-first-zeros zero m l = refl
-first-zeros (suc n) zero l = absurd (omega arith)
-first-zeros (suc n) (suc m) l = ap (λ (r : List ℕ). 0 ∷ r) (first-zeros n m (omega arith))
-
-pub cleared-front : (len : ℕ) (out part rest : List ℕ) → len ≤ length out → part ≡ replicate (length (take len out)) 0
-    → take len (part ++ rest) ≡ replicate len 0
-cleared-front len out part rest l e =
-    let z : part ≡ replicate len 0 = rw (← length-take-le len out l) e in
-    take_at part rest len (ap length z ∙ length-replicate {A = ℕ} len 0) ∙ z

@@ -24,21 +24,13 @@ fn largest(symbols: &[u8]) -> u8
     ensures { (q : ℕ) → 0 < q → ltb result q ≡ all_below q symbols.now }
 {
     let mut most: u8 = 0;
-    let mut i: usize = 0;
-    while i < symbols.len() {
-        most = larger(most, symbols[i]);
-        i += 1;
+    for symbol in symbols {
+        most = most.max(*symbol);
     }
     most
 }
 
-fn larger(a: u8, b: u8) -> u8
-    ensures { (q : ℕ) → ltb result q ≡ (ltb a q && ltb b q) }
-{
-    if a < b { b } else { a }
-}
-
-// Every symbol 0. One symbol goes without a loop.
+// Every symbol 0. One symbol goes without a loop. `fill` writes the last symbol by itself: a call and a frame more.
 pub fn clear(symbols: &mut [u8])
     ensures { symbols.new ≡ replicate (length symbols.old) 0 }
 {
@@ -46,10 +38,8 @@ pub fn clear(symbols: &mut [u8])
         symbols[0] = 0;
         return;
     }
-    let mut i: usize = 0;
-    while i < symbols.len() {
-        symbols[i] = 0;
-        i += 1;
+    for symbol in symbols {
+        *symbol = 0;
     }
 }
 
@@ -180,14 +170,6 @@ fn copy_by(to: &mut [u8], from: &[u8], size: usize)
     ensures { take size to.new ≡ take size from.now }
 {
     let mut room = [0u8; MOST];
-    let mut i: usize = 0;
-    while i < size {
-        room[i] = from[i];
-        i += 1;
-    }
-    i = 0;
-    while i < size {
-        to[i] = room[i];
-        i += 1;
-    }
+    room[..size].copy_from_slice(&from[..size]);
+    to[..size].copy_from_slice(&room[..size]);
 }

@@ -12,7 +12,5 @@ pub fn two_bytes(bytes: &[u8], at: usize) -> u16
     requires { at + 2 ≤ length bytes.now }
     ensures { result ≡ get_or bytes.now at 0 * 256 + get_or bytes.now (at + 1) 0 }
 {
-    let high = bytes[at] as u64;
-    let low = bytes[at + 1] as u64;
-    (high * BYTE_VALUES + low) as u16
+    u16::from_be_bytes([bytes[at], bytes[at + 1]])
 }

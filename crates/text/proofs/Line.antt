@@ -1,9 +1,10 @@
 -- Laws of a line in which a text stands from a position on. Assumes nothing.
 use mathlib.Core.Path.{◌≡◌, refl, sym, ap, ◌∙◌}
 use mathlib.Core.List.{List, [], ◌∷◌, ◌++◌, append_assoc, append-nil}
-use Prim.Native.Nat.{ℕ, suc, ◌+◌, ◌≤◌, ◌<◌}
+use Prim.Native.Nat.{ℕ, suc, ◌+◌, ◌-◌, ◌≤◌, ◌<◌}
 use native.Mathlib.Numerals.{add-one}
 use native.Mathlib.Omega.{arith}
+use borrow.Rule.Slice.PartMut.{put_mid}
 use lib.ListN.{length, get_or, take, drop, set, length-append, length-drop, take-append-drop}
 use lib.Seq.{append_snoc, length-take-le, take_all, take-suc, set_split, take_at, drop-drop, drop-append-add}
 use Rattle.text.specs.Text.{overwrite}
@@ -48,6 +49,13 @@ module _ (at : ℕ) (line : List ℕ) where
   overwrite-then s t h =
       let n : at + length s + length t ≡ at + length (s ++ t) = omega (arith, length-append s t) in
       rw (overwrite-take s h, overwrite-drop s (length t) h, n) (ap (λ (r : List ℕ). r ++ drop (at + length (s ++ t)) line) (append_assoc (take at line) s t))
+
+-- a text that is copied into its part of a line
+pub part-put : (at : ℕ) (text line part : List ℕ) → part ≡ text → put_mid at (at + length text - at) line part ≡ overwrite at text line
+unfolding overwrite
+part-put at text line part e =
+    let n : at + length text - at ≡ length text = omega arith in
+    rw (e, n, drop-drop (length text) at line) (sym (append_assoc (take at line) text (drop (at + length text) line)))
 
 -- a line that is put together from its start on begins with the text
 pub line-take : (text line : List ℕ) → take (length text) (overwrite 0 text line) ≡ text

@@ -6,12 +6,12 @@ ghost use Rattle.combinatorics.specs.Lists.{all_below};
 ghost use Rattle.text.specs.Text.{decimal, hex_digit, hex, overwrite};
 ghost use Rattle.text.specs.Nibbles.{nibbles_of, nibbles};
 
-mod number;
+use itoa::Buffer;
 
-// The characters 0 and A.
-const ZERO: u8 = 48;
+// The first of the figures, and of the letters.
+const ZERO: u8 = b'0';
 
-const CAPITAL_A: u8 = 65;
+const CAPITAL_A: u8 = b'A';
 
 // One character.
 pub fn put_byte(line: &mut [u8], at: usize, byte: u8) -> usize
@@ -29,23 +29,19 @@ pub fn put_text(line: &mut [u8], at: usize, text: &[u8]) -> usize
     ensures line { line.new ≡ overwrite at text.now line.old }
     ensures behind { result ≡ at + length text.now }
 {
-    let mut i: usize = 0;
-    while i < text.len() {
-        line[at + i] = text[i];
-        i += 1;
-    }
-    at + i
+    let behind = at + text.len();
+    line[at..behind].copy_from_slice(text);
+    behind
 }
 
-// A number in decimal; 20 characters hold any.
+// A number in decimal.
 pub fn put_decimal(line: &mut [u8], at: usize, value: u64) -> usize
     requires { at + length (decimal value) ≤ length line.old }
     ensures line { line.new ≡ overwrite at (decimal value) line.old }
     ensures behind { result ≡ at + length (decimal value) }
 {
-    let mut digits = [0u8; 20];
-    let count = number::decimal(value, &mut digits);
-    put_text(line, at, &digits[..count])
+    let mut buffer = Buffer::new();
+    put_text(line, at, buffer.format(value).as_bytes())
 }
 
 // Bytes in hex, two capitals for each.
@@ -68,13 +64,12 @@ fn put_hex_chunks(line: &mut [u8], at: usize, bytes: &[u8]) -> usize
     ensures line { line.new ≡ overwrite at (hex (take result bytes.now)) line.old }
     ensures rest { (result ≤ length bytes.now) × (length bytes.now - result < 64) }
 {
-    let mut done: usize = 0;
-    while CHUNK <= bytes.len() - done {
-        let next = done + CHUNK;
-        put_hex_chunk(line, at + 2 * done, &bytes[done..next]);
-        done = next;
+    let chunks = bytes.len() / CHUNK;
+    for i in 0..chunks {
+        let done = i * CHUNK;
+        put_hex_chunk(line, at + 2 * done, &bytes[done..done + CHUNK]);
     }
-    done
+    chunks * CHUNK
 }
 
 // At most a chunk of bytes in hex: nibbles first, by way of a local array, then the digit of each.
@@ -95,10 +90,8 @@ fn put_nibbles(line: &mut [u8], at: usize, bytes: &[u8]) -> usize
     ensures below { all_below 16 (nibbles bytes.now) ≡ true }
 {
     let mut behind = at;
-    let mut i: usize = 0;
-    while i < bytes.len() {
-        behind = put_nibbles_of(line, behind, bytes[i]);
-        i += 1;
+    for byte in bytes {
+        behind = put_nibbles_of(line, behind, *byte);
     }
     behind
 }
@@ -117,10 +110,8 @@ fn put_digits(line: &mut [u8], at: usize, values: &[u8])
     requires { (at + length values.now ≤ length line.old) × (all_below 16 values.now ≡ true) }
     ensures { line.new ≡ overwrite at (map hex_digit values.now) line.old }
 {
-    let mut i: usize = 0;
-    while i < values.len() {
-        line[at + i] = hex_digit(values[i]);
-        i += 1;
+    for (i, value) in values.iter().enumerate() {
+        line[at + i] = hex_digit(*value);
     }
 }
 

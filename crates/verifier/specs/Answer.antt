@@ -1,9 +1,10 @@
 -- What an answer of the check says, case by case. Assumes nothing.
+use Rattle.std.specs.Prelude.{Bool, true, false, Result, Ok, Err}
+use Rattle.refusals.specs.declared.Refusal.{Refusal}
+use Rattle.refusals.specs.Numbers.{number_of}
 use Rattle.verifier.specs.Verify.{Verdict, agreeing, differing, unchecked}
-use Rattle.verifier.specs.declared.VerifyAnswer.{VerifyAnswer}
-use Rattle.verifier.specs.declared.VerifyAnswer.TheVariants.{Agrees, Differs, Refused}
 
-abbrev pub verdict_as : VerifyAnswer → Verdict
-verdict_as Agrees = agreeing
-verdict_as Differs = differing
-verdict_as (Refused a) = unchecked a
+abbrev pub verdict_as : Result Bool Refusal → Verdict
+verdict_as (Ok true) = agreeing
+verdict_as (Ok false) = differing
+verdict_as (Err r) = unchecked (number_of r)

@@ -9,30 +9,18 @@ ghost use Rattle.verifier.specs.Answer.{verdict_as};
 ghost use Rattle.verifier.specs.Given.{ExpectedWord};
 ghost use Rattle.verifier.specs.Verify.{verify_under};
 
-use codes::{Figures, FiguresAnswer, WordLayout};
+use codes::{Figures, WordLayout};
 use params::Params;
 use params::found::found_bound;
 use placements::Placement;
 use placements::bursts::cover_differences;
 use refusals::Refusal;
 
-// Whether the word agrees outside the bursts with the one that would be written, or the refusal.
-#[derive(Clone, Copy)]
-pub enum VerifyAnswer {
-    Agrees,
-    Differs,
-    Refused(u8),
-}
-
-// The check of a found word of n symbols. What the cells inside the bursts hold makes no difference. Refusals: 1 2 3 5 4.
-pub fn verify(figures: Figures, at: Placement, message: &[u8], word: &[u8]) -> VerifyAnswer
+// The check of a found word of n symbols: whether it agrees outside the bursts with the one that would be written. What the cells inside the bursts hold makes no difference. Refusals: 1 2 3 5 4.
+pub fn verify(figures: Figures, at: Placement, message: &[u8], word: &[u8]) -> Result<bool, Refusal>
     ensures { verdict_as result ≡ verify_under (coding_of figures) (held_as at) message.now word.now }
 {
-    let answer = figures.layout();
-    match answer {
-        FiguresAnswer::Refused(number) => VerifyAnswer::Refused(number),
-        FiguresAnswer::Fit(layout) => verify_fitting(layout, at, message, word),
-    }
+    verify_fitting(figures.layout()?, at, message, word)
 }
 
 // The same for figures that fit. Refusals: 3 5 4. The word that would be written stands in a local array.
@@ -41,13 +29,13 @@ pub fn verify_fitting(
     at: Placement,
     message: &[u8],
     word: &[u8],
-) -> VerifyAnswer
+) -> Result<bool, Refusal>
     requires { Serves layout }
     ensures { verdict_as result ≡ verify_under (coding_in layout) (held_as at) message.now word.now }
 {
     let n = layout.n;
     if word.len() != n {
-        return VerifyAnswer::Refused(Refusal::LENGTH);
+        return Err(Refusal::Length);
     }
     let mut expected = [0u8; Params::MAX_WORD as usize];
     verify_against(layout, at, message, word, &mut expected[..n])
@@ -60,19 +48,13 @@ fn verify_against(
     message: &[u8],
     word: &[u8],
     expected: &mut [u8],
-) -> VerifyAnswer
+) -> Result<bool, Refusal>
     requires { ExpectedWord layout word.now expected.old }
     ensures { verdict_as result ≡ verify_under (coding_in layout) (held_as at) message.now word.now }
 {
-    let refusal = codes::encode_fitting(layout, at, message, expected);
-    if refusal != Refusal::NONE {
-        return VerifyAnswer::Refused(refusal);
-    }
+    codes::encode_fitting(layout, at, message, expected)?;
     if !symbols::all_below(word, found_bound(layout.q)) {
-        return VerifyAnswer::Refused(Refusal::SYMBOL);
+        return Err(Refusal::Symbol);
     }
-    if cover_differences(at, layout.b as u32, word, expected) {
-        return VerifyAnswer::Agrees;
-    }
-    VerifyAnswer::Differs
+    Ok(cover_differences(at, layout.b as u32, word, expected))
 }

@@ -1,5 +1,5 @@
 -- `first_spare` meets its contract: no block before k is spare. Assumes nothing.
-use mathlib.Core.Path.{sym, ◌∙◌}
+use mathlib.Core.Path.{◌≡◌, sym, ◌∙◌}
 use mathlib.Core.Bool.{not}
 use native.Mathlib.Omega.{arith}
 use Rattle.combinatorics.proofs.StretchLoops.{first-here, first_on, first-over}
@@ -10,15 +10,14 @@ use Rattle.blocks.proofs.first_spare.Goals as goal
 pub returns-then-kinds-k-ne-BURST : goal.returns-then-kinds-k-ne-BURST
 returns-then-kinds-k-ne-BURST c =
     sym (first-here c.args.blocks c.loop-k.k (λ x. not (burst_set c.args.kinds.now x)) (omega arith)
-    (rw (no-burst c.args.kinds.now c.loop-k.k c.if-kinds-k-ne-BURST.true))) ∙ c.loop-k.invariant.1
+    (rw (no-burst c.args.kinds.now c.loop-k.k c.if-kinds-k-ne-BURST.true))) ∙ c.loop-k.invariant
 
 pub loop-k-preserved : goal.loop-k-preserved
-loop-k-preserved c = (
-  omega arith,
-  sym (first_on c.args.blocks c.loop-k.k (λ x. not (burst_set c.args.kinds.now x)) (omega arith)
-      (rw (is-burst c.args.kinds.now c.loop-k.k c.if-kinds-k-ne-BURST.false))) ∙ c.loop-k.invariant.1,
-)
+loop-k-preserved c =
+    sym (first_on c.args.blocks c.loop-k.k (λ x. not (burst_set c.args.kinds.now x)) (omega arith)
+    (rw (is-burst c.args.kinds.now c.loop-k.k c.if-kinds-k-ne-BURST.false))) ∙ c.loop-k.invariant
 
 pub returns : goal.returns
 returns c =
-    sym (first-over c.args.blocks c.loop-k.k (λ x. not (burst_set c.args.kinds.now x)) (omega arith)) ∙ c.loop-k.invariant.1
+    let e : c.args.blocks ≡ c.loop-k.k = omega arith in
+    e ∙ sym (first-over c.args.blocks c.loop-k.k (λ x. not (burst_set c.args.kinds.now x)) (omega arith)) ∙ c.loop-k.invariant

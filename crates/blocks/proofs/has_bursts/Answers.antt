@@ -23,14 +23,14 @@ seen c =
     let found = count l.j 0 (blocks c.before.before.before.before.before.before) in
     elim c.if-kinds-from-eq-BURST.branch [
       | then-kinds-from-eq-BURST+else-missing-eq0 w ↦
-          omega (arith, l.invariant.2, one_more c.args.kinds.now c.args.m c.args.part l.j found refl w.if-kinds-from-eq-BURST.true)
+          omega (arith, l.invariant, one_more c.args.kinds.now c.args.m c.args.part l.j found refl w.if-kinds-from-eq-BURST.true)
       | else-kinds-from-eq-BURST w ↦
-          omega (arith, l.invariant.2, none_more c.args.kinds.now c.args.m c.args.part l.j found refl w.if-kinds-from-eq-BURST.false)
+          omega (arith, l.invariant, none_more c.args.kinds.now c.args.m c.args.part l.j found refl w.if-kinds-from-eq-BURST.false)
     ]
 
 pub loop-j-init : goal.loop-j-init
 unfolding sum
-loop-j-init c = (omega arith, refl, omega arith)
+loop-j-init c = omega arith
 
 pub returns-then-missing-eq0 : goal.returns-then-missing-eq0
 unfolding part_count
@@ -38,7 +38,7 @@ returns-then-missing-eq0 c =
     let l = c.loop-j in
     let more = one_more c.args.kinds.now c.args.m c.args.part l.j (count l.j 0 (blocks (goal.at.returns-then-missing-eq0 c).Start)) refl c.if-kinds-from-eq-BURST.true in
     let rest = count-rest (l.j + 1) c.args.m (blocks (goal.at.returns-then-missing-eq0 c).Start) (omega arith) in
-    sym (eqb-other (count c.args.m 0 (blocks (goal.at.returns-then-missing-eq0 c).Start)) c.args.wanted (λ e. absurd (omega (arith, l.invariant.2, c.if-missing-eq0.true, more, rest.0))))
+    sym (eqb-other (count c.args.m 0 (blocks (goal.at.returns-then-missing-eq0 c).Start)) c.args.wanted (λ e. absurd (omega (arith, l.invariant, c.if-missing-eq0.true, more, rest.0))))
 
 pub returns-then-m-j : goal.returns-then-m-j
 unfolding part_count
@@ -48,14 +48,14 @@ returns-then-m-j c =
     sym (eqb-other (count c.args.m 0 (blocks (goal.at.returns-then-m-j c).Start)) c.args.wanted (λ e. absurd (omega (arith, seen (goal.at.returns-then-m-j c).Joined-kinds-from-eq-BURST, c.if-m-j.true, rest.1))))
 
 pub loop-j-preserved : goal.loop-j-preserved
-loop-j-preserved c = (omega arith, refl, seen (goal.at.loop-j-preserved c).Joined-kinds-from-eq-BURST)
+loop-j-preserved c = seen (goal.at.loop-j-preserved c).Joined-kinds-from-eq-BURST
 
 pub returns : goal.returns
 unfolding part_count
 returns c =
     let l = c.loop-j in
     let e : l.j ≡ c.args.m = omega arith in
-    let all : count c.args.m 0 (blocks (goal.at.returns c).Start) + l.missing ≡ c.args.wanted = ap (λ (y : ℕ). count y 0 (blocks (goal.at.returns c).Start) + l.missing) (sym e) ∙ l.invariant.2 in
+    let all : count c.args.m 0 (blocks (goal.at.returns c).Start) + l.missing ≡ c.args.wanted = ap (λ (y : ℕ). count y 0 (blocks (goal.at.returns c).Start) + l.missing) (sym e) ∙ l.invariant in
     by-eq l.missing 0 (λ t. t ≡ eqb (count c.args.m 0 (blocks (goal.at.returns c).Start)) c.args.wanted)
     (λ z. sym (eqb_same (count c.args.m 0 (blocks (goal.at.returns c).Start)) c.args.wanted (omega arith)))
     (λ z. sym (eqb-other (count c.args.m 0 (blocks (goal.at.returns c).Start)) c.args.wanted (λ d. z (omega arith))))

@@ -1,6 +1,6 @@
 -- `has_bursts` meets its contract: what is missing and the burst blocks among the first j of the part are as many as wanted. Assumes nothing.
 use mathlib.Core.Path.{◌≡◌}
-use Prim.Native.Nat.{◌+◌, ◌*◌, ◌-◌, ◌≤◌}
+use Prim.Native.Nat.{◌+◌}
 use Rattle.combinatorics.specs.Stretch.{count}
 use Rattle.construction_a.specs.Writing.{row}
 use Rattle.blocks.specs.Blocks.{burst_set}
@@ -8,7 +8,4 @@ use Rattle.blocks.proofs.has_bursts.Given as goal
 
 abbrev pub invariant-loop-j : goal.invariant-loop-j
 invariant-loop-j l =
-    (l.j ≤ l.m) × (l.from ≡ l.part * l.m) × (count l.j 0 (row l.m (burst_set l.kinds) l.part) + l.missing ≡ l.wanted)
-
-abbrev pub decreases-loop-j : goal.decreases-loop-j
-decreases-loop-j l = l.m - l.j
+    (count l.j 0 (row l.m (burst_set l.kinds) l.part) + l.missing ≡ l.wanted)

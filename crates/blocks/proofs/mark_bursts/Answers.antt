@@ -1,5 +1,5 @@
 -- `mark_bursts` meets its contract: the first j bursts have their blocks, and no burst to come ends before block `last`. Assumes nothing.
-use mathlib.Core.Path.{◌≡◌, refl, subst}
+use mathlib.Core.Path.{◌≡◌, subst}
 use Prim.Native.Nat.{ℕ, ◌+◌, ◌-◌, ◌*◌, ◌≤◌, ◌<◌}
 use native.Mathlib.Omega.{arith}
 use lib.ListN.{length, get_or}
@@ -45,8 +45,6 @@ overflow_mul-blocks c = omega (arith, blocks-fit (l (goal.at.overflow_mul-blocks
 pub loop-j-init : goal.loop-j-init
 loop-j-init c =
     let b = bound (l (goal.at.loop-j-init c).Start) c.requires.0.layout in (
-      omega arith,
-      refl,
       omega (arith, many (l (goal.at.loop-j-init c).Start) c.requires.0.layout, b.m-least, blocks_is (l (goal.at.loop-j-init c).Start) c.requires.0.layout),
       λ i _ _. omega (arith, block-first (l (goal.at.loop-j-init c).Start).n (l (goal.at.loop-j-init c).Start).parts (l (goal.at.loop-j-init c).Start).m b.m-least),
       rw c.requires.2 (bursting-start (figures_of (l (goal.at.loop-j-init c).Start)) (starts_in c.args.at)),
@@ -64,19 +62,19 @@ overflow_sub-start c = omega (arith, (bound (l (goal.at.overflow_sub-start c).St
 pub block_from-last-requires : goal.block_from-last-requires
 block_from-last-requires c =
     let j = c.loop-j.j in
-    (c.requires.0.layout, c.requires.1, c.loop-j.invariant.2, c.loop-j.invariant.3 j (omega arith) (omega arith), end-in (goal.at.block_from-last-requires c).Start j (omega arith))
+    (c.requires.0.layout, c.requires.1, c.loop-j.invariant.0, c.loop-j.invariant.1 j (omega arith) (omega arith), end-in (goal.at.block_from-last-requires c).Start j (omega arith))
 
 pub burst_block-next-requires : goal.burst_block-next-requires
 burst_block-next-requires c =
     let g = c.requires.0.layout in (
       rw c.block_from-last.ensures (end-block (goal.at.burst_block-next-requires c).Start c.loop-j.j (omega arith)).below,
       blocks-fit (l (goal.at.burst_block-next-requires c).Start) g,
-      rw g.parts_is (omega (arith, c.loop-j.invariant.4.marked, many (l (goal.at.burst_block-next-requires c).Start) g)),
+      rw g.parts_is (omega (arith, c.loop-j.invariant.2.marked, many (l (goal.at.burst_block-next-requires c).Start) g)),
     )
 
 pub bounds-kinds-next : goal.bounds-kinds-next
 bounds-kinds-next c =
-    omega (arith, c.burst_block-next.ensures.1, blocks-fit (l (goal.at.bounds-kinds-next c).Start) c.requires.0.layout, c.loop-j.invariant.4.size)
+    omega (arith, c.burst_block-next.ensures.1, blocks-fit (l (goal.at.bounds-kinds-next c).Start) c.requires.0.layout, c.loop-j.invariant.2.size)
 
 pub loop-j-preserved : goal.loop-j-preserved
 loop-j-preserved c =
@@ -87,12 +85,10 @@ loop-j-preserved c =
     let h : j < (l (goal.at.loop-j-preserved c).Start).m = omega arith in
     let last = c.block_from-last in
     let top = end-block (goal.at.loop-j-preserved c).Start j h in (
-      omega arith,
-      refl,
       rw last.ensures top.below,
       λ i d k. rw last.ensures (omega (arith, top.reach, start-grows (l (goal.at.loop-j-preserved c).Start) at c.requires.0 j i (omega arith) k)),
       rw (c.burst_block-next.ensures.0, p)
-          (bursting-turn (figures_of (l (goal.at.loop-j-preserved c).Start)) (starts_in at) j last.result c.loop-j.kinds c.loop-j.invariant.4
+          (bursting-turn (figures_of (l (goal.at.loop-j-preserved c).Start)) (starts_in at) j last.result c.loop-j.kinds c.loop-j.invariant.2
           (omega (arith, starts-count (l (goal.at.loop-j-preserved c).Start) at c.requires.0))
           (rw (start_is (l (goal.at.loop-j-preserved c).Start) at c.requires.0 j h, ← p) last.ensures)
           (rw (last.ensures, ← p) top.below)
@@ -102,4 +98,4 @@ loop-j-preserved c =
 pub returns-clause-bursts : goal.returns-clause-bursts
 returns-clause-bursts c =
     let ss = starts_in c.args.at in
-    let e : c.loop-j.j ≡ length ss = omega (arith, starts-count (l (goal.at.returns-clause-bursts c).Start) c.args.at c.requires.0) in bursting-done (figures_of (l (goal.at.returns-clause-bursts c).Start)) ss c.loop-j.kinds (subst (λ (y : ℕ). Bursting (figures_of (l (goal.at.returns-clause-bursts c).Start)) ss y c.loop-j.kinds) e c.loop-j.invariant.4)
+    let e : c.loop-j.j ≡ length ss = omega (arith, starts-count (l (goal.at.returns-clause-bursts c).Start) c.args.at c.requires.0) in bursting-done (figures_of (l (goal.at.returns-clause-bursts c).Start)) ss c.loop-j.kinds (subst (λ (y : ℕ). Bursting (figures_of (l (goal.at.returns-clause-bursts c).Start)) ss y c.loop-j.kinds) e c.loop-j.invariant.2)

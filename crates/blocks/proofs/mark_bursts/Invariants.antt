@@ -1,6 +1,5 @@
 -- `mark_bursts` meets its contract: the first j bursts have their blocks, and no burst to come ends before block `last`. Assumes nothing.
-use mathlib.Core.Path.{◌≡◌}
-use Prim.Native.Nat.{ℕ, ◌+◌, ◌-◌, ◌*◌, ◌≤◌, ◌<◌}
+use Prim.Native.Nat.{ℕ, ◌+◌, ◌-◌, ◌≤◌, ◌<◌}
 use lib.ListN.{get_or}
 use Rattle.cells.specs.Cut.{block_head}
 use Rattle.placements.specs.Bridge.{starts_in}
@@ -10,9 +9,6 @@ use Rattle.blocks.proofs.mark_bursts.Given as goal
 
 abbrev pub invariant-loop-j : goal.invariant-loop-j
 invariant-loop-j l =
-    (l.j ≤ l.layout.m) × (l.blocks ≡ l.layout.parts * l.layout.m) × (l.last < l.blocks)
+    (l.last < l.blocks)
     × ((i : ℕ) → l.j ≤ i → i < l.layout.m → block_head l.layout.n l.layout.parts l.layout.m l.last ≤ get_or l.at.starts i 0 + l.layout.b - 1)
     × Bursting (figures_of l.layout) (starts_in l.at) l.j l.kinds
-
-abbrev pub decreases-loop-j : goal.decreases-loop-j
-decreases-loop-j l = l.layout.m - l.j

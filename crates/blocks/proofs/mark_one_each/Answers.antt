@@ -17,7 +17,7 @@ pub loop-i-init : goal.loop-i-init
 loop-i-init c =
     let a = c.args in
     let B = burst_set a.kinds.now in
-    (omega arith, c.requires.1, λ k. mark-none (before a.m B 0) a.kinds.now k (before-none a.m B 0 k (omega arith)))
+    (c.requires.1, λ k. mark-none (before a.m B 0) a.kinds.now k (before-none a.m B 0 k (omega arith)))
 
 -- the part's blocks are among all
 part_in : (c : In-loop-i) → c.loop-i.i * c.args.m + c.args.m ≤ max_blocks
@@ -35,7 +35,7 @@ B c = burst_set c.args.kinds.now
 beside_at : (c : After-beside) → c.beside.result ≡ beside (m c) (B c) c.loop-i.i
 beside_at c =
     c.beside.ensures ∙ beside_same (m c) c.loop-i.i c.args.kinds.now c.loop-i.kinds
-    (λ k h. c.loop-i.invariant.2 k ∙ sym (mark-none (before (m c) (B c) c.loop-i.i) c.args.kinds.now k (before-none (m c) (B c) c.loop-i.i k h)))
+    (λ k h. c.loop-i.invariant.1 k ∙ sym (mark-none (before (m c) (B c) c.loop-i.i) c.args.kinds.now k (before-none (m c) (B c) c.loop-i.i k h)))
 
 beside-in : (c : After-beside) → beside (m c) (B c) c.loop-i.i < (m c)
 beside-in c = beside-lt (m c) (B c) c.loop-i.i (c.requires.2 c.loop-i.i (omega arith))
@@ -50,10 +50,9 @@ pub loop-i-preserved : goal.loop-i-preserved
 loop-i-preserved c =
     let i = c.loop-i.i in
     let here = (goal.at.loop-i-preserved c).After-beside in (
-      omega arith,
-      simp length-set c.loop-i.invariant.1,
+      simp length-set c.loop-i.invariant.0,
       mark-more (before (m here) (B here) i) (before (m here) (B here) (i + 1)) c.args.kinds.now c.loop-i.kinds (i * m here + c.beside.result)
-          (omega (arith, bounds-kinds-at c)) c.loop-i.invariant.2
+          (omega (arith, bounds-kinds-at c)) c.loop-i.invariant.1
           (λ k. before_more (m here) (B here) i k (beside-in here) ∙ ap (λ (y : ℕ). eqb k (i * m here + y) || before (m here) (B here) i k) (sym (beside_at here))),
     )
 
@@ -62,5 +61,5 @@ returns c =
     let a = c.args in
     let B = burst_set a.kinds.now in
     let e : c.loop-i.i ≡ a.parts = omega arith in
-    λ k l. mark-same (before a.m B c.loop-i.i) (is_index_in a.m B one_each) a.kinds.now c.loop-i.kinds k (c.loop-i.invariant.2 k)
+    λ k l. mark-same (before a.m B c.loop-i.i) (is_index_in a.m B one_each) a.kinds.now c.loop-i.kinds k (c.loop-i.invariant.1 k)
     (rw e (before-all a.m B a.parts k l))

@@ -1,5 +1,5 @@
 -- `mark_part` meets its contract: the first j blocks of the part are marked. Assumes nothing.
-use mathlib.Core.Path.{◌≡◌, refl}
+use mathlib.Core.Path.{◌≡◌}
 use Prim.Native.Nat.{◌+◌, ◌*◌}
 use native.Mathlib.Omega.{arith}
 use lib.ListN.{length-set}
@@ -11,16 +11,14 @@ use Rattle.blocks.proofs.mark_part.Goals as goal
 pub loop-j-init : goal.loop-j-init
 loop-j-init c =
     let from = c.args.part * c.args.m in
-    (omega arith, refl, c.requires.2, λ k. mark-none (within from 0) c.args.kinds.now k (within_none from k))
+    (c.requires.2, λ k. mark-none (within from 0) c.args.kinds.now k (within_none from k))
 
 pub loop-j-preserved : goal.loop-j-preserved
 loop-j-preserved c =
     let a = c.args in (
-      omega arith,
-      refl,
-      simp length-set c.loop-j.invariant.2,
+      simp length-set c.loop-j.invariant.0,
       mark-more (within (a.part * a.m) c.loop-j.j) (within (a.part * a.m) (c.loop-j.j + 1))
-          a.kinds.now c.loop-j.kinds (a.part * a.m + c.loop-j.j) (omega arith) c.loop-j.invariant.3 (within_more (a.part * a.m) c.loop-j.j),
+          a.kinds.now c.loop-j.kinds (a.part * a.m + c.loop-j.j) (omega arith) c.loop-j.invariant.1 (within_more (a.part * a.m) c.loop-j.j),
     )
 
 pub returns : goal.returns
@@ -28,5 +26,5 @@ returns c =
     let a = c.args in
     let e : c.loop-j.j ≡ a.m = omega arith in
     λ k. mark-same (within (a.part * a.m) c.loop-j.j) (is_index_in a.m (burst_set a.kinds.now) (whole a.part)) a.kinds.now c.loop-j.kinds k
-    (c.loop-j.invariant.3 k)
+    (c.loop-j.invariant.1 k)
     (rw e (within-part a.m a.part k (burst_set a.kinds.now) (omega arith)))

@@ -1,6 +1,6 @@
 -- `mark_part` meets its contract: the first j blocks of the part are marked. Assumes nothing.
 use mathlib.Core.Path.{◌≡◌}
-use Prim.Native.Nat.{ℕ, ◌*◌, ◌≤◌, ◌-◌}
+use Prim.Native.Nat.{ℕ}
 use lib.ListN.{length, get_or}
 use Rattle.params.specs.Given.{max_blocks}
 use Rattle.blocks.specs.Blocks.{marked}
@@ -9,7 +9,4 @@ use Rattle.blocks.proofs.mark_part.Given as goal
 
 abbrev pub invariant-loop-j : goal.invariant-loop-j
 invariant-loop-j l =
-    (l.j ≤ l.m) × (l.from ≡ l.part * l.m) × (length l.kinds ≡ max_blocks) × ((k : ℕ) → get_or l.kinds k 0 ≡ marked (within l.from l.j) l.initial.kinds k)
-
-abbrev pub decreases-loop-j : goal.decreases-loop-j
-decreases-loop-j l = l.m - l.j
+    (length l.kinds ≡ max_blocks) × ((k : ℕ) → get_or l.kinds k 0 ≡ marked (within l.from l.j) l.initial.kinds k)

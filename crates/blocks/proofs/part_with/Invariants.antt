@@ -1,6 +1,6 @@
 -- `part_with` meets its contract: no part before i has so many. Assumes nothing.
 use mathlib.Core.Path.{◌≡◌}
-use Prim.Native.Nat.{◌≤◌, ◌-◌}
+use Prim.Native.Nat.{◌-◌}
 use lib.Dec.{eqb}
 use Rattle.combinatorics.specs.Stretch.{first}
 use Rattle.construction_a.specs.Writing.{part_count}
@@ -8,8 +8,5 @@ use Rattle.blocks.specs.Blocks.{burst_set}
 use Rattle.blocks.proofs.part_with.Given as goal
 
 abbrev pub invariant-loop-i : goal.invariant-loop-i
-invariant-loop-i l = (l.i ≤ l.parts) × (first (l.parts - l.i) l.i (λ x. eqb (part_count l.m (burst_set l.kinds) x) l.wanted) ≡ first l.parts 0
+invariant-loop-i l = (first (l.parts - l.i) l.i (λ x. eqb (part_count l.m (burst_set l.kinds) x) l.wanted) ≡ first l.parts 0
     (λ x. eqb (part_count l.m (burst_set l.kinds) x) l.wanted))
-
-abbrev pub decreases-loop-i : goal.decreases-loop-i
-decreases-loop-i l = l.parts - l.i

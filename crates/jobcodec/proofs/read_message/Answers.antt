@@ -9,8 +9,11 @@ use Rattle.codes.specs.Given.{coding_in}
 use Rattle.codes.proofs.Layouts.{numbers-in}
 use Rattle.jobs.specs.Slots.{entries}
 use Rattle.payloads.specs.Payload.{payload_in}
-use Rattle.decoder.specs.declared.WordAnswer.{WordAnswer}
-use Rattle.decoder.specs.Answer.{answer_as, word_number}
+use Rattle.std.specs.Prelude.{Result, Ok, Err}
+use Rattle.std.proofs.lemmas.Result.{MatchResult-at_err}
+use Rattle.refusals.specs.Numbers.{answer_of}
+use Rattle.refusals.specs.declared.Refusal.{Refusal}
+use Rattle.decoder.specs.Answer.{answer_as}
 use Rattle.jobcodec.specs.Given.{spelled_answer}
 use Rattle.jobcodec.specs.JobRead.{withhold, job_of_payload, job_in, job_read_under}
 use Rattle.jobcodec.proofs.Outcomes.{after_spelled, spelled-decodes, read-decodes, holding}
@@ -18,7 +21,7 @@ use Rattle.jobcodec.proofs.read_message.Goals as goal
 use Rattle.jobcodec.proofs.read_message.Goals.{Start}
 
 -- the job reading is what is made of the word's answer
-spelled : (s : Start) (r said : WordAnswer) (ms : List ℕ) → r ≡ said
+spelled : (s : Start) (r said : Result ℕ Refusal) (ms : List ℕ) → r ≡ said
     → answer_as r ≡ spelled_answer s.args.layout.q (length s.args.message.now)
     (decode_under (coding_in s.args.layout) s.args.word.now s.args.message.now)
     → ms ≡ (decode_under (coding_in s.args.layout) s.args.word.now s.args.message.now).message
@@ -43,16 +46,17 @@ spelled s r said ms is e lent =
 pub returns-in_default : goal.returns-in_default
 returns-in_default c =
     let d = c.read_spelled-answer in
-    ap (withhold c.args.payload.now) (c.refused_with.ensures ∙ ap word_number c.in_default.is)
+    ap (withhold c.args.payload.now)
+    (ap answer_of (MatchResult-at_err _ (λ e. c.map.result ≡ Err e) c.in_default.field-0 c.in_default.is c.map.ensures.cases))
     ∙ sym (spelled (goal.at.returns-in_default c).Start d.result _ d.new.message c.in_default.is d.ensures.answer d.ensures.message)
 
 pub hand_out-requires : goal.hand_out-requires
 hand_out-requires c =
     let d = c.read_spelled-answer in
-    holding c.requires c.args.word.now d.new.message (search rules) d.ensures.message c.in-Accepted.field-0 (ap answer_as (sym c.in-Accepted.is) ∙ d.ensures.answer)
+    holding c.requires c.args.word.now d.new.message (search rules) d.ensures.message c.in-Ok.field-0 (ap answer_as (sym c.in-Ok.is) ∙ d.ensures.answer)
 
 pub returns : goal.returns
 returns c =
     let d = c.read_spelled-answer in
     let same : length d.new.message ≡ (coding_in c.args.layout).codec.message_len_of = search (rules, c.requires.room) in
-    rw (spelled (goal.at.returns c).Start d.result _ d.new.message c.in-Accepted.is d.ensures.answer d.ensures.message, ← same) c.hand_out.ensures
+    rw (spelled (goal.at.returns c).Start d.result _ d.new.message c.in-Ok.is d.ensures.answer d.ensures.message, ← same) c.hand_out.ensures

@@ -18,26 +18,27 @@ use Rattle.jobcodec.specs.Given.{PayloadFits}
 use Rattle.jobcodec.specs.JobWrite.{job_write_under}
 use Rattle.jobcodec.proofs.Outcomes.{write-encodes}
 use Rattle.jobcodec.proofs.RoundTrip.{WrittenUnder, written-under}
-use Rattle.jobcodec.proofs.Calls.{message-short, room-is}
+use Rattle.jobcodec.proofs.Calls.{message-short, room-is, kept}
+use Rattle.std.proofs.lemmas.Result.{err_from_is_err_and}
 use Rattle.jobcodec.proofs.write_laid.Goals as goal
-use Rattle.jobcodec.proofs.write_laid.Goals.{Else-refusal-ne-NONE, Start}
+use Rattle.jobcodec.proofs.write_laid.Goals.{In_ok-may_write, Start}
 
 -- no test refused
-passed : (c : Else-refusal-ne-NONE) → WrittenUnder (coding_in c.args.layout)
+passed : (c : In_ok-may_write) → WrittenUnder (coding_in c.args.layout)
     (entries c.args.table) (held_as c.args.at)
     c.args.payload.now c.args.word.now
 passed c =
     let a = c.args in
     written-under (coding_in a.layout) (entries a.table) (held_as a.at) a.payload.now a.word.now
-    (rw (← c.write_refusal-refusal.ensures) c.if-refusal-ne-NONE.false)
+    (sym c.in_ok-may_write.ensures)
 
 -- the word of a message that is lent in an array with room for it
-lent_is : (c : Else-refusal-ne-NONE) (room : ℕ) (fits : c.args.layout.message_len ≤ room) → length (take {A = ℕ} c.args.layout.message_len (replicate room 0)) ≡ (coding_in
+lent_is : (c : In_ok-may_write) (room : ℕ) (fits : c.args.layout.message_len ≤ room) → length (take {A = ℕ} c.args.layout.message_len (replicate room 0)) ≡ (coding_in
     c.args.layout).codec.message_len_of
 lent_is c room fits =
     room-is c.args.layout (entries c.args.table) c.requires room fits
 
-holds : (c : Else-refusal-ne-NONE) (room : ℕ) (fits : c.args.layout.message_len ≤ room) → PayloadFits c.args.layout c.args.payload.now
+holds : (c : In_ok-may_write) (room : ℕ) (fits : c.args.layout.message_len ≤ room) → PayloadFits c.args.layout c.args.payload.now
     (take {A = ℕ} c.args.layout.message_len (replicate room 0))
 holds c room fits =
     record {
@@ -46,7 +47,7 @@ holds c room fits =
           (sym (lent_is c room fits));
     }
 
-word-is : (c : Else-refusal-ne-NONE) (room : ℕ) (fits : c.args.layout.message_len ≤ room) → (let a = c.args in let d = coding_in a.layout in
+word-is : (c : In_ok-may_write) (room : ℕ) (fits : c.args.layout.message_len ≤ room) → (let a = c.args in let d = coding_in a.layout in
     encode_under d (held_as a.at) (message_of a.layout.q (length (take {A = ℕ} a.layout.message_len (replicate room 0))) a.payload.now)
     a.word.now ≡ job_write_under d (entries a.table) (held_as a.at) a.payload.now a.word.now)
 word-is c room fits =
@@ -65,7 +66,7 @@ longest s = message-short s.args.layout (entries s.args.table) s.requires
 pub returns-then-k-le-SHORT_MESSAGE : goal.returns-then-k-le-SHORT_MESSAGE
 returns-then-k-le-SHORT_MESSAGE c =
     c.write_message.ensures
-    ∙ word-is (goal.at.returns-then-k-le-SHORT_MESSAGE c).Else-refusal-ne-NONE short_word
+    ∙ word-is (goal.at.returns-then-k-le-SHORT_MESSAGE c).In_ok-may_write short_word
     (omega (arith, c.if-k-le-SHORT_MESSAGE.true))
 
 pub slice_bounds-message-end : goal.slice_bounds-message-end
@@ -76,10 +77,16 @@ slice_bounds-write_message-end-2 c =
     sym (length-take-le c.args.layout.message_len (replicate max_word 0) (longest (goal.at.slice_bounds-write_message-end-2 c).Start))
 
 pub write_message-requires-2 : goal.write_message-requires-2
-write_message-requires-2 c = holds (goal.at.write_message-requires-2 c).Else-refusal-ne-NONE max_word (longest (goal.at.write_message-requires-2 c).Start)
+write_message-requires-2 c = holds (goal.at.write_message-requires-2 c).In_ok-may_write max_word (longest (goal.at.write_message-requires-2 c).Start)
 
 pub returns : goal.returns
 returns c =
     c.write_message-2.ensures
-    ∙ word-is (goal.at.returns c).Else-refusal-ne-NONE max_word
+    ∙ word-is (goal.at.returns c).In_ok-may_write max_word
     (longest (goal.at.returns c).Start)
+
+pub returns-in_err-may_write : goal.returns-in_err-may_write
+returns-in_err-may_write c =
+    let a = c.args in
+    let p = err_from_is_err_and c.from_residual.result c.from_residual.ensures.1 in
+    rw (p.1, p.2) (kept a.word.now (coding_in a.layout) (entries a.table) (held_as a.at) a.payload.now _ c.in_err-may_write.ensures)

@@ -27,7 +27,7 @@ abbrev f : Start → Params
 f s = larsson_figures_of s.args.layout
 
 abbrev ss : Start → List ℕ
-ss s = starts_in s.args.placement
+ss s = starts_in s.args.located.placement
 
 fit : (s : Start) → LarssonLayoutFits (l s)
 fit s = s.requires.0.finding.layout
@@ -36,14 +36,14 @@ fit s = s.requires.0.finding.layout
 abbrev taken : Start → List ℕ
 taken s = pick message_cell (plan (f s) (ss s)) s.args.word.now
 
-counted : (s : Start) → s.args.placement.count ≡ (l s).m
+counted : (s : Start) → s.args.located.placement.count ≡ (l s).m
 counted s = ap (λ (h : Held). h.count) s.requires.2.is_held ∙ (placed-starts (f s) (ss s) s.requires.2.placed).1
 
 -- whether its message could be read
 told : (c : After-cover_erasures) → (c.cover_erasures.result ≡ all_below (l (goal.at.After-cover_erasures c).Start).q (taken (goal.at.After-cover_erasures c).Start))
 told c =
     let a = c.args in
-    let whole = whole_is (l (goal.at.After-cover_erasures c).Start) a.word.now c.requires.0.finding a.rank a.placement a.kinds.now c.requires.2 in
+    let whole = whole_is (l (goal.at.After-cover_erasures c).Start) a.word.now c.requires.0.finding a.located.rank a.located.placement a.located.kinds c.requires.2 in
     rw (c.requires.0.finding.complete, whole) at c.cover_erasures.ensures
 
 pub overflow_cast-layout : goal.overflow_cast-layout
@@ -63,7 +63,7 @@ returns-then-not-cover_erasures c =
     let a = c.args in
     c.unread.ensures a.message.now
     ∙ sym (ap (decoded_from (l (goal.at.returns-then-not-cover_erasures c).Start).b a.message.now)
-    (reads-erased (l (goal.at.returns-then-not-cover_erasures c).Start) a.word.now c.requires.0.finding a.rank a.placement a.kinds.now c.requires.2
+    (reads-erased (l (goal.at.returns-then-not-cover_erasures c).Start) a.word.now c.requires.0.finding a.located.rank a.located.placement a.located.kinds c.requires.2
     (sym (told (goal.at.returns-then-not-cover_erasures c).After-cover_erasures) ∙ c.if-not-cover_erasures.true)))
 
 pub walk_of-walk-requires : goal.walk_of-walk-requires
@@ -92,9 +92,9 @@ take_message-requires c =
 pub returns : goal.returns
 returns c =
     let a = c.args in
-    read_whole (l (goal.at.returns c).Start).b a.rank (held_as a.placement) (ss (goal.at.returns c).Start) c.take_message.new.message (taken (goal.at.returns c).Start) a.message.now
+    read_whole (l (goal.at.returns c).Start).b a.located.rank (held_as a.located.placement) (ss (goal.at.returns c).Start) c.take_message.new.message (taken (goal.at.returns c).Start) a.message.now
     c.requires.2.ranked c.requires.2.is_held
     (rw c.walk_of-walk.ensures at c.take_message.ensures)
     ∙ sym (ap (decoded_from (l (goal.at.returns c).Start).b a.message.now)
-    (reads_whole (l (goal.at.returns c).Start) a.word.now c.requires.0.finding a.rank a.placement a.kinds.now c.requires.2
+    (reads_whole (l (goal.at.returns c).Start) a.word.now c.requires.0.finding a.located.rank a.located.placement a.located.kinds c.requires.2
     (sym (told (goal.at.returns c).After-cover_erasures) ∙ c.if-not-cover_erasures.false)))

@@ -7,9 +7,10 @@ use Rattle.ledger.proofs.make_calls.Goals as goal
 
 pub loop-i-preserved : goal.loop-i-preserved
 loop-i-preserved c =
-    call-made (entries c.args.start) c.args.letters.now c.args.numbers.now c.loop-i.answers (entries c.loop-i.table) c.loop-i.i
+    rw c.answer.ensures
+    (call-made (entries c.args.start) c.args.letters.now c.args.numbers.now c.loop-i.answers (entries c.loop-i.table) c.loop-i.i
     c.loop-i.invariant (omega arith) c.requires.numbers_fit
-    c.list_call-out.result c.list_call-out.ensures
+    c.list_call-out.result c.list_call-out.ensures)
 
 pub returns : goal.returns
 returns c =

@@ -1,9 +1,18 @@
 -- `replay` meets its contract. Assumes nothing.
-use mathlib.Core.Path.{sym, ◌∙◌}
+use mathlib.Core.Path.{◌∙◌}
 use Rattle.refusals.specs.Refusals.{wrong_length, bad_record}
 use Rattle.jobs.specs.Slots.{entries}
 use Rattle.ledger.proofs.ReplayLaws.{turned-away, numbers-unfit, answers-unfit, letter-unknown, calls-served, meets}
+use Rattle.ledger.proofs.Turns.{all_known}
 use Rattle.ledger.proofs.replay.Goals as goal
+
+pub make_calls-requires : goal.make_calls-requires
+make_calls-requires c =
+    record {
+      numbers_fit = c.if-numbers-letters.false;
+      answers-fit = c.if-answers-letters.false;
+      known-letters = all_known c.args.letters.now c.all_letters.ensures ∙ c.if-not-all_letters.false;
+    }
 
 pub returns-clause-ledger : goal.returns-clause-ledger
 returns-clause-ledger c =
@@ -13,7 +22,7 @@ returns-clause-ledger c =
     (record {
       numbers_fit = c.if-numbers-letters.false;
       answers-fit = c.if-answers-letters.false;
-      known-letters = sym c.all_letters.ensures ∙ c.if-not-all_letters.false;
+      known-letters = all_known c.args.letters.now c.all_letters.ensures ∙ c.if-not-all_letters.false;
     }))).1
 
 pub returns-clause-outcome : goal.returns-clause-outcome
@@ -24,7 +33,7 @@ returns-clause-outcome c =
     (record {
       numbers_fit = c.if-numbers-letters.false;
       answers-fit = c.if-answers-letters.false;
-      known-letters = sym c.all_letters.ensures ∙ c.if-not-all_letters.false;
+      known-letters = all_known c.args.letters.now c.all_letters.ensures ∙ c.if-not-all_letters.false;
     }))).0
 
 pub returns-then-answers-letters-clause-outcome : goal.returns-then-answers-letters-clause-outcome
@@ -39,7 +48,7 @@ returns-then-not-all_letters-clause-outcome c =
     (turned-away c.refuse-then-not-all_letters.result (entries a.table) bad_record a.answers.now c.refuse-then-not-all_letters.ensures
     ∙ letter-unknown (entries a.table) a.letters.now a.numbers.now a.answers.now c.if-numbers-letters.false
     c.if-answers-letters.false
-    (sym c.all_letters.ensures ∙ c.if-not-all_letters.true))).0
+    (all_known c.args.letters.now c.all_letters.ensures ∙ c.if-not-all_letters.true))).0
 
 pub returns-then-numbers-letters-clause-outcome : goal.returns-then-numbers-letters-clause-outcome
 returns-then-numbers-letters-clause-outcome c =

@@ -21,7 +21,7 @@ is_byte s i =
     below_at byte_values (spelled s) (omega arith) (payload-is s.args.q (length s.args.message.now) s.args.message.now s.requires.1).bytes i
 
 pub loop-i-init : goal.loop-i-init
-loop-i-init c = (omega arith, taken_none byte_values 4 (spelled (goal.at.loop-i-init c).Start) (omega arith))
+loop-i-init c = taken_none byte_values 4 (spelled (goal.at.loop-i-init c).Start) (omega arith)
 
 -- there is room for the next byte
 next_fits : (c : In-loop-i) → c.loop-i.i * c.args.width + c.args.width ≤
@@ -48,7 +48,7 @@ pub overflow_mul-number : goal.overflow_mul-number
 overflow_mul-number c =
     let s = (goal.at.overflow_mul-number c).Start in
     let t = c.loop-i in
-    omega (arith, taken-fits byte_values 4 (spelled s) (omega arith) t.i t.number (is_byte s t.i) 4 (omega arith) (omega arith) t.invariant.1)
+    omega (arith, taken-fits byte_values 4 (spelled s) (omega arith) t.i t.number (is_byte s t.i) 4 (omega arith) (omega arith) t.invariant)
 
 pub overflow_add-number : goal.overflow_add-number
 overflow_add-number c =
@@ -57,7 +57,7 @@ overflow_add-number c =
     let a = s.args in
     let v = byte-read a.q a.width a.count a.message.now s.requires.0 t.i c.spelled_value-byte.result (omega (arith, s.requires.2))
     c.spelled_value-byte.ensures in
-    omega (arith, v, taken-fits byte_values 4 (spelled s) (omega arith) t.i t.number (is_byte s t.i) 4 (omega arith) (omega arith) t.invariant.1)
+    omega (arith, v, taken-fits byte_values 4 (spelled s) (omega arith) t.i t.number (is_byte s t.i) 4 (omega arith) (omega arith) t.invariant)
 
 pub loop-i-preserved : goal.loop-i-preserved
 loop-i-preserved c =
@@ -65,15 +65,13 @@ loop-i-preserved c =
     let t = c.loop-i in
     let a = s.args in
     let v = byte-read a.q a.width a.count a.message.now s.requires.0 t.i c.spelled_value-byte.result (omega (arith, s.requires.2))
-    c.spelled_value-byte.ensures in (
-      omega arith,
-      subst (λ (x : ℕ). Taken byte_values 4 (spelled s) (t.i + 1) (t.number * byte_values + x)) v
-          (taken-turn byte_values 4 (spelled s) (omega arith) t.i t.number (is_byte s t.i) (omega arith)
-          (omega (arith, s.requires.2, payload-count a.q a.width a.count a.message.now s.requires.0)) t.invariant.1),
-    )
+    c.spelled_value-byte.ensures in
+    subst (λ (x : ℕ). Taken byte_values 4 (spelled s) (t.i + 1) (t.number * byte_values + x)) v
+    (taken-turn byte_values 4 (spelled s) (omega arith) t.i t.number (is_byte s t.i) (omega arith)
+    (omega (arith, s.requires.2, payload-count a.q a.width a.count a.message.now s.requires.0)) t.invariant)
 
 pub returns : goal.returns
 unfolding job_number
 returns c =
     let t = c.loop-i in
-    taken-all byte_values 4 (spelled (goal.at.returns c).Start) (omega arith) t.i t.number (omega arith) t.invariant.1
+    taken-all byte_values 4 (spelled (goal.at.returns c).Start) (omega arith) t.i t.number (omega arith) t.invariant

@@ -1,5 +1,4 @@
 -- `number_in` meets its contract: the first i of four bytes are taken in. Assumes nothing.
-use Prim.Native.Nat.{◌-◌, ◌≤◌}
 use lib.ListN.{length}
 use Rattle.cells.specs.Bytes.{byte_values}
 use Rattle.payloads.specs.Payload.{payload_in}
@@ -7,7 +6,4 @@ use Rattle.payloads.proofs.Spelling.{Taken}
 use Rattle.payloads.proofs.number_in.Given as goal
 
 abbrev pub invariant-loop-i : goal.invariant-loop-i
-invariant-loop-i l = (l.i ≤ 4) × Taken byte_values 4 (payload_in l.q (length l.message) l.message) l.i l.number
-
-abbrev pub decreases-loop-i : goal.decreases-loop-i
-decreases-loop-i l = 4 - l.i
+invariant-loop-i l = Taken byte_values 4 (payload_in l.q (length l.message) l.message) l.i l.number

@@ -47,7 +47,7 @@ returns-then-spelled_value-gt-MAX_BYTE c =
     let P = payload_in a.q (length ms) ms in
     let v = byte-read a.q a.width a.count ms c.requires t.i c.spelled_value.result (omega arith) c.spelled_value.ensures in
     sym (not-bytes a.q a.width a.count ms c.requires
-    (sym t.invariant.1 ∙ all-fails (λ x. ltb x byte_values) P t.i (omega (arith, payload-count a.q a.width a.count ms c.requires))
+    (sym t.invariant ∙ all-fails (λ x. ltb x byte_values) P t.i (omega (arith, payload-count a.q a.width a.count ms c.requires))
     (leb-fails (suc (get_or P t.i 0)) byte_values (omega (arith, v)))))
 
 pub loop-i-preserved : goal.loop-i-preserved
@@ -56,11 +56,9 @@ loop-i-preserved c =
     let t = c.loop-i in
     let ms = a.message.now in
     let P = payload_in a.q (length ms) ms in
-    let v = byte-read a.q a.width a.count ms c.requires t.i c.spelled_value.result (omega arith) c.spelled_value.ensures in (
-      omega arith,
-      sym (all-later (λ x. ltb x byte_values) P t.i (omega (arith, payload-count a.q a.width a.count ms c.requires))
-          (leb-holds (suc (get_or P t.i 0)) byte_values (omega (arith, v)))) ∙ t.invariant.1,
-    )
+    let v = byte-read a.q a.width a.count ms c.requires t.i c.spelled_value.result (omega arith) c.spelled_value.ensures in
+    sym (all-later (λ x. ltb x byte_values) P t.i (omega (arith, payload-count a.q a.width a.count ms c.requires))
+    (leb-holds (suc (get_or P t.i 0)) byte_values (omega (arith, v)))) ∙ t.invariant
 
 pub overflow_mul-spelled : goal.overflow_mul-spelled
 overflow_mul-spelled c = omega (arith, all_fit c)
@@ -78,5 +76,5 @@ returns c =
     let ms = a.message.now in
     let P = payload_in a.q (length ms) ms in
     then-leftovers a.q a.width a.count ms c.requires c.all_below.result
-    (sym t.invariant.1 ∙ all-over (λ x. ltb x byte_values) P t.i (omega (arith, payload-count a.q a.width a.count ms c.requires)))
+    (sym t.invariant ∙ all-over (λ x. ltb x byte_values) P t.i (omega (arith, payload-count a.q a.width a.count ms c.requires)))
     c.all_below.ensures

@@ -1,6 +1,6 @@
--- `last_end` meets its contract: no defect stands from `end` on. Assumes nothing.
+-- `last_end` meets its contract: no defect stands from x on. Assumes nothing.
 use mathlib.Core.Path.{◌≡◌, sym, ap, ◌∙◌}
-use Prim.Native.Nat.{◌-◌}
+use Prim.Native.Nat.{◌+◌, ◌-◌}
 use native.Mathlib.Omega.{arith}
 use borrow.Author.Rules.{rules}
 use lib.ListN.{get_or}
@@ -10,18 +10,19 @@ use Rattle.combinatorics.proofs.Scan.{last_none, last-here, last-before}
 use Rattle.construction_a.specs.Outcomes.{defect_at}
 use Rattle.placements.proofs.last_end.Goals as goal
 
-pub returns-then-map-last-eq1 : goal.returns-then-map-last-eq1
-returns-then-map-last-eq1 c =
+pub returns-then-map-x-eq1 : goal.returns-then-map-x-eq1
+returns-then-map-x-eq1 c =
     let map = c.args.map.now in
-    sym (last-here (defect_at map) c.loop-end.end (omega arith) (eqb_same (get_or map (c.loop-end.end - 1) 0) 1 (search rules))) ∙ c.loop-end.invariant.1
+    let e : c.loop-x.x - 1 + 1 ≡ c.loop-x.x = omega arith in
+    e ∙ sym (last-here (defect_at map) c.loop-x.x (omega arith) (eqb_same (get_or map (c.loop-x.x - 1) 0) 1 (search rules))) ∙ c.loop-x.invariant
 
-pub loop-end-preserved : goal.loop-end-preserved
-loop-end-preserved c =
+pub loop-x-preserved : goal.loop-x-preserved
+loop-x-preserved c =
     let map = c.args.map.now in
-    (omega arith, sym (last-before (defect_at map) c.loop-end.end (eqb-other (get_or map (c.loop-end.end - 1) 0) 1 (search rules))) ∙ c.loop-end.invariant.1)
+    sym (last-before (defect_at map) c.loop-x.x (eqb-other (get_or map (c.loop-x.x - 1) 0) 1 (search rules))) ∙ c.loop-x.invariant
 
 pub returns : goal.returns
 returns c =
     let map = c.args.map.now in
-    let e : c.loop-end.end ≡ 0 = omega arith in
-    sym (last_none (defect_at map)) ∙ ap (last_end (defect_at map)) (sym e) ∙ c.loop-end.invariant.1
+    let e : c.loop-x.x ≡ 0 = omega arith in
+    sym (last_none (defect_at map)) ∙ ap (last_end (defect_at map)) (sym e) ∙ c.loop-x.invariant

@@ -53,42 +53,22 @@ loop-i-preserved c =
     (omega (arith, c.loop-i.invariant.last)) in
     scan-turn c.loop-i.invariant (omega arith) (omega arith) (is (goal.at.loop-i-preserved c).After-burst_start-start) (c.loop-i.invariant.last ∙ sym stays)
 
-pub returns-else-end-eq0-clause-covered : goal.returns-else-end-eq0-clause-covered
-returns-else-end-eq0-clause-covered c =
+pub returns-else-end-eq0 : goal.returns-else-end-eq0
+returns-else-end-eq0 c =
     let a = c.args in
     let h = c.requires.0 in
     let w = defect_at a.map.now in
-    let f = over (goal.at.returns-else-end-eq0-clause-covered c).After-loop-i in
+    let f = over (goal.at.returns-else-end-eq0 c).After-loop-i in
     let l = scan-fails a.n a.m a.b w h.some h.within (λ e. c.if-end-eq0.false (end_is f ∙ e)) in
     let t = leb-fails (suc (cover_rank a.n a.m a.b w)) (placements a.n a.m a.b) (omega arith) in
-    sym t
+    rw t
 
-pub returns-else-end-eq0-clause-placement : goal.returns-else-end-eq0-clause-placement
-returns-else-end-eq0-clause-placement c =
+pub returns-then-end-eq0 : goal.returns-then-end-eq0
+returns-then-end-eq0 c =
     let a = c.args in
     let h = c.requires.0 in
     let w = defect_at a.map.now in
-    let f = over (goal.at.returns-else-end-eq0-clause-placement c).After-loop-i in
-    let l = scan-fails a.n a.m a.b w h.some h.within (λ e. c.if-end-eq0.false (end_is f ∙ e)) in
-    let t = leb-fails (suc (cover_rank a.n a.m a.b w)) (placements a.n a.m a.b) (omega arith) in
-    rw t c.none.ensures.placement
-
-pub returns-then-end-eq0-clause-covered : goal.returns-then-end-eq0-clause-covered
-returns-then-end-eq0-clause-covered c =
-    let a = c.args in
-    let h = c.requires.0 in
-    let w = defect_at a.map.now in
-    let f = over (goal.at.returns-then-end-eq0-clause-covered c).After-loop-i in
+    let f = over (goal.at.returns-then-end-eq0 c).After-loop-i in
     let l = scan-covers a.n a.m a.b w h.some h.within (sym (end_is f) ∙ c.if-end-eq0.true) in
     let t = leb-holds (suc (cover_rank a.n a.m a.b w)) (placements a.n a.m a.b) l in
-    sym t
-
-pub returns-then-end-eq0-clause-placement : goal.returns-then-end-eq0-clause-placement
-returns-then-end-eq0-clause-placement c =
-    let a = c.args in
-    let h = c.requires.0 in
-    let w = defect_at a.map.now in
-    let f = over (goal.at.returns-then-end-eq0-clause-placement c).After-loop-i in
-    let l = scan-covers a.n a.m a.b w h.some h.within (sym (end_is f) ∙ c.if-end-eq0.true) in
-    let t = leb-holds (suc (cover_rank a.n a.m a.b w)) (placements a.n a.m a.b) l in
-    rw t (found-is f h l)
+    rw (t, found-is f h l)

@@ -5,6 +5,3 @@ use Rattle.placements.proofs.least_cover.Given as goal
 
 abbrev pub invariant-loop-i : goal.invariant-loop-i
 invariant-loop-i l = Scanning l.n l.m l.b (defect_at l.map) l.i l.start l.end l.found
-
-abbrev pub decreases-loop-i : goal.decreases-loop-i
-decreases-loop-i l = l.i

@@ -15,4 +15,4 @@ spoilt s = in_burst s.args.b (starts_in s.args.at)
 pub returns : goal.returns
 returns c =
     let t = c.loop-x in
-    damage-done (spoilt (goal.at.returns c).Start) c.args.damage.now c.args.word.now t.x t.word t.invariant.1 (omega (arith, t.invariant.1.size, c.loop-x-test.false))
+    damage-done (spoilt (goal.at.returns c).Start) c.args.damage.now c.args.word.now t.x t.word t.invariant (omega (arith, t.invariant.size, c.loop-x-test.false))

@@ -2,6 +2,7 @@
 use mathlib.Core.Path.{◌≡◌, sym, ap, ◌∙◌}
 use Prim.Native.Nat.{ℕ}
 use native.Mathlib.Omega.{arith}
+use borrow.Author.Rules.{rules}
 use Rattle.combinatorics.specs.Lists.{all_below}
 use Rattle.combinatorics.proofs.Lists.{at-below}
 use Rattle.symbols.proofs.Bound.{none_below}
@@ -9,7 +10,7 @@ use Rattle.symbols.proofs.all_below.Goals as goal
 
 pub returns-then-bound-ge-BYTE_VALUES : goal.returns-then-bound-ge-BYTE_VALUES
 returns-then-bound-ge-BYTE_VALUES c =
-    sym (at-below c.args.bound c.args.symbols.now (λ x h. omega (arith, c.shared_slice_known-1.given x)))
+    sym (at-below c.args.bound c.args.symbols.now (λ x h. search rules))
 
 pub returns-then-bound-eq0 : goal.returns-then-bound-eq0
 returns-then-bound-eq0 c =

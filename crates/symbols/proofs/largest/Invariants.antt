@@ -1,14 +1,7 @@
--- `largest` meets its contract: a bound over the largest so far and over the symbols from i on is one over all. Assumes nothing.
-use mathlib.Core.Path.{◌≡◌}
-use mathlib.Core.Bool.{◌&&◌}
-use Prim.Native.Nat.{ℕ, ◌-◌, ◌≤◌, ◌<◌}
-use lib.Dec.{ltb}
-use lib.ListN.{length, drop}
+-- `largest` meets its contract: a bound over the largest so far and over the symbols that follow is one over all. Assumes nothing.
+use Rattle.std.proofs.Common.{◌≡◌, ◌&&◌, ℕ, ◌<◌, ltb, drop}
 use Rattle.combinatorics.specs.Lists.{all_below}
 use Rattle.symbols.proofs.largest.Given as goal
 
-abbrev pub invariant-loop-i : goal.invariant-loop-i
-invariant-loop-i l = (l.i ≤ length l.symbols) × ((q : ℕ) → 0 < q → (ltb l.most q && all_below q (drop l.i l.symbols)) ≡ all_below q l.symbols)
-
-abbrev pub decreases-loop-i : goal.decreases-loop-i
-decreases-loop-i l = length l.symbols - l.i
+abbrev pub invariant-loop-symbol : goal.invariant-loop-symbol
+invariant-loop-symbol l = (q : ℕ) → 0 < q → (ltb l.most q && all_below q (drop l.symbol-index l.symbols)) ≡ all_below q l.symbols

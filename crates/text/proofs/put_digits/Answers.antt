@@ -11,7 +11,7 @@ pub loop-i-init : goal.loop-i-init
 loop-i-init c =
     let a = c.args in
     let z : a.at + 0 ≡ a.at = omega arith in
-    (omega arith, rw z (put-none a.at a.line.now))
+    rw z (put-none a.at a.line.now)
 
 pub hex_digit-requires : goal.hex_digit-requires
 hex_digit-requires c =
@@ -21,4 +21,4 @@ pub loop-i-preserved : goal.loop-i-preserved
 loop-i-preserved c =
     let a = c.args in
     let t = c.loop-i in
-    (omega arith, rw c.hex_digit.ensures (digits-turn a.at a.values.now a.line.now t.line t.i c.requires.0 t.invariant.1 (omega arith)))
+    rw c.hex_digit.ensures (digits-turn a.at a.values.now a.line.now t.line t.i c.requires.0 t.invariant (omega arith))

@@ -1,5 +1,5 @@
 -- `verify_against` meets its contract: what writing refuses, 4 for the word, or whether the bursts cover every difference. Assumes nothing.
-use mathlib.Core.Path.{◌≡◌, sym, ap, ◌∙◌}
+use mathlib.Core.Path.{◌≡◌, refl, sym, ap, ◌∙◌}
 use mathlib.Core.Bool.{Bool, true, false, cond}
 use Prim.Native.Nat.{ℕ}
 use native.Mathlib.Omega.{arith}
@@ -13,9 +13,13 @@ use Rattle.codes.specs.declared.WordLayout.{WordLayout}
 use Rattle.codes.specs.Given.{coding_in}
 use Rattle.codes.proofs.Layouts.{numbers-in, small-in, bound, found_in, spoilt-in}
 use Rattle.verifier.specs.Verify.{agrees_outside, agreeing, differing, unchecked, verify_under}
-use Rattle.verifier.proofs.Calls.{Wrote, verify-passed, agreement}
+use Rattle.std.specs.Prelude.{Ok}
+use Rattle.std.proofs.lemmas.Result.{err_from_is_err_and}
+use Rattle.refusals.proofs.Numbers.{never-served}
+use Rattle.verifier.specs.Answer.{verdict_as}
+use Rattle.verifier.proofs.Calls.{Wrote, verify-refused, verify-passed, agreement}
 use Rattle.verifier.proofs.verify_against.Goals as goal
-use Rattle.verifier.proofs.verify_against.Goals.{After-all_below, After-cover_differences, Else-refusal-ne-NONE, Start}
+use Rattle.verifier.proofs.verify_against.Goals.{After-all_below, After-cover_differences, In_ok-encode_fitting, Start}
 
 abbrev l : Start → WordLayout
 l s = s.args.layout
@@ -24,14 +28,14 @@ abbrev d : Start → Coding
 d s = coding_in s.args.layout
 
 -- writing was refused nothing
-wrote : (c : Else-refusal-ne-NONE) → Wrote (d (goal.at.Else-refusal-ne-NONE c).Start)
+wrote : (c : In_ok-encode_fitting) → Wrote (d (goal.at.In_ok-encode_fitting c).Start)
     (held_as c.args.at)
     c.args.message.now
     c.args.word.now
     c.args.expected.now
 wrote c =
-    verify-passed (d (goal.at.Else-refusal-ne-NONE c).Start) (held_as c.args.at) c.args.message.now c.args.word.now c.args.expected.now (c.requires.room ∙ sym c.requires.complete)
-    (rw (← c.encode_fitting-refusal.ensures.answer) c.if-refusal-ne-NONE.false)
+    verify-passed (d (goal.at.In_ok-encode_fitting c).Start) (held_as c.args.at) c.args.message.now c.args.word.now c.args.expected.now (c.requires.room ∙ sym c.requires.complete)
+    (sym c.in_ok-encode_fitting.ensures.answer)
 
 -- the test of the word's symbols
 symbols-are : (c : After-all_below) → c.all_below.result ≡ all_below
@@ -48,9 +52,9 @@ overflow_cast-layout c =
 pub cover_differences-requires : goal.cover_differences-requires
 cover_differences-requires c =
     let few = small-in (l (goal.at.cover_differences-requires c).Start) c.requires.serves in
-    let same : length c.encode_fitting-refusal.new.word ≡ length c.args.expected.now =
+    let same : length c.encode_fitting.new.word ≡ length c.args.expected.now =
     search rules in
-    (omega (arith, (wrote (goal.at.cover_differences-requires c).Else-refusal-ne-NONE).count, few.bursts-most), same ∙ c.requires.room ∙ sym c.requires.complete)
+    (omega (arith, (wrote (goal.at.cover_differences-requires c).In_ok-encode_fitting).count, few.bursts-most), same ∙ c.requires.room ∙ sym c.requires.complete)
 
 -- the verdict is that of the differences
 judged : (c : After-cover_differences) (b : Bool) → c.cover_differences.result ≡ b
@@ -63,14 +67,14 @@ judged c b e =
     let w = c.args.word.now in
     let ss = starts_in c.args.at in
     let ms = c.args.message.now in
-    let held = wrote (goal.at.After-cover_differences c).Else-refusal-ne-NONE in
+    let held = wrote (goal.at.After-cover_differences c).In_ok-encode_fitting in
     let n-is : length w ≡ (d (goal.at.After-cover_differences c).Start).codec.word_len = c.requires.complete ∙ (numbers-in (l (goal.at.After-cover_differences c).Start) c.requires.serves).word-is in
     let agrees : agrees_outside (d (goal.at.After-cover_differences c).Start).codec w ss ms ≡ b =
     rw (
       ← agreement (d (goal.at.After-cover_differences c).Start).codec (l (goal.at.After-cover_differences c).Start).b (spoilt-in (l (goal.at.After-cover_differences c).Start) c.requires.serves) w ss ms,
       ← n-is,
       ← held.word-is,
-      ← c.encode_fitting-refusal.ensures.word,
+      ← c.encode_fitting.ensures.word,
       ← c.cover_differences.ensures,
     ) e in
     held.rest
@@ -78,8 +82,18 @@ judged c b e =
     (sym (symbols-are (goal.at.After-cover_differences c).After-all_below) ∙ c.if-not-all_below.false)
     ∙ ap (λ (t : Bool). cond t agreeing differing) agrees
 
-pub returns-then-cover_differences : goal.returns-then-cover_differences
-returns-then-cover_differences c = sym (judged (goal.at.returns-then-cover_differences c).After-cover_differences true c.if-cover_differences.true)
+pub returns-in_err-encode_fitting : goal.returns-in_err-encode_fitting
+returns-in_err-encode_fitting c =
+    let a = c.args in
+    let p = err_from_is_err_and c.from_residual.result c.from_residual.ensures.1 in
+    let e = c.in_err-encode_fitting.ensures.answer in
+    rw (p.1, p.2) (ap unchecked e ∙ sym (verify-refused (d (goal.at.returns-in_err-encode_fitting c).Start) (held_as a.at) a.message.now a.word.now a.expected.now
+    (c.requires.room ∙ sym c.requires.complete) (λ z. never-served _ (e ∙ z))))
 
 pub returns : goal.returns
-returns c = sym (judged (goal.at.returns c).After-cover_differences false c.if-cover_differences.false)
+returns c = by_bool c.cover_differences.result refl
+  where
+    by_bool : (b : Bool) → c.cover_differences.result ≡ b → verdict_as (Ok c.cover_differences.result)
+        ≡ verify_under (d (goal.at.returns c).Start) (held_as c.args.at) c.args.message.now c.args.word.now
+    by_bool true e = rw e (sym (judged (goal.at.returns c).After-cover_differences true e))
+    by_bool false e = rw e (sym (judged (goal.at.returns c).After-cover_differences false e))

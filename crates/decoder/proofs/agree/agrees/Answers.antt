@@ -42,7 +42,7 @@ pub loop-k-init : goal.loop-k-init
 loop-k-init c =
     let l = c.args.layout in
     let e = blocks_is l c.requires.0.layout in
-    (omega arith, omega arith, λ ss is. agrees-by (figures_of l) ss c.args.kinds.now is c.args.word.now (ReadIn (goal.at.loop-k-init c).Start) (BlocksIn (goal.at.loop-k-init c).Start) e)
+    (omega arith, λ ss is. agrees-by (figures_of l) ss c.args.kinds.now is c.args.word.now (ReadIn (goal.at.loop-k-init c).Start) (BlocksIn (goal.at.loop-k-init c).Start) e)
 
 pub bounds-kinds-k : goal.bounds-kinds-k
 bounds-kinds-k c = omega (arith, blocks-fit c.args.layout c.requires.0.layout)
@@ -72,7 +72,7 @@ returns-then-not-looks_fixed c =
     let o : OffIn (goal.at.returns-then-not-looks_fixed c).Start t.k ≡ true =
     fixed_off (figures_of c.args.layout) c.args.word.now c.args.kinds.now t.k c.if-kind-eq-FIXED.true
     ∙ ap not looks ∙ (ap not c.if-not-looks_fixed.true) in
-    λ ss is. sym (left-off (BlocksIn (goal.at.returns-then-not-looks_fixed c).Start) (IndexIn (goal.at.returns-then-not-looks_fixed c).Start) (OffIn (goal.at.returns-then-not-looks_fixed c).Start) (ReadIn (goal.at.returns-then-not-looks_fixed c).Start) t.k t.met (omega arith) o) ∙ t.invariant.2 ss is
+    λ ss is. sym (left-off (BlocksIn (goal.at.returns-then-not-looks_fixed c).Start) (IndexIn (goal.at.returns-then-not-looks_fixed c).Start) (OffIn (goal.at.returns-then-not-looks_fixed c).Start) (ReadIn (goal.at.returns-then-not-looks_fixed c).Start) t.k t.met (omega arith) o) ∙ t.invariant.1 ss is
 
 -- a block that comes further is not off
 passed : (c : Joined-kind-eq-FIXED) → OffIn (goal.at.Joined-kind-eq-FIXED c).Start c.loop-k.k ≡ false
@@ -91,7 +91,7 @@ pub returns-then-layout-met : goal.returns-then-layout-met
 returns-then-layout-met c =
     let t = c.loop-k in
     let i = marked index_kind c.args.kinds.now t.k c.if-kind-eq-INDEX.true in
-    λ ss is. sym (left-more (BlocksIn (goal.at.returns-then-layout-met c).Start) (IndexIn (goal.at.returns-then-layout-met c).Start) (OffIn (goal.at.returns-then-layout-met c).Start) (ReadIn (goal.at.returns-then-layout-met c).Start) t.k t.met (omega arith) i (omega (arith, read (goal.at.returns-then-layout-met c).Start))) ∙ t.invariant.2 ss is
+    λ ss is. sym (left-more (BlocksIn (goal.at.returns-then-layout-met c).Start) (IndexIn (goal.at.returns-then-layout-met c).Start) (OffIn (goal.at.returns-then-layout-met c).Start) (ReadIn (goal.at.returns-then-layout-met c).Start) t.k t.met (omega arith) i (omega (arith, read (goal.at.returns-then-layout-met c).Start))) ∙ t.invariant.1 ss is
 
 pub bounds-index-met : goal.bounds-index-met
 bounds-index-met c =
@@ -104,13 +104,9 @@ returns-then-index-met c =
     let e = get_or-take c.args.layout.m c.args.index t.met 0 (omega arith) in
     λ ss is. sym (left_other (BlocksIn (goal.at.returns-then-index-met c).Start) (IndexIn (goal.at.returns-then-index-met c).Start) (OffIn (goal.at.returns-then-index-met c).Start) (ReadIn (goal.at.returns-then-index-met c).Start) t.k t.met (omega arith) i (omega (arith, read (goal.at.returns-then-index-met c).Start))
     (λ d. c.if-index-met.true (sym e ∙ d)))
-    ∙ t.invariant.2 ss is
+    ∙ t.invariant.1 ss is
 
 -- ---- The next block
-
-pub overflow_add-k : goal.overflow_add-k
-overflow_add-k c =
-    omega (arith, blocks-fit c.args.layout c.requires.0.layout)
 
 pub loop-k-preserved : goal.loop-k-preserved
 loop-k-preserved c =
@@ -119,19 +115,17 @@ loop-k-preserved c =
     let inside = c.loop-k-test.true in
     elim c.if-kind-eq-INDEX.branch [
       | then-kind-eq-INDEX+else-layout-met+else-index-met u ↦ (
-        omega arith,
         rw u.met-is (omega arith),
         rw u.met-is (λ ss is. sym (left-next (BlocksIn (goal.at.loop-k-preserved c).Start) (IndexIn (goal.at.loop-k-preserved c).Start) (OffIn (goal.at.loop-k-preserved c).Start) (ReadIn (goal.at.loop-k-preserved c).Start) t.k t.met inside (marked index_kind kinds t.k u.if-kind-eq-INDEX.true)
             (passed (goal.at.loop-k-preserved c).Joined-kind-eq-FIXED) (omega (arith, read (goal.at.loop-k-preserved c).Start, u.if-layout-met.false))
             (get_or-take c.args.layout.m c.args.index t.met 0 u.if-layout-met.false ∙ u.if-index-met.false))
-            ∙ t.invariant.2 ss is),
+            ∙ t.invariant.1 ss is),
       )
       | else-kind-eq-INDEX u ↦ (
-        omega arith,
         rw u.met-is (omega arith),
         rw u.met-is (λ ss is. sym (left-skip (BlocksIn (goal.at.loop-k-preserved c).Start) (IndexIn (goal.at.loop-k-preserved c).Start) (OffIn (goal.at.loop-k-preserved c).Start) (ReadIn (goal.at.loop-k-preserved c).Start) t.k t.met inside (unmarked index_kind kinds t.k u.if-kind-eq-INDEX.false)
             (passed (goal.at.loop-k-preserved c).Joined-kind-eq-FIXED))
-            ∙ t.invariant.2 ss is),
+            ∙ t.invariant.1 ss is),
       )
     ]
 
@@ -139,4 +133,4 @@ pub returns : goal.returns
 returns c =
     let t = c.loop-k in
     λ ss is. ap (eqb t.met) (sym (read (goal.at.returns c).Start))
-    ∙ sym (left_over (BlocksIn (goal.at.returns c).Start) (IndexIn (goal.at.returns c).Start) (OffIn (goal.at.returns c).Start) (ReadIn (goal.at.returns c).Start) t.k t.met (omega arith) (omega (arith, read (goal.at.returns c).Start))) ∙ t.invariant.2 ss is
+    ∙ sym (left_over (BlocksIn (goal.at.returns c).Start) (IndexIn (goal.at.returns c).Start) (OffIn (goal.at.returns c).Start) (ReadIn (goal.at.returns c).Start) t.k t.met (omega arith) (omega (arith, read (goal.at.returns c).Start))) ∙ t.invariant.1 ss is

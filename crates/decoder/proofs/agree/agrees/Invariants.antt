@@ -12,9 +12,6 @@ use Rattle.decoder.proofs.agree.agrees.Given as goal
 
 abbrev pub invariant-loop-k : goal.invariant-loop-k
 invariant-loop-k l =
-    (l.k ≤ l.blocks) × (l.met ≤ l.layout.m) × ((ss : List ℕ) → KindsOf (figures_of l.layout) ss l.kinds
+    (l.met ≤ l.layout.m) × ((ss : List ℕ) → KindsOf (figures_of l.layout) ss l.kinds
     → AgreesLeft l.blocks (of_kind index_kind l.kinds) (Off (figures_of l.layout) l.word l.kinds) (take l.layout.m l.index) l.k l.met
     ≡ agrees (figures_of l.layout) l.word (take l.layout.m l.index) ss)
-
-abbrev pub decreases-loop-k : goal.decreases-loop-k
-decreases-loop-k l = l.blocks - l.k

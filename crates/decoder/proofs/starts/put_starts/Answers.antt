@@ -20,12 +20,11 @@ loop-j-preserved c =
     let t = c.loop-j in
     let e : get_or (starts_in c.args.at) t.j 0 ≡ get_or c.args.at.starts t.j 0 =
     get_or-take c.args.at.count c.args.at.starts t.j 0 (omega arith) in (
-      omega arith,
-      simp length-set t.invariant.1,
-      rw e at (bytes-turn (starts_in c.args.at) t.bytes t.j (omega (arith, many (goal.at.loop-j-preserved c).Start, t.invariant.1)) t.invariant.2 (omega (arith, many (goal.at.loop-j-preserved c).Start))),
+      simp length-set t.invariant.0,
+      rw e at (bytes-turn (starts_in c.args.at) t.bytes t.j (omega (arith, many (goal.at.loop-j-preserved c).Start, t.invariant.0)) t.invariant.1 (omega (arith, many (goal.at.loop-j-preserved c).Start))),
     )
 
 pub returns : goal.returns
 returns c =
     let t = c.loop-j in
-    bytes-done (starts_in c.args.at) t.bytes t.j (omega (arith, many (goal.at.returns c).Start, t.invariant.1)) t.invariant.2 (omega (arith, many (goal.at.returns c).Start))
+    bytes-done (starts_in c.args.at) t.bytes t.j (omega (arith, many (goal.at.returns c).Start, t.invariant.0)) t.invariant.1 (omega (arith, many (goal.at.returns c).Start))

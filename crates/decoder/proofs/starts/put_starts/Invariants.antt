@@ -7,7 +7,4 @@ use Rattle.decoder.specs.Exported.{start_bytes}
 use Rattle.decoder.proofs.starts.put_starts.Given as goal
 
 abbrev pub invariant-loop-j : goal.invariant-loop-j
-invariant-loop-j l = (l.j ≤ l.at.count) × (length l.bytes ≡ length l.initial.bytes) × (take (2 * l.j) l.bytes ≡ take (2 * l.j) (start_bytes (starts_in l.at)))
-
-abbrev pub decreases-loop-j : goal.decreases-loop-j
-decreases-loop-j l = l.at.count - l.j
+invariant-loop-j l = (length l.bytes ≡ length l.initial.bytes) × (take (2 * l.j) l.bytes ≡ take (2 * l.j) (start_bytes (starts_in l.at)))

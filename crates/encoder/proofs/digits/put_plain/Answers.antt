@@ -15,10 +15,9 @@ loop-j-preserved c =
     let l = c.loop-j in
     let j = l.j - 1 in
     let e : a.from + l.j ≡ suc (a.from + j) = omega arith in (
-      omega arith,
-      simp length-set l.invariant.1,
+      simp length-set l.invariant.0,
       λ ps v few room are had.
-          let next = turn a.q ps v c.requires.0 (a.from + j) l.left l.digits plain (omega arith) (omega (arith, l.invariant.1))
-          (are j (omega arith)) (subst (λ (y : ℕ). SpelledFrom a.q ps v y l.left l.digits) e (l.invariant.2 ps v few room are had)) in
+          let next = turn a.q ps v c.requires.0 (a.from + j) l.left l.digits plain (omega arith) (omega (arith, l.invariant.0))
+          (are j (omega arith)) (subst (λ (y : ℕ). SpelledFrom a.q ps v y l.left l.digits) e (l.invariant.1 ps v few room are had)) in
           rw (zero-add (l.left % a.q)) at next,
     )

@@ -9,9 +9,6 @@ use Rattle.encoder.proofs.digits.put_plain.Given as goal
 
 abbrev pub invariant-loop-j : goal.invariant-loop-j
 invariant-loop-j l =
-    (l.j ≤ l.count) × (length l.digits ≡ max_digits)
+    (length l.digits ≡ max_digits)
     × ((ps : List Place) (v : ℕ) → length ps ≤ max_digits → l.from + l.count ≤ length ps → ((x : ℕ) → x < l.count → get_or ps (l.from + x) plain ≡ plain)
     → SpelledFrom l.q ps v (l.from + l.count) l.value l.initial.digits → SpelledFrom l.q ps v (l.from + l.j) l.left l.digits)
-
-abbrev pub decreases-loop-j : goal.decreases-loop-j
-decreases-loop-j l = l.j

@@ -21,7 +21,6 @@ loop-block-init c =
     let a = c.args in
     let n = places-len a.m a.tail in
     let ps = places a.m a.tail in (
-      omega arith,
       refl,
       subst (λ (y : ℕ). SpelledFrom a.q ps a.value y a.value (replicate 128 0)) n
           (start a.q ps a.value c.requires.alphabet (replicate 128 0) c.requires.below (omega (arith, c.requires.room, length-places a.m a.tail))),
@@ -52,11 +51,11 @@ loop-block-preserved c =
     let fit = few (goal.at.loop-block-preserved c).In-loop-block in
     let e = c.put_plain-high.ensures in
     let behind = e.spelled ps a.value fit inside (λ j h. plain-there a.m a.tail k j l h)
-    (subst (λ (y : ℕ). SpelledFrom a.q ps a.value y c.loop-block.left c.loop-block.digits) to c.loop-block.invariant.2) in
+    (subst (λ (y : ℕ). SpelledFrom a.q ps a.value y c.loop-block.left c.loop-block.digits) to c.loop-block.invariant.1) in
     let next = turn a.q ps a.value c.requires.alphabet (k * t) c.put_plain-high.result c.put_plain-high.new.digits lead (omega (arith, inside))
     (omega (arith, fit, e.size)) (lead-there a.m a.tail k l)
     (subst (λ (y : ℕ). SpelledFrom a.q ps a.value y c.put_plain-high.result c.put_plain-high.new.digits) (add-one (k * t)) behind) in
-    (omega arith, simp length-set e.size, rw (add_comm 1 (c.put_plain-high.result % (a.q - 1))) at next)
+    (simp length-set e.size, rw (add_comm 1 (c.put_plain-high.result % (a.q - 1))) at next)
 
 pub returns : goal.returns
 returns c =
@@ -66,4 +65,4 @@ returns c =
     let e : c.loop-block.block * (a.tail + 1) ≡ 0 = ap (λ (y : ℕ). y * (a.tail + 1)) none ∙ zero-mul (a.tail + 1) in
     rw (← length-places a.m a.tail)
     (done a.q ps a.value c.requires.alphabet c.loop-block.left c.loop-block.digits
-    (subst (λ (y : ℕ). SpelledFrom a.q ps a.value y c.loop-block.left c.loop-block.digits) e c.loop-block.invariant.2))
+    (subst (λ (y : ℕ). SpelledFrom a.q ps a.value y c.loop-block.left c.loop-block.digits) e c.loop-block.invariant.1))

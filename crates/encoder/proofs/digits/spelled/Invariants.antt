@@ -8,7 +8,4 @@ use Rattle.encoder.proofs.digits.spelled.Given as goal
 
 abbrev pub invariant-loop-block : goal.invariant-loop-block
 invariant-loop-block l =
-    (l.block ≤ l.m) × (length l.digits ≡ max_digits) × SpelledFrom l.q (places l.m l.tail) l.value (l.block * (l.tail + 1)) l.left l.digits
-
-abbrev pub decreases-loop-block : goal.decreases-loop-block
-decreases-loop-block l = l.block
+    (length l.digits ≡ max_digits) × SpelledFrom l.q (places l.m l.tail) l.value (l.block * (l.tail + 1)) l.left l.digits

@@ -12,6 +12,3 @@ use Rattle.heads.proofs.pattern.bare_parts.Given as goal
 abbrev pub invariant-loop-i : goal.invariant-loop-i
 invariant-loop-i l = (l.i ≤ l.layout.parts)
     × (l.bare ≡ candidates_of (members l.i 0 (λ x. not (has l.layout.m 0 (row l.layout.m (looks_fixed (figures_of l.layout) l.word) x)))))
-
-abbrev pub decreases-loop-i : goal.decreases-loop-i
-decreases-loop-i l = l.layout.parts - l.i

@@ -41,14 +41,14 @@ seen c =
 pub returns-then-looks_fixed : goal.returns-then-looks_fixed
 returns-then-looks_fixed c =
     let t = c.loop-j in
-    ap not (sym (has_here c.args.layout.m t.j (Fixed c.args.layout c.args.word.now c.args.part) (omega arith) (seen (goal.at.returns-then-looks_fixed c).After-looks_fixed ∙ c.if-looks_fixed.true)) ∙ t.invariant.1)
+    ap not (sym (has_here c.args.layout.m t.j (Fixed c.args.layout c.args.word.now c.args.part) (omega arith) (seen (goal.at.returns-then-looks_fixed c).After-looks_fixed ∙ c.if-looks_fixed.true)) ∙ t.invariant)
 
 pub loop-j-preserved : goal.loop-j-preserved
 loop-j-preserved c =
     let t = c.loop-j in
-    (omega arith, sym (has_on c.args.layout.m t.j (Fixed c.args.layout c.args.word.now c.args.part) (omega arith) (seen (goal.at.loop-j-preserved c).After-looks_fixed ∙ c.if-looks_fixed.false)) ∙ t.invariant.1)
+    (sym (has_on c.args.layout.m t.j (Fixed c.args.layout c.args.word.now c.args.part) (omega arith) (seen (goal.at.loop-j-preserved c).After-looks_fixed ∙ c.if-looks_fixed.false)) ∙ t.invariant)
 
 pub returns : goal.returns
 returns c =
     let t = c.loop-j in
-    ap not (sym (has-over c.args.layout.m t.j (Fixed c.args.layout c.args.word.now c.args.part) (omega arith)) ∙ t.invariant.1)
+    ap not (sym (has-over c.args.layout.m t.j (Fixed c.args.layout c.args.word.now c.args.part) (omega arith)) ∙ t.invariant)

@@ -9,8 +9,5 @@ use Rattle.heads.proofs.pattern.is_bare.Given as goal
 
 abbrev pub invariant-loop-j : goal.invariant-loop-j
 invariant-loop-j l =
-    (l.j ≤ l.layout.m) × (has (l.layout.m - l.j) l.j (row l.layout.m (looks_fixed (figures_of l.layout) l.word) l.part) ≡ has l.layout.m 0
+    (has (l.layout.m - l.j) l.j (row l.layout.m (looks_fixed (figures_of l.layout) l.word) l.part) ≡ has l.layout.m 0
     (row l.layout.m (looks_fixed (figures_of l.layout) l.word) l.part))
-
-abbrev pub decreases-loop-j : goal.decreases-loop-j
-decreases-loop-j l = l.layout.m - l.j

@@ -12,7 +12,7 @@ use Rattle.construction_a.specs.Reading.{looks_fixed, open_blocks, index_in_part
 use Rattle.construction_a.proofs.Pattern.{collect-tabulate}
 use Rattle.params.proofs.Shape.{bound}
 use Rattle.params.specs.Given.{figures_of, max_blocks}
-use Rattle.heads.proofs.Listed.{candidates-below, in-part, in-part-none, collect-none, index-none, index-some}
+use Rattle.heads.proofs.Listed.{candidates-below, in-part, in-part-none, collect-none}
 use Rattle.heads.proofs.Looking.{part-fits}
 use Rattle.heads.proofs.pattern.one_each.Goals as goal
 use Rattle.heads.proofs.pattern.one_each.Goals.{Start}
@@ -23,26 +23,23 @@ Looks s = looks_fixed (figures_of s.args.layout) s.args.word.now
 fits : (s : Start) (i : ℕ) → i < s.args.layout.parts → i * s.args.layout.m + s.args.layout.m ≤ max_blocks
 fits s = part-fits s.args.layout s.requires.0.layout
 
-pub later-j-requires : goal.later-j-requires
+pub later-requires : goal.later-requires
 unfolding open_blocks
-later-j-requires c =
+later-requires c =
     let m = c.args.layout.m in
-    candidates-below c.open_blocks.result m (λ j. not (row m (Looks (goal.at.later-j-requires c).Start) c.loop-i.i j)) c.open_blocks.ensures
+    candidates-below c.open_blocks.result m (λ j. not (row m (Looks (goal.at.later-requires c).Start) c.loop-i.i j)) c.open_blocks.ensures
     (bound c.args.layout c.requires.0.layout).m-least
 
-pub returns-then-m-j : goal.returns-then-m-j
-returns-then-m-j c =
+pub returns-in-None : goal.returns-in-None
+returns-in-None c =
     let i = c.loop-i.i in
-    let j = c.later-j in
     let l = c.args.layout in
-    index-none l.parts c.none.result c.none.ensures
-    ∙ sym (collect-none l.parts 0 i (index_in_part l.m (Looks (goal.at.returns-then-m-j c).Start)) (omega arith) (omega arith)
-    (in-part-none l.m i j.result (Looks (goal.at.returns-then-m-j c).Start) (j.ensures (open_blocks l.m (Looks (goal.at.returns-then-m-j c).Start) i) c.open_blocks.ensures)
-    c.if-m-j.true))
+    sym (collect-none l.parts 0 i (index_in_part l.m (Looks (goal.at.returns-in-None c).Start)) (omega arith) (omega arith)
+    (in-part-none l.m i (Looks (goal.at.returns-in-None c).Start) (c.in-None.ensures.later (open_blocks l.m (Looks (goal.at.returns-in-None c).Start) i) c.open_blocks.ensures)))
 
 pub overflow_cast-blocks : goal.overflow_cast-blocks
 overflow_cast-blocks c =
-    omega (arith, fits (goal.at.overflow_cast-blocks c).Start c.loop-i.i (omega arith))
+    omega (arith, fits (goal.at.overflow_cast-blocks c).Start c.loop-i.i (omega arith), c.in-Some.ensures.below)
 
 pub bounds-blocks-i : goal.bounds-blocks-i
 bounds-blocks-i c =
@@ -52,13 +49,11 @@ pub loop-i-preserved : goal.loop-i-preserved
 loop-i-preserved c =
     let t = c.loop-i in
     let l = c.args.layout in
-    let j = c.later-j in (
-      omega arith,
-      simp length-set t.invariant.1,
-      filled_on (λ x v. index_in_part l.m (Looks (goal.at.loop-i-preserved c).Start) x ≡ some v) t.blocks t.i (t.i * l.m + j.result)
-          (omega (arith, bound l c.requires.0.layout)) t.invariant.2
-          (in-part l.m t.i j.result (Looks (goal.at.loop-i-preserved c).Start) (j.ensures (open_blocks l.m (Looks (goal.at.loop-i-preserved c).Start) t.i) c.open_blocks.ensures)
-          (omega arith)),
+    let j = c.in-Some.j in (
+      simp length-set t.invariant.0,
+      filled_on (λ x v. index_in_part l.m (Looks (goal.at.loop-i-preserved c).Start) x ≡ some v) t.blocks t.i (t.i * l.m + j)
+          (omega (arith, bound l c.requires.0.layout)) t.invariant.1
+          (in-part l.m t.i (Looks (goal.at.loop-i-preserved c).Start) j (c.in-Some.ensures.later (open_blocks l.m (Looks (goal.at.loop-i-preserved c).Start) t.i) c.open_blocks.ensures)),
     )
 
 pub returns : goal.returns
@@ -66,6 +61,5 @@ returns c =
     let t = c.loop-i in
     let l = c.args.layout in
     let f : ℕ → ℕ = λ x. get_or t.blocks x 0 in
-    index-some l.parts t.blocks (tabulate l.parts 0 f)
-    (take-is l.parts 0 t.blocks f (omega (arith, bound l c.requires.0.layout)) (λ x _. ap f (let z : x ≡ 0 + x = omega arith in z)))
-    ∙ sym (collect-tabulate l.parts 0 (index_in_part l.m (Looks (goal.at.returns c).Start)) f (λ x _ g. t.invariant.2 x (omega arith)))
+    ap some (take-is l.parts 0 t.blocks f (omega (arith, bound l c.requires.0.layout)) (λ x _. ap f (let z : x ≡ 0 + x = omega arith in z)))
+    ∙ sym (collect-tabulate l.parts 0 (index_in_part l.m (Looks (goal.at.returns c).Start)) f (λ x _ g. t.invariant.1 x (omega arith)))

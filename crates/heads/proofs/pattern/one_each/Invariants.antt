@@ -9,8 +9,5 @@ use Rattle.params.specs.Given.{figures_of}
 use Rattle.heads.proofs.pattern.one_each.Given as goal
 
 abbrev pub invariant-loop-i : goal.invariant-loop-i
-invariant-loop-i l = (l.i ≤ l.layout.parts) × (length l.blocks ≡ max_bursts)
+invariant-loop-i l = (length l.blocks ≡ max_bursts)
     × ((x : ℕ) → x < l.i → index_in_part l.layout.m (looks_fixed (figures_of l.layout) l.word) x ≡ some (get_or l.blocks x 0))
-
-abbrev pub decreases-loop-i : goal.decreases-loop-i
-decreases-loop-i l = l.layout.parts - l.i

@@ -12,6 +12,3 @@ use Rattle.heads.proofs.pattern.open_blocks.Given as goal
 abbrev pub invariant-loop-j : goal.invariant-loop-j
 invariant-loop-j l = (l.j ≤ l.layout.m)
     × (l.shown ≡ candidates_of (members l.j 0 (λ x. not (row l.layout.m (looks_fixed (figures_of l.layout) l.word) l.part x))))
-
-abbrev pub decreases-loop-j : goal.decreases-loop-j
-decreases-loop-j l = l.layout.m - l.j

@@ -6,7 +6,4 @@ use Rattle.cells.specs.Figures.{max_bursts}
 use Rattle.heads.proofs.pattern.whole_part.Given as goal
 
 abbrev pub invariant-loop-j : goal.invariant-loop-j
-invariant-loop-j l = (l.j ≤ l.m) × (l.from ≡ l.part * l.m) × (length l.blocks ≡ max_bursts) × ((x : ℕ) → x < l.j → get_or l.blocks x 0 ≡ l.from + x)
-
-abbrev pub decreases-loop-j : goal.decreases-loop-j
-decreases-loop-j l = l.m - l.j
+invariant-loop-j l = (l.from ≡ l.part * l.m) × (length l.blocks ≡ max_bursts) × ((x : ℕ) → x < l.j → get_or l.blocks x 0 ≡ l.from + x)

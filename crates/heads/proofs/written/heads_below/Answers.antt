@@ -52,21 +52,19 @@ returns-then-not-all_below c =
     sym (tested-fails c.args.layout.index_tail (figures_of c.args.layout) c.args.word.now c.args.blocks t.j
     (part c.requires.0 t.j l h.result h.ensures) l (omega (arith, (bound c.args.layout c.requires.0.finding.layout).m-most))
     (part-size c.requires.0 t.j l h.result h.ensures) (part-cells c.requires.0 t.j l h.result h.ensures)
-    (sym c.all_below.ensures ∙ c.if-not-all_below.true) t.invariant.1)
+    (sym c.all_below.ensures ∙ c.if-not-all_below.true) t.invariant)
 
 pub loop-j-preserved : goal.loop-j-preserved
 loop-j-preserved c =
     let t = c.loop-j in
     let l = c.loop-j-test.true in
-    let h = c.block_head-head in (
-      omega arith,
-      tested-on c.args.layout.index_tail (figures_of c.args.layout) c.args.word.now c.args.blocks t.j
-          (part c.requires.0 t.j l h.result h.ensures) l (omega (arith, (bound c.args.layout c.requires.0.finding.layout).m-most))
-          (part-size c.requires.0 t.j l h.result h.ensures) (part-cells c.requires.0 t.j l h.result h.ensures)
-          (sym c.all_below.ensures ∙ c.if-not-all_below.false) t.invariant.1,
-    )
+    let h = c.block_head-head in
+    tested-on c.args.layout.index_tail (figures_of c.args.layout) c.args.word.now c.args.blocks t.j
+    (part c.requires.0 t.j l h.result h.ensures) l (omega (arith, (bound c.args.layout c.requires.0.finding.layout).m-most))
+    (part-size c.requires.0 t.j l h.result h.ensures) (part-cells c.requires.0 t.j l h.result h.ensures)
+    (sym c.all_below.ensures ∙ c.if-not-all_below.false) t.invariant
 
 pub returns : goal.returns
 returns c =
     let t = c.loop-j in
-    sym (tested-all c.args.layout.index_tail (figures_of c.args.layout) c.args.word.now c.args.blocks t.j (omega arith) t.invariant.1)
+    sym (tested-all c.args.layout.index_tail (figures_of c.args.layout) c.args.word.now c.args.blocks t.j (omega arith) t.invariant)

@@ -5,7 +5,4 @@ use Rattle.heads.proofs.Whole.{Tested}
 use Rattle.heads.proofs.written.heads_below.Given as goal
 
 abbrev pub invariant-loop-j : goal.invariant-loop-j
-invariant-loop-j l = (l.j ≤ l.layout.m) × Tested l.layout.index_tail (figures_of l.layout) l.word l.blocks l.j
-
-abbrev pub decreases-loop-j : goal.decreases-loop-j
-decreases-loop-j l = l.layout.m - l.j
+invariant-loop-j l = Tested l.layout.index_tail (figures_of l.layout) l.word l.blocks l.j

@@ -7,10 +7,10 @@ pub loop-i-preserved : goal.loop-i-preserved
 loop-i-preserved c =
     let t = c.loop-i in
     let a = c.args in
-    (omega arith, rw c.with_digit-value.ensures (taken-plain a.q a.cap a.high c.requires.0 a.digits.now t.i t.value (omega arith) t.invariant.1))
+    (rw c.with_digit-value.ensures (taken-plain a.q a.cap a.high c.requires.0 a.digits.now t.i t.value (omega arith) t.invariant))
 
 pub returns : goal.returns
 returns c =
     let t = c.loop-i in
     let a = c.args in
-    taken-all a.q a.cap a.high c.requires.0 a.digits.now t.i t.value (omega arith) t.invariant.1
+    taken-all a.q a.cap a.high c.requires.0 a.digits.now t.i t.value (omega arith) t.invariant

@@ -5,7 +5,4 @@ use Rattle.heads.proofs.Valued.{Taken}
 use Rattle.heads.proofs.written.with_digits.Given as goal
 
 abbrev pub invariant-loop-i : goal.invariant-loop-i
-invariant-loop-i l = (l.i ≤ length l.digits) × Taken l.q l.cap l.high l.digits l.i l.value
-
-abbrev pub decreases-loop-i : goal.decreases-loop-i
-decreases-loop-i l = length l.digits - l.i
+invariant-loop-i l = Taken l.q l.cap l.high l.digits l.i l.value

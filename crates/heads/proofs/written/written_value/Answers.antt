@@ -14,7 +14,6 @@ use Rattle.heads.proofs.written.written_value.Goals.{After-block_head-head}
 pub loop-j-init : goal.loop-j-init
 loop-j-init c =
     let l = c.args.layout in (
-      omega arith,
       refl,
       summed-none l.index_tail (figures_of l) c.args.word.now c.args.blocks l.placement_count
           (bound l c.requires.0.finding.layout).q-least,
@@ -60,12 +59,11 @@ loop-j-preserved c =
     let k = get_or c.args.blocks t.j 0 in
     let at = c.block_head-head.result in
     let e : at ≡ head_of (figures_of l) k = c.block_head-head.ensures ∙ head-is l h k in (
-      omega arith,
       refl,
       rw c.with_block-value.ensures
           (summed-on l.index_tail (figures_of l) w c.args.blocks l.placement_count (bound l h).q-least t.j t.value
           (take (length w - at) (drop at w))
-          (omega arith) (omega (arith, (bound l h).m-most)) (λ i _. part_at at w i ∙ ap (λ (y : ℕ). get_or w (y + i) 0) e) t.invariant.2),
+          (omega arith) (omega (arith, (bound l h).m-most)) (λ i _. part_at at w i ∙ ap (λ (y : ℕ). get_or w (y + i) 0) e) t.invariant.1),
     )
 
 pub returns : goal.returns
@@ -73,4 +71,4 @@ returns c =
     let t = c.loop-j in
     let l = c.args.layout in
     summed-all l.index_tail (figures_of l) c.args.word.now c.args.blocks l.placement_count (bound l c.requires.0.finding.layout).q-least
-    t.j t.value (omega arith) t.invariant.2
+    t.j t.value (omega arith) t.invariant.1

@@ -6,8 +6,5 @@ use Rattle.heads.proofs.Valued.{Summed}
 use Rattle.heads.proofs.written.written_value.Given as goal
 
 abbrev pub invariant-loop-j : goal.invariant-loop-j
-invariant-loop-j l = (l.j ≤ l.layout.m) × (l.cap ≡ l.layout.placement_count)
+invariant-loop-j l = (l.cap ≡ l.layout.placement_count)
     × Summed l.layout.index_tail (figures_of l.layout) l.word l.blocks l.cap l.j l.value
-
-abbrev pub decreases-loop-j : goal.decreases-loop-j
-decreases-loop-j l = l.layout.m - l.j

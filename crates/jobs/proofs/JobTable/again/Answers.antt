@@ -1,17 +1,15 @@
 -- `JobTable::again` meets its contract. Assumes nothing.
-use mathlib.Core.Path.{◌≡◌, sym}
+use Rattle.std.proofs.Common.{drop, ◌∙◌, ap, List}
 use mathlib.Core.Logic.{⊎_elim}
-use borrow.Author.Rules.{rules}
-use lib.ListN.{length}
-use Rattle.jobs.specs.Jobs.{slot_count}
+use Rattle.std.specs.List.{list_any}
+use Rattle.jobs.specs.declared.Entry.{Entry}
 use Rattle.jobs.specs.Table.{holds}
-use Rattle.jobs.proofs.SlotLaws.{length-mapped, any-from}
+use Rattle.jobs.specs.Slots.{entries}
+use Rattle.jobs.proofs.SlotLaws.{any-listed, rest-is}
 use Rattle.jobs.proofs.JobTable.again.Goals as goal
 
 pub returns-in-Open : goal.returns-in-Open
 returns-in-Open c =
-    let a = c.args in
-    let t = a.self in
-    let long : length t.slots ≡ slot_count = search (rules, length-mapped) in
-    let found = any-from t long (holds c.in-Open.x) _ a.start c.find.ensures in
-    ⊎_elim (λ e. rw e (sym found)) (⊎_elim (λ e. rw e (sym found)) (λ e. rw e.1 (sym found))) c.in-Open.is
+    let found = c.one_holds.ensures ∙ ap (λ (es : List Entry). list_any (holds c.in-Open.x) es) (rest-is c.args.start (entries c.args.self))
+    ∙ any-listed (holds c.in-Open.x) (drop c.args.start (entries c.args.self)) in
+    ⊎_elim (λ e. rw e found) (⊎_elim (λ e. rw e found) (λ e. rw e.1 found)) c.in-Open.is

@@ -1,6 +1,8 @@
 -- `JobTable::call` meets its contract. Assumes nothing.
+use Rattle.std.proofs.Common.{◌≡◌, arith}
+use Rattle.std.proofs.Math.Option.{none}
+use Rattle.std.proofs.lemmas.Bool.Decides.{nat_tests}
 use Rattle.jobs.specs.Letters.{kind_of}
-use Rattle.jobs.proofs.Letters.{no_kind}
 use Rattle.jobs.proofs.JobTable.call.Goals as goal
 
 pub returns-in-79 : goal.returns-in-79
@@ -16,6 +18,5 @@ unfolding kind_of
 returns-in-70 c = rw c.in-70.is c.finish.ensures
 
 pub returns-in_default : goal.returns-in_default
-returns-in_default c =
-    let other = c.in_default.in_default-own.rest in
-    rw (no_kind _ other.0.0.1 other.0.1 other.1) c.refuse.ensures
+unfolding kind_of
+returns-in_default c = let other : kind_of c.args.letter ≡ none = grind (arith, nat_tests) in rw other c.refuse.ensures

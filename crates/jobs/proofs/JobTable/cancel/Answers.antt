@@ -2,7 +2,7 @@
 use mathlib.Core.Path.{refl, ◌∙◌}
 use Rattle.jobs.specs.declared.Entry.TheVariants.{Cancelled}
 use Rattle.jobs.specs.declared.Before.TheVariants.{WasAbsent, WasOpen, WasOnHold}
-use Rattle.jobs.specs.Table.{cancel_at, add}
+use Rattle.jobs.specs.Table.{is_free, holds, cancel_at, add}
 use Rattle.jobs.specs.Slots.{entries}
 use Rattle.jobs.proofs.Decisions.{Decided, twice-refused, entry-decides, zero-refused, job-passes}
 use Rattle.jobs.proofs.JobTable.cancel.Goals as goal
@@ -34,18 +34,18 @@ returns-in-Cancelled c = c.refuse-in-Cancelled.ensures ∙ (decided (goal.at.ret
 pub returns-in-Open : goal.returns-in-Open
 returns-in-Open c =
     let l = (goal.at.returns-in-Open c).After-lookup-entry in
-    c.put.ensures ∙ (decided l).stores (Cancelled l.args.number WasOpen) _ c.in-Open.is refl refl
+    c.put.ensures (holds c.args.number) c.slot_of.ensures.slot ∙ (decided l).stores (Cancelled l.args.number WasOpen) _ c.in-Open.is refl refl
 
 pub returns-in-OnHold : goal.returns-in-OnHold
 returns-in-OnHold c =
     let l = (goal.at.returns-in-OnHold c).After-lookup-entry in
-    c.put-in-OnHold.ensures ∙ (decided l).stores (Cancelled l.args.number WasOnHold) _ c.in-OnHold.is refl refl
+    c.put-in-OnHold.ensures (holds c.args.number) c.slot_of-in-OnHold.ensures.slot ∙ (decided l).stores (Cancelled l.args.number WasOnHold) _ c.in-OnHold.is refl refl
 
 pub returns-else-not-is_job : goal.returns-else-not-is_job
 returns-else-not-is_job c =
     let l = (goal.at.returns-else-not-is_job c).After-lookup-entry in
     let a = l.args in
-    c.put-in-Free.ensures
+    c.put-in-Free.ensures is_free c.free_slot.ensures.slot
     ∙ job-passes (entries a.self) a.number (add (Cancelled a.number WasAbsent) (entries a.self)) c.is_job.ensures
     c.if-not-is_job.false
     ∙ (decided l).gives _ c.in-Free.is

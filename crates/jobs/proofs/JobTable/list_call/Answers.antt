@@ -1,6 +1,7 @@
 -- `JobTable::list_call` meets its contract. Assumes nothing.
-use Rattle.jobs.specs.Letters.{list_kind}
-use Rattle.jobs.proofs.Letters.{list-kind}
+use Rattle.std.proofs.Common.{◌≡◌, arith}
+use Rattle.std.proofs.lemmas.Bool.Decides.{nat_tests}
+use Rattle.jobs.specs.Letters.{kind_of, list_kind}
 use Rattle.jobs.proofs.JobTable.list_call.Goals as goal
 
 pub returns-in-73 : goal.returns-in-73
@@ -16,6 +17,5 @@ unfolding list_kind
 returns-in-85 c = rw c.in-85.is c.release.ensures
 
 pub returns-in_default : goal.returns-in_default
-returns-in_default c =
-    let other = c.in_default.in_default-own.rest in
-    rw (list-kind _ other.0.0.1 other.0.1 other.1) c.call.ensures
+unfolding list_kind
+returns-in_default c = let other : list_kind c.args.letter ≡ kind_of c.args.letter = grind (arith, nat_tests) in rw other c.call.ensures

@@ -1,21 +1,11 @@
 -- `JobTable::lookup` meets its contract. Assumes nothing.
-use mathlib.Core.Path.{◌≡◌}
-use native.Mathlib.Omega.{arith}
-use borrow.Author.Rules.{rules}
-use lib.ListN.{length}
-use Rattle.jobs.specs.Jobs.{slot_count}
 use Rattle.jobs.specs.Table.{holds}
-use Rattle.jobs.proofs.SlotLaws.{length-mapped, entry_found, entry-missing}
+use Rattle.jobs.specs.Slots.{entries}
+use Rattle.jobs.proofs.SlotLaws.{entry-found, entry-missing}
 use Rattle.jobs.proofs.JobTable.lookup.Goals as goal
 
-pub returns-then-i-lt-SLOTS : goal.returns-then-i-lt-SLOTS
-returns-then-i-lt-SLOTS c =
-    let a = c.args in
-    let long : length a.self.slots ≡ slot_count = search (rules, length-mapped) in
-    entry_found a.self long (holds a.number) _ c.find-i.ensures _ (omega arith)
+pub returns-in-Some : goal.returns-in-Some
+returns-in-Some c = entry-found (holds c.args.number) (entries c.args.self) c.in-Some.i _ c.in-Some.ensures.slot
 
-pub returns : goal.returns
-returns c =
-    let a = c.args in
-    let long : length a.self.slots ≡ slot_count = search (rules, length-mapped) in
-    entry-missing a.self long (holds a.number) _ c.find-i.ensures (omega arith)
+pub returns-in-None : goal.returns-in-None
+returns-in-None c = entry-missing (holds c.args.number) (entries c.args.self) c.in-None.ensures.slot

@@ -1,7 +1,7 @@
 -- `JobTable::open` meets its contract. Assumes nothing.
 use mathlib.Core.Path.{◌≡◌, refl, ◌∙◌}
 use Rattle.jobs.specs.declared.Entry.{Entry}
-use Rattle.jobs.specs.Table.{lookup, open_job, open_at, decide}
+use Rattle.jobs.specs.Table.{is_free, lookup, open_job, open_at, decide}
 use Rattle.jobs.specs.Slots.{entries}
 use Rattle.jobs.proofs.Decisions.{twice-refused, entry-decides, zero-refused, job-passes}
 use Rattle.jobs.proofs.JobTable.open.Goals as goal
@@ -43,4 +43,4 @@ pub returns-in-OnHold : goal.returns-in-OnHold
 returns-in-OnHold c = c.refuse-in-OnHold.ensures ∙ decided (goal.at.returns-in-OnHold c).After-lookup-entry _ c.in-OnHold.is
 
 pub returns-in-Free : goal.returns-in-Free
-returns-in-Free c = c.put.ensures ∙ decided (goal.at.returns-in-Free c).After-lookup-entry _ c.in-Free.is
+returns-in-Free c = c.put.ensures is_free c.free_slot.ensures.slot ∙ decided (goal.at.returns-in-Free c).After-lookup-entry _ c.in-Free.is

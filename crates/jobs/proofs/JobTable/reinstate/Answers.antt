@@ -1,6 +1,6 @@
 -- `JobTable::reinstate` meets its contract. Assumes nothing.
 use mathlib.Core.Path.{refl, ◌∙◌}
-use Rattle.jobs.specs.Table.{reinstate_at}
+use Rattle.jobs.specs.Table.{holds, reinstate_at}
 use Rattle.jobs.specs.Slots.{entries}
 use Rattle.jobs.proofs.Decisions.{Decided, twice-refused, entry-decides}
 use Rattle.jobs.proofs.JobTable.reinstate.Goals as goal
@@ -19,7 +19,7 @@ returns-then-twice c =
 
 pub returns-in-Cancelled : goal.returns-in-Cancelled
 returns-in-Cancelled c =
-    c.put.ensures
+    c.put.ensures (holds c.args.number) c.slot_of.ensures.slot
     ∙ (decided (goal.at.returns-in-Cancelled c).After-lookup-entry).stores c.restored.result _ c.in-Cancelled.is refl
     (rw c.restored.ensures)
 

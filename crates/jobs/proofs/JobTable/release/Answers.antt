@@ -1,7 +1,7 @@
 -- `JobTable::release` meets its contract. Assumes nothing.
 use mathlib.Core.Path.{refl, ◌∙◌}
 use Rattle.jobs.specs.declared.Entry.TheVariants.{Open}
-use Rattle.jobs.specs.Table.{release_at}
+use Rattle.jobs.specs.Table.{holds, release_at}
 use Rattle.jobs.specs.Slots.{entries}
 use Rattle.jobs.proofs.Decisions.{Decided, twice-refused, entry-decides}
 use Rattle.jobs.proofs.JobTable.release.Goals as goal
@@ -24,7 +24,7 @@ returns-in-Cancelled c = c.refuse-in-Cancelled.ensures ∙ (decided (goal.at.ret
 pub returns-in-OnHold : goal.returns-in-OnHold
 returns-in-OnHold c =
     let l = (goal.at.returns-in-OnHold c).After-lookup-entry in
-    c.put.ensures ∙ (decided l).stores (Open l.args.number) _ c.in-OnHold.is refl refl
+    c.put.ensures (holds c.args.number) c.slot_of.ensures.slot ∙ (decided l).stores (Open l.args.number) _ c.in-OnHold.is refl refl
 
 pub returns-in-Open : goal.returns-in-Open
 returns-in-Open c = c.refuse-in-Open.ensures ∙ (decided (goal.at.returns-in-Open c).After-lookup-entry).gives _ c.in-Open.is

@@ -1,6 +1,6 @@
 -- `JobTable::turn_open` meets its contract. Assumes nothing.
 use mathlib.Core.Path.{refl, ◌∙◌}
-use Rattle.jobs.specs.Table.{turn_open_at}
+use Rattle.jobs.specs.Table.{holds, turn_open_at}
 use Rattle.jobs.specs.Slots.{entries}
 use Rattle.jobs.proofs.Decisions.{Decided, twice-refused, entry-decides}
 use Rattle.jobs.proofs.JobTable.turn_open.Goals as goal
@@ -27,7 +27,7 @@ returns-in-OnHold c = c.refuse-in-OnHold.ensures ∙ (decided (goal.at.returns-i
 pub returns-in-Open : goal.returns-in-Open
 returns-in-Open c =
     let l = (goal.at.returns-in-Open c).After-lookup-entry in
-    c.put.ensures ∙ (decided l).stores l.args.next _ c.in-Open.is refl refl
+    c.put.ensures (holds c.args.number) c.slot_of.ensures.slot ∙ (decided l).stores l.args.next _ c.in-Open.is refl refl
 
 pub returns-in-Free : goal.returns-in-Free
 returns-in-Free c = c.refuse-in-Free.ensures ∙ (decided (goal.at.returns-in-Free c).After-lookup-entry).gives _ c.in-Free.is

@@ -1,35 +1,31 @@
 -- `JobTable::twice_by` meets its contract. The invariant: from slot `i` on no number is held twice, and each has its mark. Assumes nothing.
-use mathlib.Core.Path.{◌≡◌, sym, ◌∙◌}
-use native.Mathlib.Omega.{arith}
-use borrow.Author.Rules.{rules}
-use lib.ListN.{length}
-use Prim.Native.Nat.{◌-◌}
-use Rattle.jobs.specs.Jobs.{slot_count}
-use Rattle.jobs.proofs.SlotLaws.{length-mapped}
-use Rattle.jobs.proofs.Marks.{none-marked, step_back, marks-next, marks-found}
+use Rattle.std.proofs.Common.{◌≡◌, ◌+◌, ◌-◌, drop, false, get_or, sym, ◌∙◌, rules, arith}
+use Rattle.jobs.specs.Slots.{entries}
+use Rattle.jobs.specs.Table.{again}
+use Rattle.jobs.specs.declared.Entry.TheVariants.{Free}
+use Rattle.jobs.proofs.Marks.{none-marked, step_back, marks-next, marks-found, unmarked}
 use Rattle.jobs.proofs.JobTable.twice_by.Goals as goal
+use Rattle.jobs.proofs.JobTable.twice_by.Goals.{else-marks-mark-via-then-marks-mark+else-again, else-marks-mark-via-else-marks-mark}
 
 pub loop-i-init : goal.loop-i-init
-loop-i-init c =
-    let a = c.args in
-    let long : length a.self.slots ≡ slot_count = search (rules, length-mapped) in
-    none-marked a.self long a.marks.now c.requires
+loop-i-init c = none-marked c.args.self (search rules) c.args.marks.now c.requires
 
-pub returns-then-again_marked : goal.returns-then-again_marked
-returns-then-again_marked c =
-    let l = c in
-    let t = l.args.self in
-    let long : length t.slots ≡ slot_count = search (rules, length-mapped) in
-    sym (marks-found t long l.loop-i.marks (l.loop-i.i - 1) _ (omega (arith, l.loop-i.invariant.within))
-    (step_back t long l.loop-i.marks l.loop-i.i (omega arith) l.loop-i.invariant)
-    (sym c.again_marked.ensures ∙ c.if-again_marked.true))
+pub returns-then-again : goal.returns-then-again
+returns-then-again c =
+    let t = c.args.self in
+    let l = c.loop-i in
+    sym (marks-found t (search rules) l.marks (l.i - 1) _ (omega arith) (step_back t (search rules) l.marks l.i (omega arith) l.invariant)
+    (sym c.again.ensures ∙ c.if-again.true))
 
 pub loop-i-preserved : goal.loop-i-preserved
 loop-i-preserved c =
-    let l = c in
-    let t = l.args.self in
-    let long : length t.slots ≡ slot_count = search (rules, length-mapped) in
+    let t = c.args.self in
+    let l = c.loop-i in
     let m = c.mark_of-mark in
-    marks-next t long l.loop-i.marks (l.loop-i.i - 1) _ (omega (arith, l.loop-i.invariant.within))
-    (step_back t long l.loop-i.marks l.loop-i.i (omega arith) l.loop-i.invariant)
-    m.result m.ensures (sym c.again_marked.ensures ∙ c.if-again_marked.false)
+    let marked = step_back t (search rules) l.marks l.i (omega arith) l.invariant in
+    let once : again (drop (l.i - 1 + 1) (entries t)) (get_or t.slots (l.i - 1) Free) ≡ false =
+    elim c.else-marks-mark.branch [
+      | else-marks-mark-via-then-marks-mark+else-again w ↦ sym w.again.ensures ∙ w.if-again.false
+      | else-marks-mark-via-else-marks-mark w ↦ unmarked (entries t) l.marks (l.i - 1 + 1) marked _ m.result m.ensures w.if-marks-mark.false
+    ] in
+    marks-next t (search rules) l.marks (l.i - 1) _ (omega arith) marked m.result m.ensures once

@@ -1,22 +1,25 @@
 -- `is_list_letter` meets its contract. Assumes nothing.
-use mathlib.Core.Path.{sym, ap, ◌∙◌}
-use Rattle.jobs.specs.Letters.{list_kind, known}
-use Rattle.jobs.proofs.Letters.{list-kind}
+use Rattle.std.proofs.Common.{arith}
+use Rattle.std.proofs.lemmas.Bool.Decides.{nat_tests}
+use Rattle.jobs.specs.Letters.{kind_of, list_kind}
 use Rattle.jobs.proofs.by_letter.is_list_letter.Goals as goal
 
-pub returns-in-73 : goal.returns-in-73
-unfolding list_kind
-returns-in-73 c = rw c.in-73.is
-
-pub returns-in-72 : goal.returns-in-72
-unfolding list_kind
-returns-in-72 c = rw c.in-72.is
-
-pub returns-in-85 : goal.returns-in-85
-unfolding list_kind
-returns-in-85 c = rw c.in-85.is
+pub returns-then-is_letter : goal.returns-then-is_letter
+unfolding kind_of list_kind
+returns-then-is_letter c = grind (arith, nat_tests)
 
 pub returns-in_default : goal.returns-in_default
-returns-in_default c =
-    let other = c.in_default.in_default-own.rest in
-    c.is_letter.ensures ∙ sym (ap known (list-kind _ other.0.0.1 other.0.1 other.1))
+unfolding kind_of list_kind
+returns-in_default c = grind (arith, nat_tests)
+
+pub returns-in_default-2 : goal.returns-in_default-2
+unfolding kind_of list_kind
+returns-in_default-2 c = grind (arith, nat_tests)
+
+pub returns-in-73 : goal.returns-in-73
+unfolding kind_of list_kind
+returns-in-73 c = grind (arith, nat_tests)
+
+pub returns-in-73-2 : goal.returns-in-73-2
+unfolding kind_of list_kind
+returns-in-73-2 c = grind (arith, nat_tests)

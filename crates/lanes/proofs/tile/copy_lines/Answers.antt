@@ -8,8 +8,6 @@ loop-k-preserved c =
     let a = c.args in
     let p = c.requires in
     let l = c.loop-k in
-    let copied = c.copy_prefix in (
-      omega arith,
-      lines-on a.at a.step a.from.now a.onto a.stride l.k a.to.now l.to copied.new.to p.0 p.1
-          (omega arith) copied.ensures l.invariant.1,
-    )
+    let copied = c.copy_prefix in
+    lines-on a.at a.step a.from.now a.onto a.stride l.k a.to.now l.to copied.new.to p.0 p.1
+    (omega arith) copied.ensures l.invariant

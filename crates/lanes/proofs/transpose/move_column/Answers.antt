@@ -16,13 +16,11 @@ cell-moved c =
     let a = c.args in
     let p = c.requires in
     let l = c.loop-j in
-    moved-cell a.rows a.columns a.from.now l.to a.i l.j (l.invariant.1.size ∙ p.0.room) p.1 (omega arith)
+    moved-cell a.rows a.columns a.from.now l.to a.i l.j (l.invariant.size ∙ p.0.room) p.1 (omega arith)
 
 pub loop-j-preserved : goal.loop-j-preserved
 loop-j-preserved c =
     let a = c.args in
-    let l = c.loop-j in (
-      omega arith,
-      moved_down a.rows a.columns a.from.now a.to.now l.to _ a.i (a.i + 1) 0 l.j (l.j + 1)
-          (omega arith) (omega arith) (omega arith) (omega arith) l.invariant.1 (cell-moved (goal.at.loop-j-preserved c).In-loop-j),
-    )
+    let l = c.loop-j in
+    moved_down a.rows a.columns a.from.now a.to.now l.to _ a.i (a.i + 1) 0 l.j (l.j + 1)
+    (omega arith) (omega arith) (omega arith) (omega arith) l.invariant (cell-moved (goal.at.loop-j-preserved c).In-loop-j)

@@ -16,13 +16,11 @@ cell-moved c =
     let a = c.args in
     let p = c.requires in
     let l = c.loop-i in
-    moved-cell a.rows a.columns a.from.now l.to l.i a.j (l.invariant.1.size ∙ p.0.room) (omega arith) p.2
+    moved-cell a.rows a.columns a.from.now l.to l.i a.j (l.invariant.size ∙ p.0.room) (omega arith) p.2
 
 pub loop-i-preserved : goal.loop-i-preserved
 loop-i-preserved c =
     let a = c.args in
-    let l = c.loop-i in (
-      omega arith,
-      moved-right a.rows a.columns a.from.now a.to.now l.to _ 0 l.i (l.i + 1) a.j (a.j + 1)
-          (omega arith) (omega arith) (omega arith) (omega arith) l.invariant.1 (cell-moved (goal.at.loop-i-preserved c).In-loop-i),
-    )
+    let l = c.loop-i in
+    moved-right a.rows a.columns a.from.now a.to.now l.to _ 0 l.i (l.i + 1) a.j (a.j + 1)
+    (omega arith) (omega arith) (omega arith) (omega arith) l.invariant (cell-moved (goal.at.loop-i-preserved c).In-loop-i)

@@ -8,5 +8,5 @@ pub returns : goal.returns
 returns c =
     let a = c.args in
     let t = c.loop-x in
-    damage-done (defect_at a.map.now) a.damage.now a.interleaved.now t.x t.interleaved t.invariant.1
-    (omega (arith, t.invariant.1.size, c.loop-x-test.false))
+    damage-done (defect_at a.map.now) a.damage.now a.interleaved.now t.x t.interleaved t.invariant
+    (omega (arith, t.invariant.size, c.loop-x-test.false))

@@ -26,17 +26,15 @@ pub returns-then-cover-ne-NONE : goal.returns-then-cover-ne-NONE
 returns-then-cover-ne-NONE c =
     let a = c.args in
     let p = is_covered a.layout a.maps.now in
-    sym (c.loop-j.invariant.1 ∙ fails-here p a.depth c.loop-j.j (omega arith) (eqb-other _ served (λ e. c.if-cover-ne-NONE.true (answer-is (goal.at.returns-then-cover-ne-NONE c).After-cover_fitting-cover ∙ e))))
+    sym (c.loop-j.invariant ∙ fails-here p a.depth c.loop-j.j (omega arith) (eqb-other _ served (λ e. c.if-cover-ne-NONE.true (answer-is (goal.at.returns-then-cover-ne-NONE c).After-cover_fitting-cover ∙ e))))
 
 pub loop-j-preserved : goal.loop-j-preserved
 loop-j-preserved c =
     let a = c.args in
-    let p = is_covered a.layout a.maps.now in (
-      omega arith,
-      c.loop-j.invariant.1 ∙ passes_on p a.depth c.loop-j.j (omega arith) (eqb_same _ served (sym (answer-is (goal.at.loop-j-preserved c).After-cover_fitting-cover) ∙ c.if-cover-ne-NONE.false)),
-    )
+    let p = is_covered a.layout a.maps.now in
+    c.loop-j.invariant ∙ passes_on p a.depth c.loop-j.j (omega arith) (eqb_same _ served (sym (answer-is (goal.at.loop-j-preserved c).After-cover_fitting-cover) ∙ c.if-cover-ne-NONE.false))
 
 pub returns : goal.returns
 returns c =
     let a = c.args in
-    sym (c.loop-j.invariant.1 ∙ none_left (is_covered a.layout a.maps.now) a.depth c.loop-j.j (omega arith))
+    sym (c.loop-j.invariant ∙ none_left (is_covered a.layout a.maps.now) a.depth c.loop-j.j (omega arith))

@@ -2,7 +2,7 @@
 use mathlib.Core.Path.{◌≡◌}
 use mathlib.Core.Bool.{Bool}
 use mathlib.Core.List.{List}
-use Prim.Native.Nat.{ℕ, ◌≤◌, ◌-◌}
+use Prim.Native.Nat.{ℕ, ◌-◌}
 use lib.Dec.{eqb}
 use Rattle.refusals.specs.Refusals.{served}
 use Rattle.combinatorics.specs.Lists.{all}
@@ -19,7 +19,4 @@ is_covered l maps j = eqb (cover_under (coding_in l) (lane l.n j maps)).answer s
 
 abbrev pub invariant-loop-j : goal.invariant-loop-j
 invariant-loop-j l =
-    (l.j ≤ l.depth) × (all (is_covered l.layout l.maps) (consecutive l.depth 0) ≡ all (is_covered l.layout l.maps) (consecutive (l.depth - l.j) l.j))
-
-abbrev pub decreases-loop-j : goal.decreases-loop-j
-decreases-loop-j l = l.depth - l.j
+    all (is_covered l.layout l.maps) (consecutive l.depth 0) ≡ all (is_covered l.layout l.maps) (consecutive (l.depth - l.j) l.j)

@@ -18,7 +18,7 @@ within-read : (c : In-loop-j) → (let a = c.args in let k = a.layout.message_le
     let j = c.loop-j.j in
     j * k + k ≤ length c.loop-j.read)
 within-read c =
-    omega (arith, lane-within c.args.layout.message_len c.args.depth c.loop-j.j (omega arith), c.loop-j.invariant.1.0)
+    omega (arith, lane-within c.args.layout.message_len c.args.depth c.loop-j.j (omega arith), c.loop-j.invariant.0)
 
 -- what word read answers of lane j: the message, whatever the buffer held
 read_here : (l : WordLayout) (d j : ℕ) (words messages part lent : List ℕ) → Reads l d words messages → j < d → length lent ≡ l.message_len
@@ -50,13 +50,10 @@ loop-j-preserved c =
     let a = c.args in
     let l = c.loop-j in
     let k = a.layout.message_len in (
-      omega (arith, c.loop-j-test.true),
-      (
-        put-len k l.j l.read c.read_lane-refusal.new.message c.read_lane-refusal.ensures.size ∙ l.invariant.1.0,
-        λ messages reads.
-            filled_on k a.depth (λ i. lane k i messages) a.read.now l.j l.read c.read_lane-refusal.new.message c.loop-j-test.true
-            (l.invariant.1.1 messages reads) c.read_lane-refusal.ensures.size (here (goal.at.loop-j-preserved c).After-read_lane-refusal messages reads).1,
-      ),
+      put-len k l.j l.read c.read_lane-refusal.new.message c.read_lane-refusal.ensures.size ∙ l.invariant.0,
+      λ messages reads.
+          filled_on k a.depth (λ i. lane k i messages) a.read.now l.j l.read c.read_lane-refusal.new.message c.loop-j-test.true
+          (l.invariant.1 messages reads) c.read_lane-refusal.ensures.size (here (goal.at.loop-j-preserved c).After-read_lane-refusal messages reads).1,
     )
 
 pub returns : goal.returns
@@ -65,6 +62,6 @@ returns c =
     let k = a.layout.message_len in
     λ messages reads. (
       refl,
-      filled-all k a.depth (λ i. lane k i messages) a.read.now c.loop-j.j c.loop-j.read messages (omega arith) (c.loop-j.invariant.1.1 messages reads)
+      filled-all k a.depth (λ i. lane k i messages) a.read.now c.loop-j.j c.loop-j.read messages (omega arith) (c.loop-j.invariant.1 messages reads)
           reads.size (λ i l. refl),
     )

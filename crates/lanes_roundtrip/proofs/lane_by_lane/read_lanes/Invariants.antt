@@ -1,7 +1,7 @@
 -- `read_lanes` meets its contract: the lanes so far hold their messages. Assumes nothing.
 use mathlib.Core.Path.{◌≡◌}
 use mathlib.Core.List.{List}
-use Prim.Native.Nat.{ℕ, ◌*◌, ◌≤◌, ◌-◌}
+use Prim.Native.Nat.{ℕ, ◌*◌}
 use lib.ListN.{length}
 use Rattle.codes.specs.Given.{coding_in}
 use Rattle.codes.specs.declared.WordLayout.{WordLayout}
@@ -20,8 +20,5 @@ Read l d messages before j now = Filled l.message_len d (λ i. lane l.message_le
 
 abbrev pub invariant-loop-j : goal.invariant-loop-j
 invariant-loop-j l =
-    (l.j ≤ l.depth) × ((length l.read ≡ l.depth * l.layout.message_len)
-    × ((messages : List ℕ) → Reads l.layout l.depth l.words messages → Read l.layout l.depth messages l.initial.read l.j l.read))
-
-abbrev pub decreases-loop-j : goal.decreases-loop-j
-decreases-loop-j l = l.depth - l.j
+    (length l.read ≡ l.depth * l.layout.message_len)
+    × ((messages : List ℕ) → Reads l.layout l.depth l.words messages → Read l.layout l.depth messages l.initial.read l.j l.read)

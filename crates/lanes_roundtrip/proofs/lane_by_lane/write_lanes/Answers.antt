@@ -16,16 +16,14 @@ loop-j-preserved c =
     let n = a.layout.n in
     let k = a.layout.message_len in
     let g = word_of a.layout a.messages.now a.words.now in
-    let map_is = part-is-lane n l.j l.words ∙ l.invariant.1.rest l.j (omega arith) (omega (arith, c.loop-j-test.true)) in (
-      omega arith,
-      filled_on n a.depth g a.words.now l.j l.words c.write_lane.new.word (omega (arith, c.loop-j-test.true))
-          l.invariant.1 c.write_lane.ensures.size
-          (c.write_lane.ensures.word
-          ∙ ap₂ (λ (message map : List ℕ). cover_word (coding_in a.layout) message map) (part-is-lane k l.j a.messages.now) map_is),
-    )
+    let map_is = part-is-lane n l.j l.words ∙ l.invariant.rest l.j (omega arith) (omega (arith, c.loop-j-test.true)) in
+    filled_on n a.depth g a.words.now l.j l.words c.write_lane.new.word (omega (arith, c.loop-j-test.true))
+    l.invariant c.write_lane.ensures.size
+    (c.write_lane.ensures.word
+    ∙ ap₂ (λ (message map : List ℕ). cover_word (coding_in a.layout) message map) (part-is-lane k l.j a.messages.now) map_is)
 
 pub returns : goal.returns
 returns c =
     let a = c.args in
     filled-words a.layout.n a.depth (word_of a.layout a.messages.now a.words.now) a.words.now c.loop-j.j c.loop-j.words (omega arith)
-    c.loop-j.invariant.1
+    c.loop-j.invariant

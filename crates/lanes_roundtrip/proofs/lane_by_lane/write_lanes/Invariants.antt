@@ -1,6 +1,6 @@
 -- `write_lanes` meets its contract: the lanes so far hold their words, and the others their maps. Assumes nothing.
 use mathlib.Core.List.{List}
-use Prim.Native.Nat.{ℕ, ◌≤◌, ◌-◌}
+use Prim.Native.Nat.{ℕ}
 use Rattle.codes.specs.Given.{coding_in}
 use Rattle.codes.specs.declared.WordLayout.{WordLayout}
 use Rattle.lanes.specs.Interleaving.{lane}
@@ -13,7 +13,4 @@ abbrev pub word_of : WordLayout → List ℕ → List ℕ → ℕ → List ℕ
 word_of l messages maps j = cover_word (coding_in l) (lane l.message_len j messages) (lane l.n j maps)
 
 abbrev pub invariant-loop-j : goal.invariant-loop-j
-invariant-loop-j l = (l.j ≤ l.depth) × Filled l.layout.n l.depth (word_of l.layout l.messages l.initial.words) l.initial.words l.j l.words
-
-abbrev pub decreases-loop-j : goal.decreases-loop-j
-decreases-loop-j l = l.depth - l.j
+invariant-loop-j l = Filled l.layout.n l.depth (word_of l.layout l.messages l.initial.words) l.initial.words l.j l.words

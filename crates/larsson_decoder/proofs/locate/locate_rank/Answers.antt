@@ -11,7 +11,7 @@ use Rattle.larsson_params.specs.Given.{larsson_figures_of, LarssonLayoutFits}
 use Rattle.larsson_params.proofs.Shape.{served, bound, long}
 use Rattle.sub_blocks.specs.Given.{BearersOf}
 use Rattle.sub_blocks.proofs.Room.{room_of}
-use Rattle.larsson_decoder.proofs.Locating.{disagreeing, agreeing, refused-in, starts-are, bearing, located}
+use Rattle.larsson_decoder.proofs.Locating.{disagreeing, agreeing, starts-are, bearing, located}
 use Rattle.larsson_decoder.proofs.locate.locate_rank.Goals as goal
 use Rattle.larsson_decoder.proofs.locate.locate_rank.Goals.{After-agrees, Start}
 
@@ -52,8 +52,7 @@ bearers_of-kinds-requires c =
 
 pub returns-then-not-agrees : goal.returns-then-not-agrees
 returns-then-not-agrees c =
-    refused-in (f (goal.at.returns-then-not-agrees c).Start) c.args.word.now c.nowhere.result disagrees c.nowhere.ensures
-    (disagreeing (f (goal.at.returns-then-not-agrees c).Start) c.args.word.now c.args.rank c.requires.0.taken c.requires.0.below (sym (told (goal.at.returns-then-not-agrees c).After-agrees) ∙ c.if-not-agrees.true))
+    disagreeing (f (goal.at.returns-then-not-agrees c).Start) c.args.word.now c.args.rank c.requires.0.taken c.requires.0.below (sym (told (goal.at.returns-then-not-agrees c).After-agrees) ∙ c.if-not-agrees.true)
 
 pub returns : goal.returns
 returns c =

@@ -33,8 +33,8 @@ small c =
 pub overflow_mul-gaps : goal.overflow_mul-gaps
 overflow_mul-gaps c = omega (arith, limits (goal.at.overflow_mul-gaps c).Start)
 
-pub overflow_add-gaps : goal.overflow_add-gaps
-overflow_add-gaps c = omega (arith, limits (goal.at.overflow_add-gaps c).Start)
+pub overflow_add-sub_blocks : goal.overflow_add-sub_blocks
+overflow_add-sub_blocks c = omega (arith, limits (goal.at.overflow_add-sub_blocks c).Start)
 
 pub overflow_mul-start : goal.overflow_mul-start
 overflow_mul-start c =
@@ -62,34 +62,30 @@ offset_bounds-starts-i c = omega (arith, c.loop-i-test.true, limits (goal.at.off
 pub bounds-starts-i : goal.bounds-starts-i
 bounds-starts-i c = omega (arith, c.loop-i-test.true, limits (goal.at.bounds-starts-i c).Start)
 
-pub overflow_add-i : goal.overflow_add-i
-overflow_add-i c = omega (arith, c.loop-i-test.true, limits (goal.at.overflow_add-i c).Start)
-
 pub loop-i-preserved : goal.loop-i-preserved
 loop-i-preserved c =
     let l = c.args.layout in
-    let n = c.loop-i.invariant.1 in (
-      omega (arith, c.loop-i-test.true),
+    let n = c.loop-i.invariant.0 in (
       simp length-set n,
       filled_on (λ x v. v ≡ sub_start (larsson_figures_of l) x) c.loop-i.starts c.loop-i.i (c.loop-i.i * l.sub_len + c.piece_start.result)
-          (omega (arith, n, c.loop-i-test.true, limits (goal.at.loop-i-preserved c).Start)) c.loop-i.invariant.2 (entry (goal.at.loop-i-preserved c).After-piece_start),
+          (omega (arith, n, c.loop-i-test.true, limits (goal.at.loop-i-preserved c).Start)) c.loop-i.invariant.1 (entry (goal.at.loop-i-preserved c).After-piece_start),
     )
 
 pub overflow_cast-starts-2 : goal.overflow_cast-starts-2
 overflow_cast-starts-2 c = omega (arith, limits (goal.at.overflow_cast-starts-2 c).Start)
 
-pub offset_bounds-starts-gaps : goal.offset_bounds-starts-gaps
-offset_bounds-starts-gaps c = omega (arith, limits (goal.at.offset_bounds-starts-gaps c).Start)
+pub offset_bounds-starts-sub_blocks : goal.offset_bounds-starts-sub_blocks
+offset_bounds-starts-sub_blocks c = omega (arith, limits (goal.at.offset_bounds-starts-sub_blocks c).Start)
 
-pub bounds-starts-gaps : goal.bounds-starts-gaps
-bounds-starts-gaps c = omega (arith, limits (goal.at.bounds-starts-gaps c).Start)
+pub bounds-starts-sub_blocks : goal.bounds-starts-sub_blocks
+bounds-starts-sub_blocks c = omega (arith, limits (goal.at.bounds-starts-sub_blocks c).Start)
 
 pub returns : goal.returns
 returns c =
     let l = c.args.layout in
     let all : c.loop-i.i ≡ 2 * l.m + 1 = omega (arith, c.loop-i-test.false) in
     let behind = 2 * l.m + 1 in (
-      λ i h. get_or-set_other c.loop-i.starts behind i l.n 0 (λ e. absurd (omega arith)) ∙ c.loop-i.invariant.2 i (omega arith),
+      λ i h. get_or-set_other c.loop-i.starts behind i l.n 0 (λ e. absurd (omega arith)) ∙ c.loop-i.invariant.1 i (omega arith),
       ap (λ (y : ℕ). get_or (lib.ListN.set c.loop-i.starts behind l.n) y 0) (sym (add-one (2 * l.m)))
-          ∙ get_or-set_same c.loop-i.starts behind l.n 0 (omega (arith, c.loop-i.invariant.1, limits (goal.at.returns c).Start)),
+          ∙ get_or-set_same c.loop-i.starts behind l.n 0 (omega (arith, c.loop-i.invariant.0, limits (goal.at.returns c).Start)),
     )

@@ -9,7 +9,4 @@ use Rattle.larsson_params.proofs.starts.starts_of.Given as goal
 
 abbrev pub invariant-loop-i : goal.invariant-loop-i
 invariant-loop-i l =
-    (l.i ≤ l.gaps + 1) × (length l.starts ≡ suc max_blocks) × ((x : ℕ) → x < l.i → get_or l.starts x 0 ≡ sub_start (larsson_figures_of l.layout) x)
-
-abbrev pub decreases-loop-i : goal.decreases-loop-i
-decreases-loop-i l = l.gaps + 1 - l.i
+    (length l.starts ≡ suc max_blocks) × ((x : ℕ) → x < l.i → get_or l.starts x 0 ≡ sub_start (larsson_figures_of l.layout) x)

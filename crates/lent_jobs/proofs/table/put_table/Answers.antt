@@ -18,12 +18,10 @@ many s =
     length-map s.args.table.slots (λ (x : Slot). x.entry) ∙ long
 
 pub loop-i-init : goal.loop-i-init
-loop-i-init c = (omega arith, put-none (entries c.args.table) (many (goal.at.loop-i-init c).Start) c.args.bytes.now c.requires)
+loop-i-init c = put-none (entries c.args.table) (many (goal.at.loop-i-init c).Start) c.args.bytes.now c.requires
 
 pub loop-i-preserved : goal.loop-i-preserved
 loop-i-preserved c =
-    let l = c.loop-i in (
-      omega arith,
-      put-turn (entries c.args.table) (many (goal.at.loop-i-preserved c).Start) l.i _ l.bytes c.put_entry.new.bytes (omega arith) l.invariant.1
-          (c.put_entry.ensures ∙ sym (ap entry_bytes (get_or-map (λ (x : Slot). x.entry) c.args.table.slots l.i _))),
-    )
+    let l = c.loop-i in
+    put-turn (entries c.args.table) (many (goal.at.loop-i-preserved c).Start) l.i _ l.bytes c.put_entry.new.bytes (omega arith) l.invariant
+    (c.put_entry.ensures ∙ sym (ap entry_bytes (get_or-map (λ (x : Slot). x.entry) c.args.table.slots l.i _)))

@@ -13,11 +13,11 @@ unfolding byte_width
 returns-then-values-ge-BYTE_VALUES c =
     let q = c.args.q in
     let s = c.loop-width in
-    let h : byte_values ≤ q ^ s.width = omega (arith, s.invariant.1) in
-    sym (first-is max_byte_width 0 s.width (spells_byte q) (omega arith) (omega arith) (λ x _ l. s.invariant.2 x l) (leb-holds byte_values (q ^ s.width) h))
+    let h : byte_values ≤ q ^ s.width = omega (arith, s.invariant.0) in
+    sym (first-is max_byte_width 0 s.width (spells_byte q) (omega arith) (omega arith) (λ x _ l. s.invariant.1 x l) (leb-holds byte_values (q ^ s.width) h))
 
 pub returns : goal.returns
 unfolding byte_width
 returns c =
     let s = c.loop-width in
-    sym (first-none max_byte_width 0 (spells_byte c.args.q) (λ x _ l. s.invariant.2 x (omega arith)))
+    sym (first-none max_byte_width 0 (spells_byte c.args.q) (λ x _ l. s.invariant.1 x (omega arith)))

@@ -7,7 +7,4 @@ use Rattle.cells.proofs.Bytes.{spells_byte}
 use Rattle.params.proofs.bytes.byte_width.Given as goal
 
 abbrev pub invariant-loop-width : goal.invariant-loop-width
-invariant-loop-width l = (l.width ≤ max_byte_width) × (l.values ≡ l.q ^ l.width) × ((x : ℕ) → x < l.width → spells_byte l.q x ≡ false)
-
-abbrev pub decreases-loop-width : goal.decreases-loop-width
-decreases-loop-width l = max_byte_width - l.width
+invariant-loop-width l = (l.values ≡ l.q ^ l.width) × ((x : ℕ) → x < l.width → spells_byte l.q x ≡ false)

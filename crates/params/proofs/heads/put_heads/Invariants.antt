@@ -8,8 +8,5 @@ use Rattle.params.proofs.heads.put_heads.Given as goal
 
 abbrev pub invariant-loop-i : goal.invariant-loop-i
 invariant-loop-i l =
-    (l.i ≤ l.parts) × (l.first ≡ l.i * l.m) × (l.from ≡ piece_start l.layout.n l.parts l.i) × (length l.heads ≡ suc max_blocks)
+    (l.first ≡ l.i * l.m) × (l.from ≡ piece_start l.layout.n l.parts l.i) × (length l.heads ≡ suc max_blocks)
     × ((k : ℕ) → k < l.i * l.m → get_or l.heads k 0 ≡ block_head l.layout.n l.parts l.m k)
-
-abbrev pub decreases-loop-i : goal.decreases-loop-i
-decreases-loop-i l = l.parts - l.i

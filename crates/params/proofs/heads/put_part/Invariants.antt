@@ -8,8 +8,5 @@ use Rattle.params.proofs.heads.put_part.Given as goal
 
 abbrev pub invariant-loop-j : goal.invariant-loop-j
 invariant-loop-j l =
-    (l.j ≤ l.m) × (l.head ≡ l.from + piece_start l.len l.m l.j) × (length l.heads ≡ suc max_blocks) × ((k : ℕ) → k < l.first → get_or l.heads k 0 ≡ get_or l.initial.heads k 0)
+    (l.head ≡ l.from + piece_start l.len l.m l.j) × (length l.heads ≡ suc max_blocks) × ((k : ℕ) → k < l.first → get_or l.heads k 0 ≡ get_or l.initial.heads k 0)
     × ((x : ℕ) → x < l.j → get_or l.heads (l.first + x) 0 ≡ l.from + piece_start l.len l.m x)
-
-abbrev pub decreases-loop-j : goal.decreases-loop-j
-decreases-loop-j l = l.m - l.j

@@ -10,7 +10,5 @@ use Rattle.params.proofs.tail.capped_power.Goals as goal
 pub loop-i-preserved : goal.loop-i-preserved
 loop-i-preserved c =
     let a = c.args in
-    let s = c.loop-i in (
-      omega arith,
-      c.capped_product-power-in-loop-i.ensures ∙ (rw (s.invariant.1, add-one s.i, pow-suc a.base s.i) (cap-left (a.base ^ s.i) a.base a.cap)),
-    )
+    let s = c.loop-i in
+    c.capped_product-power-in-loop-i.ensures ∙ (rw (s.invariant, add-one s.i, pow-suc a.base s.i) (cap-left (a.base ^ s.i) a.base a.cap))

@@ -4,7 +4,4 @@ use Prim.Native.Nat.{◌-◌, ◌^◌, ◌≤◌, min}
 use Rattle.params.proofs.tail.capped_power.Given as goal
 
 abbrev pub invariant-loop-i : goal.invariant-loop-i
-invariant-loop-i l = (l.i ≤ l.times) × (l.power ≡ min (l.base ^ l.i) l.cap)
-
-abbrev pub decreases-loop-i : goal.decreases-loop-i
-decreases-loop-i l = l.times - l.i
+invariant-loop-i l = (l.power ≡ min (l.base ^ l.i) l.cap)

@@ -17,23 +17,22 @@ returns-then-count-values c =
     let a = c.args in
     let s = c.loop-r in
     let v = a.start * a.step ^ s.r in
-    let h : a.count ≤ v = cap-reached v a.count (rw s.invariant.1 at c.if-count-values.true) in
-    sym (first-is a.limit 0 s.r (enough a.start a.step a.count) (omega arith) (omega arith) (λ x _ l. s.invariant.2 x l) (leb-holds a.count v h))
+    let h : a.count ≤ v = cap-reached v a.count (rw s.invariant.0 at c.if-count-values.true) in
+    sym (first-is a.limit 0 s.r (enough a.start a.step a.count) (omega arith) (omega arith) (λ x _ l. s.invariant.1 x l) (leb-holds a.count v h))
 
 pub loop-r-preserved : goal.loop-r-preserved
 loop-r-preserved c =
     let a = c.args in
     let s = c.loop-r in
     let v = a.start * a.step ^ s.r in
-    let h : v < a.count = cap-missed v a.count (rw s.invariant.1 at c.if-count-values.false) in (
-      search rules,
-      c.capped_product-values-in-loop-r.ensures ∙ (rw (s.invariant.1, add-one s.r, pow-suc a.step s.r, ← mul_assoc a.start (a.step ^ s.r) a.step)
+    let h : v < a.count = cap-missed v a.count (rw s.invariant.0 at c.if-count-values.false) in (
+      c.capped_product-values-in-loop-r.ensures ∙ (rw (s.invariant.0, add-one s.r, pow-suc a.step s.r, ← mul_assoc a.start (a.step ^ s.r) a.step)
           (cap-left v a.step a.count)),
-      below_more _ _ s.invariant.2 (leb-fails a.count v h),
+      below_more _ _ s.invariant.1 (leb-fails a.count v h),
     )
 
 pub returns : goal.returns
 returns c =
     let a = c.args in
     let s = c.loop-r in
-    sym (first-none a.limit 0 (enough a.start a.step a.count) (λ x _ l. s.invariant.2 x (omega arith)) ∙ omega arith)
+    sym (first-none a.limit 0 (enough a.start a.step a.count) (λ x _ l. s.invariant.1 x (omega arith)) ∙ omega arith)

@@ -11,7 +11,4 @@ enough start step count r = leb count (start * step ^ r)
 
 abbrev pub invariant-loop-r : goal.invariant-loop-r
 invariant-loop-r l =
-    (l.r ≤ l.limit) × (l.values ≡ min (l.start * l.step ^ l.r) l.count) × ((x : ℕ) → x < l.r → enough l.start l.step l.count x ≡ false)
-
-abbrev pub decreases-loop-r : goal.decreases-loop-r
-decreases-loop-r l = l.limit - l.r
+    (l.values ≡ min (l.start * l.step ^ l.r) l.count) × ((x : ℕ) → x < l.r → enough l.start l.step l.count x ≡ false)

@@ -26,7 +26,7 @@ next c =
 test : (c : In-loop-j) → apart c.args.b c.args.n c.loop-j.free
     (get_or c.args.self.starts c.loop-j.j 0 ∷ drop (c.loop-j.j + 1) (starts_in c.args.self))
     ≡ apart c.args.b c.args.n 0 (starts_in c.args.self)
-test c = ap (apart c.args.b c.args.n c.loop-j.free) (sym (next c)) ∙ c.loop-j.invariant.2
+test c = ap (apart c.args.b c.args.n c.loop-j.free) (sym (next c)) ∙ c.loop-j.invariant.1
 
 pub returns-then-start-free : goal.returns-then-start-free
 returns-then-start-free c =
@@ -39,7 +39,6 @@ loop-j-preserved c =
     let a = c.args in
     let f : Fits w16 (get_or a.self.starts c.loop-j.j 0) = search rules in (
       omega arith,
-      omega arith,
       sym (apart_next a.b a.n c.loop-j.free (get_or a.self.starts c.loop-j.j 0) (drop (c.loop-j.j + 1) (starts_in a.self)) c.if-start-free.false)
           ∙ test (goal.at.loop-j-preserved c).In-loop-j,
     )
@@ -48,4 +47,4 @@ pub returns : goal.returns
 returns c =
     let a = c.args in
     sym (apart-last a.b a.n c.loop-j.free)
-    ∙ ap (apart a.b a.n c.loop-j.free) (sym (left-none a.self.count c.loop-j.j a.self.starts (omega arith))) ∙ c.loop-j.invariant.2
+    ∙ ap (apart a.b a.n c.loop-j.free) (sym (left-none a.self.count c.loop-j.j a.self.starts (omega arith))) ∙ c.loop-j.invariant.1

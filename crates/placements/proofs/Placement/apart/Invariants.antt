@@ -8,7 +8,4 @@ use Rattle.placements.proofs.Placement.apart.Given as goal
 
 abbrev pub invariant-loop-j : goal.invariant-loop-j
 invariant-loop-j l =
-    (l.j ≤ l.self.count) × (l.free < 2 ^ 16 + l.b) × (apart l.b l.n l.free (drop l.j (starts_in l.self)) ≡ apart l.b l.n 0 (starts_in l.self))
-
-abbrev pub decreases-loop-j : goal.decreases-loop-j
-decreases-loop-j l = l.self.count - l.j
+    (l.free < 2 ^ 16 + l.b) × (apart l.b l.n l.free (drop l.j (starts_in l.self)) ≡ apart l.b l.n 0 (starts_in l.self))

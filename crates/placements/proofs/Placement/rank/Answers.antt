@@ -32,7 +32,7 @@ here c =
     }
 
 pub loop-j-init : goal.loop-j-init
-loop-j-init c = (omega arith, omega (arith, rank-first c.args.b (starts_in c.args.self)))
+loop-j-init c = (omega (arith, rank-first c.args.b (starts_in c.args.self)))
 
 pub overflow_sub-reduced : goal.overflow_sub-reduced
 overflow_sub-reduced c = omega (arith, here (goal.at.overflow_sub-reduced c).In-loop-j)
@@ -51,15 +51,15 @@ share c =
 
 pub choose-rank-requires : goal.choose-rank-requires
 choose-rank-requires c =
-    (omega (arith, here (goal.at.choose-rank-requires c).In-loop-j), omega arith, omega (arith, share (goal.at.choose-rank-requires c).In-loop-j, c.loop-j.invariant.1, c.requires.small))
+    (omega (arith, here (goal.at.choose-rank-requires c).In-loop-j), omega arith, omega (arith, share (goal.at.choose-rank-requires c).In-loop-j, c.loop-j.invariant, c.requires.small))
 
 pub overflow_add-rank : goal.overflow_add-rank
 overflow_add-rank c =
-    omega (arith, share (goal.at.overflow_add-rank c).In-loop-j, c.choose-rank.ensures, c.loop-j.invariant.1, c.requires.small)
+    omega (arith, share (goal.at.overflow_add-rank c).In-loop-j, c.choose-rank.ensures, c.loop-j.invariant, c.requires.small)
 
 pub loop-j-preserved : goal.loop-j-preserved
 loop-j-preserved c =
-    (omega arith, omega (arith, share (goal.at.loop-j-preserved c).In-loop-j, c.choose-rank.ensures, c.loop-j.invariant.1))
+    (omega (arith, share (goal.at.loop-j-preserved c).In-loop-j, c.choose-rank.ensures, c.loop-j.invariant))
 
 pub returns : goal.returns
 returns c =

@@ -9,7 +9,4 @@ use Rattle.placements.proofs.Placement.rank.Given as goal
 
 abbrev pub invariant-loop-j : goal.invariant-loop-j
 invariant-loop-j l =
-    (l.j ≤ l.self.count) × (l.rank + rank_left (l.b - 1) l.j (drop l.j (starts_in l.self)) ≡ rank_of l.b (starts_in l.self))
-
-abbrev pub decreases-loop-j : goal.decreases-loop-j
-decreases-loop-j l = l.self.count - l.j
+    (l.rank + rank_left (l.b - 1) l.j (drop l.j (starts_in l.self)) ≡ rank_of l.b (starts_in l.self))

@@ -19,12 +19,18 @@ loop-i-init c =
     let a = c.args in
     let each : a.m * 1 ≤ a.m * a.b = mul-le-mul_left a.m (omega arith) in (
       omega arith,
-      omega arith,
       c.requires.1,
       c.requires.2,
       fill-first (starts_of a.n a.m a.b a.rank)
           (starts_down (a.b - 1) (contracted a.n a.m a.b) a.m a.rank) a.m (starts-turned a.n a.m a.b a.rank),
     )
+
+-- a burst's number is one more than the bursts before it
+number : (c : After-last_burst-last) → c.loop-i.i - 1 + 1 ≡ c.loop-i.i
+number c = omega arith
+
+share_is : (c : After-last_burst-last) → c.last_burst-last.result.share ≡ choose c.last_burst-last.result.reduced c.loop-i.i
+share_is c = rw (number c) at c.last_burst-last.ensures.share
 
 -- the start that is found
 last : (c : After-last_burst-last)
@@ -33,11 +39,11 @@ last : (c : After-last_burst-last)
 last c =
     let l = c.loop-i in
     let d = c.args.b - 1 in
-    subst (LastStart d l.below l.i l.left) (sym c.last_burst-last.ensures.reduced)
-    (starts-next d l.below l.i l.left c.loop-i-test.true l.invariant.3)
+    subst (LastStart d l.below l.i l.left) (sym (rw (number c) at c.last_burst-last.ensures.reduced))
+    (starts-next d l.below l.i l.left c.loop-i-test.true l.invariant.2)
 
 pub overflow_sub-left : goal.overflow_sub-left
-overflow_sub-left c = omega (arith, (last (goal.at.overflow_sub-left c).After-last_burst-last).reach, c.last_burst-last.ensures.share)
+overflow_sub-left c = omega (arith, (last (goal.at.overflow_sub-left c).After-last_burst-last).reach, share_is (goal.at.overflow_sub-left c).After-last_burst-last)
 
 -- what the bursts before it take from its start
 room : (c : After-last_burst-last) → (c.loop-i.i - 1) * (c.args.b - 1) ≤ max_word
@@ -58,12 +64,11 @@ loop-i-preserved c =
     let l = c.loop-i in
     let t = last (goal.at.loop-i-preserved c).After-last_burst-last in
     let r = c.last_burst-last.result.reduced in
-    let e : c.last_burst-last.result.share ≡ choose r l.i = c.last_burst-last.ensures.share in (
-      omega arith,
+    let e : c.last_burst-last.result.share ≡ choose r l.i = share_is (goal.at.loop-i-preserved c).After-last_burst-last in (
       omega (arith, t.below),
-      omega (arith, l.invariant.2, choose-before r l.below l.i t.below c.loop-i-test.true),
+      omega (arith, l.invariant.1, choose-before r l.below l.i t.below c.loop-i-test.true),
       rw e t.rest,
-      rw e (fill-turn (r + (l.i - 1) * (a.b - 1)) (starts_down (a.b - 1) r (l.i - 1) (l.left - choose r l.i)) l.invariant.4 t.starts (omega arith)
+      rw e (fill-turn (r + (l.i - 1) * (a.b - 1)) (starts_down (a.b - 1) r (l.i - 1) (l.left - choose r l.i)) l.invariant.3 t.starts (omega arith)
           (omega arith)),
     )
 
@@ -72,5 +77,5 @@ returns c =
     let a = c.args in
     let l = c.loop-i in
     let e : l.i ≡ 0 = omega arith in
-    let f = rw (e, starts_none (a.b - 1) l.below l.left) at l.invariant.4 in
+    let f = rw (e, starts_none (a.b - 1) l.below l.left) at l.invariant.3 in
     fill-last f (rank-of-starts a.n a.m a.b (omega arith) (omega arith) a.rank c.requires.2).count

@@ -9,8 +9,5 @@ use Rattle.placements.proofs.Placement.unrank.Given as goal
 
 abbrev pub invariant-loop-i : goal.invariant-loop-i
 invariant-loop-i l =
-    (l.i ≤ l.m) × (l.below ≤ max_word) × (choose l.below l.i ≤ max_count) × (l.left < choose l.below l.i)
+    (l.below ≤ max_word) × (choose l.below l.i ≤ max_count) × (l.left < choose l.below l.i)
     × Filling (starts_of l.n l.m l.b l.rank) (starts_down (l.b - 1) l.below l.i l.left) l.m l.i l.found
-
-abbrev pub decreases-loop-i : goal.decreases-loop-i
-decreases-loop-i l = l.i

@@ -23,4 +23,4 @@ returns c =
     let a = c.args in
     let t = c.loop-x in
     let e : t.x ≡ length a.word.now = omega arith in
-    sym (of-covers (length a.word.now) a.b (differ_at a.word.now a.other.now) (starts_in a.at) (rw e at t.invariant.1))
+    sym (of-covers (length a.word.now) a.b (differ_at a.word.now a.other.now) (starts_in a.at) (rw e at t.invariant))

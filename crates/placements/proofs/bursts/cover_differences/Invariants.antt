@@ -6,7 +6,4 @@ use Rattle.placements.specs.Bridge.{starts_in, differ_at}
 use Rattle.placements.proofs.bursts.cover_differences.Given as goal
 
 abbrev pub invariant-loop-x : goal.invariant-loop-x
-invariant-loop-x l = (l.x ≤ length l.word) × Covers (differ_at l.word l.other) l.b l.x (starts_in l.at)
-
-abbrev pub decreases-loop-x : goal.decreases-loop-x
-decreases-loop-x l = length l.word - l.x
+invariant-loop-x l = Covers (differ_at l.word l.other) l.b l.x (starts_in l.at)

@@ -21,7 +21,7 @@ left c =
     let a = c.args in
     let l : length a.at.starts ≡ max_bursts = search rules in
     subst (λ (r : List ℕ). Tested a.b a.q a.word.now (starts_in a.at) c.loop-j.from r)
-    (left-next a.at.count c.loop-j.j a.at.starts (omega arith) (omega (arith, c.requires.few))) c.loop-j.invariant.1
+    (left-next a.at.count c.loop-j.j a.at.starts (omega arith) (omega (arith, c.requires.few))) c.loop-j.invariant
 
 -- and burst j + 1 ends within the word
 ends : (c : In-loop-j) → (let a = c.args in
@@ -33,7 +33,7 @@ ends c =
 
 pub loop-j-init : goal.loop-j-init
 loop-j-init c =
-    (omega arith, tested-start c.args.b c.args.q c.args.word.now (starts_in c.args.at) c.requires.valid)
+    (tested-start c.args.b c.args.q c.args.word.now (starts_in c.args.at) c.requires.valid)
 
 pub slice_bounds-all_below-end : goal.slice_bounds-all_below-end
 slice_bounds-all_below-end c = omega (arith, ends (goal.at.slice_bounds-all_below-end c).In-loop-j)
@@ -49,12 +49,10 @@ returns-then-not-all_below c =
 pub loop-j-preserved : goal.loop-j-preserved
 loop-j-preserved c =
     let a = c.args in
-    let t = c.loop-j in (
-      omega arith,
-      tested-on a.b a.q a.word.now (starts_in a.at) t.from (get_or a.at.starts t.j 0) (drop (t.j + 1) (starts_in a.at))
-          (left (goal.at.loop-j-preserved c).In-loop-j)
-          (sym c.all_below.ensures ∙ c.if-not-all_below.false),
-    )
+    let t = c.loop-j in
+    tested-on a.b a.q a.word.now (starts_in a.at) t.from (get_or a.at.starts t.j 0) (drop (t.j + 1) (starts_in a.at))
+    (left (goal.at.loop-j-preserved c).In-loop-j)
+    (sym c.all_below.ensures ∙ c.if-not-all_below.false)
 
 pub returns : goal.returns
 returns c =
@@ -63,4 +61,4 @@ returns c =
     c.all_below-2.ensures
     ∙ tested-end a.b a.q a.word.now (starts_in a.at) t.from
     (subst (λ (r : List ℕ). Tested a.b a.q a.word.now (starts_in a.at) t.from r)
-    (left-none a.at.count t.j a.at.starts (omega arith)) t.invariant.1)
+    (left-none a.at.count t.j a.at.starts (omega arith)) t.invariant)

@@ -6,7 +6,4 @@ use Rattle.placements.proofs.Positions.{Tested}
 use Rattle.placements.proofs.bursts.cover_erasures.Given as goal
 
 abbrev pub invariant-loop-j : goal.invariant-loop-j
-invariant-loop-j l = (l.j ≤ l.at.count) × Tested l.b l.q l.word (starts_in l.at) l.from (drop l.j (starts_in l.at))
-
-abbrev pub decreases-loop-j : goal.decreases-loop-j
-decreases-loop-j l = l.at.count - l.j
+invariant-loop-j l = Tested l.b l.q l.word (starts_in l.at) l.from (drop l.j (starts_in l.at))

@@ -23,7 +23,7 @@ next c =
     let l : length a.at.starts ≡ max_bursts = search rules in
     ap (λ ss. in_burst a.b ss a.x)
     (sym (left-next a.at.count c.loop-j.j a.at.starts (omega arith) (omega (arith, c.requires))))
-    ∙ c.loop-j.invariant.1
+    ∙ c.loop-j.invariant
 
 pub returns-then-has : goal.returns-then-has
 returns-then-has c =
@@ -34,15 +34,13 @@ returns-then-has c =
 
 pub loop-j-preserved : goal.loop-j-preserved
 loop-j-preserved c =
-    let a = c.args in (
-      omega arith,
-      sym (burst-next a.b (get_or a.at.starts c.loop-j.j 0) a.x (drop (c.loop-j.j + 1) (starts_in a.at))
-          (sym c.has.ensures ∙ c.if-has.false))
-          ∙ next (goal.at.loop-j-preserved c).In-loop-j,
-    )
+    let a = c.args in
+    sym (burst-next a.b (get_or a.at.starts c.loop-j.j 0) a.x (drop (c.loop-j.j + 1) (starts_in a.at))
+    (sym c.has.ensures ∙ c.if-has.false))
+    ∙ next (goal.at.loop-j-preserved c).In-loop-j
 
 pub returns : goal.returns
 returns c =
     let a = c.args in
     sym (burst-none a.b a.x)
-    ∙ ap (λ ss. in_burst a.b ss a.x) (sym (left-none a.at.count c.loop-j.j a.at.starts (omega arith))) ∙ c.loop-j.invariant.1
+    ∙ ap (λ ss. in_burst a.b ss a.x) (sym (left-none a.at.count c.loop-j.j a.at.starts (omega arith))) ∙ c.loop-j.invariant

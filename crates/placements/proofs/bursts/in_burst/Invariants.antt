@@ -7,7 +7,4 @@ use Rattle.placements.specs.Bridge.{starts_in}
 use Rattle.placements.proofs.bursts.in_burst.Given as goal
 
 abbrev pub invariant-loop-j : goal.invariant-loop-j
-invariant-loop-j l = (l.j ≤ l.at.count) × (in_burst l.b (drop l.j (starts_in l.at)) l.x ≡ in_burst l.b (starts_in l.at) l.x)
-
-abbrev pub decreases-loop-j : goal.decreases-loop-j
-decreases-loop-j l = l.at.count - l.j
+invariant-loop-j l = (in_burst l.b (drop l.j (starts_in l.at)) l.x ≡ in_burst l.b (starts_in l.at) l.x)

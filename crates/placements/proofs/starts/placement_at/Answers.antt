@@ -14,14 +14,14 @@ abbrev the-held : List ℕ → ℕ → Held
 the-held s n = record { starts = s; count = n }
 
 pub loop-j-init : goal.loop-j-init
-loop-j-init c = (omega arith, search rules, begun-none _)
+loop-j-init c = (search rules, begun-none _)
 
 pub loop-j-preserved : goal.loop-j-preserved
 loop-j-preserved c =
     let a = c.args in
     let l = c.loop-j in
     let f : ℕ → ℕ = start a.bytes.now a.from in
-    (omega arith, l.invariant.1, ap₂ (λ (s : List ℕ) (v : ℕ). set s l.j v) l.invariant.2 c.two_bytes.ensures ∙ begun-next f l.j (omega arith))
+    (l.invariant.0, ap₂ (λ (s : List ℕ) (v : ℕ). set s l.j v) l.invariant.1 c.two_bytes.ensures ∙ begun-next f l.j (omega arith))
 
 pub returns : goal.returns
 returns c =
@@ -29,4 +29,4 @@ returns c =
     let l = c.loop-j in
     let f : ℕ → ℕ = start a.bytes.now a.from in
     let e : l.j ≡ a.m = omega arith in
-    ap₂ (λ (s : List ℕ) (n : ℕ). the-held s n) (l.invariant.2 ∙ ap (begun f) e) l.invariant.1 ∙ begun_all f a.m
+    ap₂ (λ (s : List ℕ) (n : ℕ). the-held s n) (l.invariant.1 ∙ ap (begun f) e) l.invariant.0 ∙ begun_all f a.m

@@ -11,7 +11,4 @@ abbrev pub start : List ℕ → ℕ → ℕ → ℕ
 start bytes from i = get_or bytes (from + 2 * i) 0 * byte_values + get_or bytes (from + 2 * i + 1) 0
 
 abbrev pub invariant-loop-j : goal.invariant-loop-j
-invariant-loop-j l = (l.j ≤ l.m) × (l.found.count ≡ l.m) × (l.found.starts ≡ begun (start l.bytes l.from) l.j)
-
-abbrev pub decreases-loop-j : goal.decreases-loop-j
-decreases-loop-j l = l.m - l.j
+invariant-loop-j l = (l.found.count ≡ l.m) × (l.found.starts ≡ begun (start l.bytes l.from) l.j)

@@ -29,7 +29,6 @@ unfolding sum
 loop-block-init c =
     let R = c.requires in
     let none : 0 * c.args.walk.head_len ≡ 0 = omega arith in (
-      omega arith,
       (entering-first (walkable R.walks), omega arith, c.next_start.ensures),
       record {
         walks = R.walks;
@@ -43,4 +42,4 @@ pub loop-block-preserved : goal.loop-block-preserved
 loop-block-preserved c =
     let t = c.loop-block in
     let r = c.fill_block-here.ensures in
-    (omega (arith, c.loop-block-test.true), rw (add-one t.block) r.1, r.0)
+    (rw (add-one t.block) r.1, r.0)

@@ -1,11 +1,7 @@
 -- `fill_cells` meets its contract: the blocks so far are filled. Assumes nothing.
-use Prim.Native.Nat.{◌-◌, ◌≤◌}
 use Rattle.stretches.specs.Fill.{FilledTo, ComesTo}
 use Rattle.stretches.proofs.fill.fill_cells.Given as goal
 
 abbrev pub invariant-loop-block : goal.invariant-loop-block
 invariant-loop-block l =
-    (l.block ≤ l.walk.blocks) × ComesTo l.walk l.at l.heads l.kinds l.block l.here × FilledTo l.walk l.at l.heads l.kinds l.digits l.message l.word l.here
-
-abbrev pub decreases-loop-block : goal.decreases-loop-block
-decreases-loop-block l = l.walk.blocks - l.block
+    ComesTo l.walk l.at l.heads l.kinds l.block l.here × FilledTo l.walk l.at l.heads l.kinds l.digits l.message l.word l.here

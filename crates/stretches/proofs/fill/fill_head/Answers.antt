@@ -101,7 +101,6 @@ overflow_mul-spelled c =
       arith,
       lent (goal.at.overflow_mul-spelled c).Start
           c.if-kind-eq-INDEX.true,
-      c.shared_slice_known-1.given 0,
     )
 
 pub slice_bounds-copy_few-count-then-kind-eq-INDEX : goal.slice_bounds-copy_few-count-then-kind-eq-INDEX

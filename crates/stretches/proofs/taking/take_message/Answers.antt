@@ -1,6 +1,5 @@
 -- `take_message` meets its contract: the message of the blocks so far is taken. Assumes nothing.
 use Prim.Native.Nat.{ℕ}
-use native.Mathlib.Omega.{arith}
 use Rattle.cells.specs.Cells.{Cell}
 use Rattle.cells.specs.Plan.{kind_in}
 use Rattle.placements.specs.Bridge.{starts_in}
@@ -20,7 +19,6 @@ kd s = kind_in (frame_by s.args.walk s.args.heads.now s.args.kinds.now (starts_i
 pub loop-block-init : goal.loop-block-init
 loop-block-init c =
     let R = c.requires in (
-      omega arith,
       (entering-first (walkable R.walks), c.next_start.ensures),
       record { walks = R.walks; whole = R.whole; so_far = taken_start c.args.walk.n (kd (goal.at.loop-block-init c).Start) c.args.word.now c.args.message.now R.room },
     )

@@ -27,14 +27,14 @@ Free s = untouched (larsson_figures_of s.args.layout) (starts_in s.args.at)
 
 pub loop-i-init : goal.loop-i-init
 unfolding sum
-loop-i-init c = (omega arith, omega arith, refl, λ x h. absurd (omega arith))
+loop-i-init c = (omega arith, refl, λ x h. absurd (omega arith))
 
 pub bounds-kinds-i : goal.bounds-kinds-i
 bounds-kinds-i c = omega (arith, limits (goal.at.bounds-kinds-i c).Start, c.loop-i-test.true)
 
 pub overflow_add-met : goal.overflow_add-met
 overflow_add-met c =
-    omega (arith, limits (goal.at.overflow_add-met c).Start, c.loop-i.invariant.2, count-le c.loop-i.i 0 (Free (goal.at.overflow_add-met c).Start))
+    omega (arith, limits (goal.at.overflow_add-met c).Start, c.loop-i.invariant.1, count-le c.loop-i.i 0 (Free (goal.at.overflow_add-met c).Start))
 
 -- the kinds with that of sub-block i
 kinds-on : (c : After-kind_of) → ((x : ℕ) → x < c.loop-i.i + 1 → get_or (set c.loop-i.kinds c.loop-i.i c.kind_of.result) x 0
@@ -43,27 +43,25 @@ kinds-on c =
     let f = larsson_figures_of c.args.layout in
     let ss = starts_in c.args.at in
     filled_on (λ x v. v ≡ cond (bears f ss x) index_kind burst_kind) c.loop-i.kinds c.loop-i.i c.kind_of.result
-    (omega (arith, limits (goal.at.After-kind_of c).Start, c.loop-i.invariant.1, c.loop-i-test.true)) c.loop-i.invariant.3
-    (c.kind_of.ensures ∙ bears-now f ss c.loop-i.i c.loop-i.met c.is_untouched-untouched.result c.is_untouched-untouched.ensures c.loop-i.invariant.2)
+    (omega (arith, limits (goal.at.After-kind_of c).Start, c.loop-i.invariant.0, c.loop-i-test.true)) c.loop-i.invariant.2
+    (c.kind_of.ensures ∙ bears-now f ss c.loop-i.i c.loop-i.met c.is_untouched-untouched.result c.is_untouched-untouched.ensures c.loop-i.invariant.1)
 
 pub loop-i-preserved : goal.loop-i-preserved
 loop-i-preserved c =
     let e = c.is_untouched-untouched.ensures in
-    let n = c.loop-i.invariant.1 in
+    let n = c.loop-i.invariant.0 in
     let on = count-on c.loop-i.i (Free (goal.at.loop-i-preserved c).Start) in
     elim c.if-untouched.branch [
       | then-untouched u ↦ (
-        omega (arith, c.loop-i-test.true),
         simp length-set n,
         rw u.met-is
-            (omega (arith, c.loop-i.invariant.2, on, ap bit (sym e ∙ u.if-untouched.true))),
+            (omega (arith, c.loop-i.invariant.1, on, ap bit (sym e ∙ u.if-untouched.true))),
         kinds-on (goal.at.loop-i-preserved c).After-kind_of,
       )
       | else-untouched u ↦ (
-        omega (arith, c.loop-i-test.true),
         simp length-set n,
         rw u.met-is
-            (omega (arith, c.loop-i.invariant.2, on, ap bit (sym e ∙ u.if-untouched.false))),
+            (omega (arith, c.loop-i.invariant.1, on, ap bit (sym e ∙ u.if-untouched.false))),
         kinds-on (goal.at.loop-i-preserved c).After-kind_of,
       )
     ]

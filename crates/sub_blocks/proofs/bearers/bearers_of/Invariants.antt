@@ -1,7 +1,7 @@
 -- `bearers_of` meets its contract: the first i sub-blocks have their kinds, and so many of them are untouched. Assumes nothing.
 use mathlib.Core.Path.{◌≡◌}
 use mathlib.Core.Bool.{cond}
-use Prim.Native.Nat.{ℕ, ◌-◌, ◌≤◌, ◌<◌}
+use Prim.Native.Nat.{ℕ, ◌<◌}
 use lib.ListN.{length, get_or}
 use Rattle.combinatorics.specs.Stretch.{count}
 use Rattle.larsson.specs.Writing.{untouched, bears}
@@ -13,8 +13,5 @@ use Rattle.sub_blocks.proofs.bearers.bearers_of.Given as goal
 
 abbrev pub invariant-loop-i : goal.invariant-loop-i
 invariant-loop-i l =
-    (l.i ≤ l.blocks) × (length l.kinds ≡ max_blocks) × (l.met ≡ count l.i 0 (untouched (larsson_figures_of l.layout) (starts_in l.at)))
+    (length l.kinds ≡ max_blocks) × (l.met ≡ count l.i 0 (untouched (larsson_figures_of l.layout) (starts_in l.at)))
     × ((x : ℕ) → x < l.i → get_or l.kinds x 0 ≡ cond (bears (larsson_figures_of l.layout) (starts_in l.at) x) index_kind burst_kind)
-
-abbrev pub decreases-loop-i : goal.decreases-loop-i
-decreases-loop-i l = l.blocks - l.i

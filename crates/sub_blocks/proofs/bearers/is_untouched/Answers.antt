@@ -46,7 +46,7 @@ next c =
     ap (any (met (goal.at.In-loop-j c).Start))
     (sym (left-next p.count c.loop-j.j p.starts (omega arith)
     (omega (arith, c.requires.0.count, bound c.args.layout c.requires.0.layout))))
-    ∙ c.loop-j.invariant.1
+    ∙ c.loop-j.invariant
 
 -- what the bursts say of the sub-block
 says : (s : Start) → not (any (met s) (starts_in s.args.at)) ≡ untouched (larsson_figures_of s.args.layout) (starts_in s.args.at) s.args.i
@@ -66,11 +66,11 @@ returns-then-touches c =
 pub loop-j-preserved : goal.loop-j-preserved
 loop-j-preserved c =
     let b = get_or c.args.at.starts c.loop-j.j 0 in
-    (omega arith, sym (any-on (met (goal.at.loop-j-preserved c).Start) b (drop (c.loop-j.j + 1) (starts_in c.args.at)) (rw c.touches.ensures at c.if-touches.false)) ∙ next (goal.at.loop-j-preserved c).In-loop-j)
+    sym (any-on (met (goal.at.loop-j-preserved c).Start) b (drop (c.loop-j.j + 1) (starts_in c.args.at)) (rw c.touches.ensures at c.if-touches.false)) ∙ next (goal.at.loop-j-preserved c).In-loop-j
 
 pub returns : goal.returns
 returns c =
     let p = c.args.at in
     let none : any (met (goal.at.returns c).Start) (starts_in p) ≡ false =
-    sym c.loop-j.invariant.1 ∙ ap (any (met (goal.at.returns c).Start)) (left-none p.count c.loop-j.j p.starts (omega arith)) ∙ any_none (met (goal.at.returns c).Start) in
+    sym c.loop-j.invariant ∙ ap (any (met (goal.at.returns c).Start)) (left-none p.count c.loop-j.j p.starts (omega arith)) ∙ any_none (met (goal.at.returns c).Start) in
     sym (ap not none) ∙ says (goal.at.returns c).Start

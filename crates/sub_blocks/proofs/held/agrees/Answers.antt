@@ -15,7 +15,7 @@ use Rattle.larsson_params.specs.Given.{larsson_figures_of}
 use Rattle.larsson_params.proofs.Shape.{bound}
 use Rattle.sub_blocks.proofs.Holding.{Other, agrees-by}
 use Rattle.sub_blocks.proofs.held.agrees.Goals as goal
-use Rattle.sub_blocks.proofs.held.agrees.Goals.{Start, else-kinds-j-eq-INDEX, then-kinds-j-eq-INDEX+else-not-same_symbols}
+use Rattle.sub_blocks.proofs.held.agrees.Goals.{Start, else-kinds-j-eq-INDEX-via-else-kinds-j-eq-INDEX, else-kinds-j-eq-INDEX-via-then-kinds-j-eq-INDEX+else-not-same_symbols}
 
 limits : (s : Start) → Ranged (larsson_figures_of s.args.layout)
 limits s = bound s.args.layout s.requires.0.layout
@@ -44,11 +44,8 @@ returns-then-not-same_symbols c =
     let off : Off (goal.at.returns-then-not-same_symbols c).Start j ≡ true =
     rw (eqb_same (get_or a.kinds.now j 0) index_kind c.if-kinds-j-eq-INDEX.true, ← c.same_symbols.ensures) (ap not c.if-not-same_symbols.true) in
     let told = ap not (sym (has_here (2 * a.layout.m + 1) j (Off (goal.at.returns-then-not-same_symbols c).Start) (omega (arith, c.loop-j-test.true)) off)
-    ∙ c.loop-j.invariant.1 ∙ by-blocks (goal.at.returns-then-not-same_symbols c).Start) in
+    ∙ c.loop-j.invariant ∙ by-blocks (goal.at.returns-then-not-same_symbols c).Start) in
     λ ss is. told ∙ agrees-by a.layout a.word.now a.i c.requires.0 c.requires.2 ss a.kinds.now is
-
-pub overflow_add-j : goal.overflow_add-j
-overflow_add-j c = omega (arith, c.loop-j-test.true, limits (goal.at.overflow_add-j c).Start)
 
 pub loop-j-preserved : goal.loop-j-preserved
 loop-j-preserved c =
@@ -56,18 +53,15 @@ loop-j-preserved c =
     let j = c.loop-j.j in
     let n = 2 * a.layout.m + 1 in
     let on : Off (goal.at.loop-j-preserved c).Start j ≡ false → has (n - (j + 1)) (j + 1) (Off (goal.at.loop-j-preserved c).Start) ≡ has n 0 (Off (goal.at.loop-j-preserved c).Start) =
-    λ e. sym (has_on n j (Off (goal.at.loop-j-preserved c).Start) (omega (arith, c.loop-j-test.true)) e) ∙ c.loop-j.invariant.1 in
-    elim c.if-kinds-j-eq-INDEX.branch [
-      | then-kinds-j-eq-INDEX+else-not-same_symbols u ↦ (
-        omega (arith, c.loop-j-test.true),
-        on
-            (rw (eqb_same (get_or a.kinds.now j 0) index_kind u.if-kinds-j-eq-INDEX.true, ← u.same_symbols.ensures) (ap not u.if-not-same_symbols.false)),
-      )
-      | else-kinds-j-eq-INDEX u ↦ (omega (arith, c.loop-j-test.true), on (rw (eqb-other (get_or a.kinds.now j 0) index_kind u.if-kinds-j-eq-INDEX.false)))
+    λ e. sym (has_on n j (Off (goal.at.loop-j-preserved c).Start) (omega (arith, c.loop-j-test.true)) e) ∙ c.loop-j.invariant in
+    elim c.else-kinds-j-eq-INDEX.branch [
+      | else-kinds-j-eq-INDEX-via-then-kinds-j-eq-INDEX+else-not-same_symbols u ↦
+          on (rw (eqb_same (get_or a.kinds.now j 0) index_kind u.if-kinds-j-eq-INDEX.true, ← u.same_symbols.ensures) (ap not u.if-not-same_symbols.false))
+      | else-kinds-j-eq-INDEX-via-else-kinds-j-eq-INDEX u ↦ on (rw (eqb-other (get_or a.kinds.now j 0) index_kind u.if-kinds-j-eq-INDEX.false))
     ]
 
 pub returns : goal.returns
 returns c =
     let a = c.args in
-    let told = ap not (sym (has-over (2 * a.layout.m + 1) c.loop-j.j (Off (goal.at.returns c).Start) (omega (arith, c.loop-j-test.false))) ∙ c.loop-j.invariant.1 ∙ by-blocks (goal.at.returns c).Start) in
+    let told = ap not (sym (has-over (2 * a.layout.m + 1) c.loop-j.j (Off (goal.at.returns c).Start) (omega (arith, c.loop-j-test.false))) ∙ c.loop-j.invariant ∙ by-blocks (goal.at.returns c).Start) in
     λ ss is. told ∙ agrees-by a.layout a.word.now a.i c.requires.0 c.requires.2 ss a.kinds.now is

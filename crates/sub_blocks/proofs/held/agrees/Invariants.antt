@@ -1,13 +1,10 @@
 -- `agrees` meets its contract: no bearer before j has other symbols. Assumes nothing.
 use mathlib.Core.Path.{◌≡◌}
-use Prim.Native.Nat.{◌-◌, ◌≤◌}
+use Prim.Native.Nat.{◌-◌}
 use Rattle.combinatorics.specs.Stretch.{has}
 use Rattle.sub_blocks.proofs.Holding.{Other}
 use Rattle.sub_blocks.proofs.held.agrees.Given as goal
 
 abbrev pub invariant-loop-j : goal.invariant-loop-j
 invariant-loop-j l =
-    (l.j ≤ l.blocks) × (has (l.blocks - l.j) l.j (Other l.layout l.word l.i l.kinds) ≡ has l.blocks 0 (Other l.layout l.word l.i l.kinds))
-
-abbrev pub decreases-loop-j : goal.decreases-loop-j
-decreases-loop-j l = l.blocks - l.j
+    has (l.blocks - l.j) l.j (Other l.layout l.word l.i l.kinds) ≡ has l.blocks 0 (Other l.layout l.word l.i l.kinds)

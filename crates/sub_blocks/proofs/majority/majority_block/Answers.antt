@@ -10,9 +10,8 @@ returns-then-has_majority c =
     majority-here a.layout a.word.now c.requires.0 c.loop-i.i (omega (arith, c.loop-i-test.true))
     (rw c.has_majority.ensures at c.if-has_majority.true)
 
-pub overflow_add-i : goal.overflow_add-i
-overflow_add-i c =
-    omega (arith, c.loop-i-test.true, bound c.args.layout c.requires.0.layout)
+pub overflow_add-i-end : goal.overflow_add-i-end
+overflow_add-i-end c = omega (arith, bound c.args.layout c.requires.0.layout)
 
 pub overflow_mul-result : goal.overflow_mul-result
 overflow_mul-result c =
@@ -25,4 +24,4 @@ overflow_add-result c =
 pub returns : goal.returns
 returns c =
     let a = c.args in
-    majority-none a.layout a.word.now c.requires.0 (λ i h. c.loop-i.invariant.1 i (omega (arith, c.loop-i-test.false)))
+    majority-none a.layout a.word.now c.requires.0 (λ i h. c.loop-i.invariant i (omega (arith, c.loop-i-test.false)))

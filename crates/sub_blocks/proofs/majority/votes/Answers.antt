@@ -30,21 +30,17 @@ overflow_add-blocks c = omega (arith, limits (goal.at.overflow_add-blocks c).Sta
 
 pub loop-j-init : goal.loop-j-init
 unfolding sum
-loop-j-init c = (omega arith, refl)
+loop-j-init c = refl
 
 pub overflow_add-met : goal.overflow_add-met
 overflow_add-met c =
-    omega (arith, limits (goal.at.overflow_add-met c).Start, c.loop-j.invariant.1, count-le c.loop-j.j 0 (Alike (goal.at.overflow_add-met c).Start))
-
-pub overflow_add-j : goal.overflow_add-j
-overflow_add-j c =
-    omega (arith, c.loop-j-test.true, limits (goal.at.overflow_add-j c).Start)
+    omega (arith, limits (goal.at.overflow_add-met c).Start, c.loop-j.invariant, count-le c.loop-j.j 0 (Alike (goal.at.overflow_add-met c).Start))
 
 pub loop-j-preserved : goal.loop-j-preserved
 loop-j-preserved c =
     let e = c.same_symbols.ensures in
     let on = rw (← e) at (count-on c.loop-j.j (Alike (goal.at.loop-j-preserved c).Start)) in
     elim c.if-same_symbols.branch [
-      | then-same_symbols u ↦ (omega (arith, c.loop-j-test.true), rw u.met-is (omega (arith, c.loop-j.invariant.1, rw u.if-same_symbols.true at on)))
-      | else-same_symbols u ↦ (omega (arith, c.loop-j-test.true), rw u.met-is (omega (arith, c.loop-j.invariant.1, rw u.if-same_symbols.false at on)))
+      | then-same_symbols u ↦ rw u.met-is (omega (arith, c.loop-j.invariant, rw u.if-same_symbols.true at on))
+      | else-same_symbols u ↦ rw u.met-is (omega (arith, c.loop-j.invariant, rw u.if-same_symbols.false at on))
     ]

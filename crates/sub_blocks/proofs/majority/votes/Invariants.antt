@@ -1,6 +1,5 @@
 -- `votes` meets its contract: so many of the first j sub-blocks have the symbols. Assumes nothing.
 use mathlib.Core.Path.{◌≡◌}
-use Prim.Native.Nat.{◌-◌, ◌≤◌}
 use Rattle.combinatorics.specs.Lists.{same_list}
 use Rattle.combinatorics.specs.Stretch.{count}
 use Rattle.larsson.specs.Reading.{sub_symbols}
@@ -9,7 +8,4 @@ use Rattle.sub_blocks.proofs.majority.votes.Given as goal
 
 abbrev pub invariant-loop-j : goal.invariant-loop-j
 invariant-loop-j l =
-    (l.j ≤ l.blocks) × (l.met ≡ count l.j 0 (λ x. same_list (sub_symbols (larsson_figures_of l.layout) l.word x) (sub_symbols (larsson_figures_of l.layout) l.word l.i)))
-
-abbrev pub decreases-loop-j : goal.decreases-loop-j
-decreases-loop-j l = l.blocks - l.j
+    l.met ≡ count l.j 0 (λ x. same_list (sub_symbols (larsson_figures_of l.layout) l.word x) (sub_symbols (larsson_figures_of l.layout) l.word l.i))

@@ -1,4 +1,4 @@
--- `write_refusal` meets its contract, refusal by refusal. Assumes nothing.
+-- `may_write` meets its contract, refusal by refusal. Assumes nothing.
 use mathlib.Core.Path.{◌≡◌, sym, ap, ◌∙◌}
 use mathlib.Core.List.{List}
 use Prim.Native.Nat.{ℕ}
@@ -16,8 +16,8 @@ use Rattle.jobs.specs.Table.{standing, lookup}
 use Rattle.jobcodec.specs.Given.{ReadyUnder}
 use Rattle.jobcodec.proofs.Calls.{alphabet-few, bytes-are, ready, write-few, write-count, write_bytes, write-length, write-starts, write-zero}
 use Rattle.jobcodec.proofs.Calls.{write-status}
-use Rattle.jobcodec.proofs.write_refusal.Goals as goal
-use Rattle.jobcodec.proofs.write_refusal.Goals.{Else-count-lt-MIN_PAYLOAD, Start}
+use Rattle.jobcodec.proofs.may_write.Goals as goal
+use Rattle.jobcodec.proofs.may_write.Goals.{Else-count-lt-MIN_PAYLOAD, Start}
 
 abbrev answer : Encoded → ℕ
 answer r = r.answer
