@@ -1,18 +1,12 @@
 // An eye as numbers: its kind, its powers in dioptres and its axis in degrees. Inner functions of transposing, the spherical equivalent and
 // prescriptions for other languages. Assumes nothing.
 ghost use Rattle.std.specs.Prelude.{◌≡◌};
+ghost use Rattle.refusals.specs.Numbers.{answer_of};
 ghost use Rattle.lent_prescriptions.specs.Eyes.{is_plus_zero, eye_from, eye_kind, eye_sphere, eye_cylinder, eye_axis, powers_lent, transpose_lent, power_lent};
 ghost use Rattle.lent_prescriptions.specs.Eyes.{equivalent_lent};
 
-use prescription::eyes::{Eye, EyeAnswer, PowerAnswer};
+use prescription::eyes::{Eye, Kind};
 use refusals::Refusal;
-
-// The kinds.
-const PLANO: u8 = 0;
-
-const SPHERE: u8 = 1;
-
-const TORIC: u8 = 2;
 
 // How many marks and powers an eye has.
 const EYE_LEN: usize = 2;
@@ -21,107 +15,79 @@ const EYE_LEN: usize = 2;
 pub fn transpose(eye: Eye, marks: &mut [u8], powers: &mut [f64]) -> u8
     ensures { powers_lent marks.new powers.new result ≡ transpose_lent eye marks.old powers.old }
 {
-    if marks.len() != EYE_LEN {
-        return Refusal::LENGTH;
+    refusals::answer(put_transposed(eye, marks, powers))
+}
+
+// The same by the refusal itself.
+fn put_transposed(eye: Eye, marks: &mut [u8], powers: &mut [f64]) -> Result<(), Refusal>
+    ensures { powers_lent marks.new powers.new (answer_of result) ≡ transpose_lent eye marks.old powers.old }
+{
+    if marks.len() != EYE_LEN || powers.len() != EYE_LEN {
+        return Err(Refusal::Length);
     }
-    if powers.len() != EYE_LEN {
-        return Refusal::LENGTH;
-    }
-    let answer = eye.transpose();
-    match answer {
-        EyeAnswer::Refused(number) => number,
-        EyeAnswer::Kept(transposed) => {
-            marks[0] = kind_of(transposed);
-            marks[1] = axis_of(transposed);
-            powers[0] = sphere_of(transposed);
-            powers[1] = cylinder_of(transposed);
-            Refusal::NONE
-        }
-    }
+    let transposed = eye.transpose()?;
+    marks[0] = kind_of(transposed);
+    marks[1] = axis_of(transposed);
+    powers[0] = sphere_of(transposed);
+    powers[1] = cylinder_of(transposed);
+    Ok(())
 }
 
 // Puts the spherical equivalent of an eye into `power`. Refusals: 3 16.
 pub fn spherical_equivalent(eye: Eye, power: &mut [f64]) -> u8
     ensures { power_lent power.new result ≡ equivalent_lent eye power.old }
 {
+    refusals::answer(put_equivalent(eye, power))
+}
+
+// The same by the refusal itself.
+fn put_equivalent(eye: Eye, power: &mut [f64]) -> Result<(), Refusal>
+    ensures { power_lent power.new (answer_of result) ≡ equivalent_lent eye power.old }
+{
     if power.len() != 1 {
-        return Refusal::LENGTH;
+        return Err(Refusal::Length);
     }
-    let answer = eye.spherical_equivalent();
-    match answer {
-        PowerAnswer::Refused(number) => number,
-        PowerAnswer::Power(equivalent) => {
-            power[0] = equivalent;
-            Refusal::NONE
-        }
-    }
+    power[0] = eye.spherical_equivalent()?;
+    Ok(())
 }
 
 // The eye that four values are. Values that are none are taken as a sphere of power 0, which the rules refuse.
 pub fn eye_from(kind: u8, sphere: f64, cylinder: f64, axis: u8) -> Eye
     ensures { result ≡ eye_from kind sphere cylinder axis }
 {
-    if kind == TORIC {
-        return Eye::Toric {
+    match Kind::try_from(kind) {
+        Ok(Kind::Plano) if is_plus_zero(sphere) && is_plus_zero(cylinder) && axis == 0 =>
+            Eye::Plano,
+        Ok(Kind::Sphere) if is_plus_zero(cylinder) && axis == 0 => Eye::Sphere(sphere),
+        Ok(Kind::Toric) => Eye::Toric {
             sphere,
             cylinder,
             axis,
-        };
+        },
+        _ => Eye::Sphere(0.0),
     }
-    if !is_plus_zero(cylinder) {
-        return Eye::Sphere(0.0);
-    }
-    if axis != 0 {
-        return Eye::Sphere(0.0);
-    }
-    if kind == SPHERE {
-        return Eye::Sphere(sphere);
-    }
-    if !is_plus_zero(sphere) {
-        return Eye::Sphere(0.0);
-    }
-    if kind == PLANO {
-        return Eye::Plano;
-    }
-    Eye::Sphere(0.0)
 }
 
 // A NaN has no bits of its own, so that they are asked for only of a number.
 fn is_plus_zero(x: f64) -> bool
     ensures { result ≡ is_plus_zero x }
 {
-    if x == 0.0 {
-        return f64::to_bits(x) == 0;
-    }
-    false
+    x == 0.0 && x.to_bits() == 0
 }
 
 // The four values of an eye.
 pub fn kind_of(eye: Eye) -> u8
     ensures { result ≡ eye_kind eye }
 {
-    match eye {
-        Eye::Plano => PLANO,
-        Eye::Sphere(_) => SPHERE,
-        Eye::Toric {
-            sphere: _,
-            cylinder: _,
-            axis: _,
-        } => TORIC,
-    }
+    u8::from(eye.kind())
 }
 
 pub fn axis_of(eye: Eye) -> u8
     ensures { result ≡ eye_axis eye }
 {
     match eye {
-        Eye::Plano => 0,
-        Eye::Sphere(_) => 0,
-        Eye::Toric {
-            sphere: _,
-            cylinder: _,
-            axis,
-        } => axis,
+        Eye::Plano | Eye::Sphere(_) => 0,
+        Eye::Toric { axis, .. } => axis,
     }
 }
 
@@ -131,11 +97,7 @@ pub fn sphere_of(eye: Eye) -> f64
     match eye {
         Eye::Plano => 0.0,
         Eye::Sphere(power) => power,
-        Eye::Toric {
-            sphere,
-            cylinder: _,
-            axis: _,
-        } => sphere,
+        Eye::Toric { sphere, .. } => sphere,
     }
 }
 
@@ -143,12 +105,7 @@ pub fn cylinder_of(eye: Eye) -> f64
     ensures { result ≡ eye_cylinder eye }
 {
     match eye {
-        Eye::Plano => 0.0,
-        Eye::Sphere(_) => 0.0,
-        Eye::Toric {
-            sphere: _,
-            cylinder,
-            axis: _,
-        } => cylinder,
+        Eye::Plano | Eye::Sphere(_) => 0.0,
+        Eye::Toric { cylinder, .. } => cylinder,
     }
 }

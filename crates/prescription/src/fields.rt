@@ -101,20 +101,20 @@ fn in_range(bits: u16) -> bool
 pub fn eye_of(stored: StoredEye) -> Result<Eye, Refusal>
     ensures { eye_answered result ≡ or_refused eye_of (lens_in stored) }
 {
-    match Kind::try_from(stored.kind)? {
-        Kind::Plano if stored.sphere == 0 && stored.cylinder == 0 && stored.axis == 0 => Ok(
-            Eye::Plano,
-        ),
-        Kind::Sphere if stored.cylinder == 0 && stored.axis == 0 => kept(Eye::Sphere(power_of(
-            stored.sphere,
-        ))),
-        Kind::Toric => {
-            kept(Eye::Toric {
-                sphere: power_of(stored.sphere),
-                cylinder: power_of(stored.cylinder),
-                axis: stored.axis,
-            })
-        }
+    let StoredEye {
+        kind,
+        sphere,
+        cylinder,
+        axis,
+    } = stored;
+    match Kind::try_from(kind)? {
+        Kind::Plano if sphere == 0 && cylinder == 0 && axis == 0 => Ok(Eye::Plano),
+        Kind::Sphere if cylinder == 0 && axis == 0 => kept(Eye::Sphere(power_of(sphere))),
+        Kind::Toric => kept(Eye::Toric {
+            sphere: power_of(sphere),
+            cylinder: power_of(cylinder),
+            axis,
+        }),
         _ => Err(Refusal::Prescription),
     }
 }

@@ -24,29 +24,29 @@ returns-in-Plano c =
     let f = c.args.stored in
     sym (ap (or_refused eye_of) (plano-in f (sym c.in_ok-try_from.ensures ∙ ap byte_of c.in-Plano.is)
     ∙ must-be (eqb f.sphere 0 && eqb f.cylinder 0 && eqb f.axis 0) none (some plano)
-    (ap (λ (t : Bool). t && eqb f.cylinder 0 && eqb f.axis 0) (eqb_same f.sphere 0 c.if-stored-eq0.true)
-    ∙ ap (λ (t : Bool). t && eqb f.axis 0) (eqb_same f.cylinder 0 c.if-stored-eq0-2.true) ∙ eqb_same f.axis 0 c.if-stored-eq0-3.true)))
+    (ap (λ (t : Bool). t && eqb f.cylinder 0 && eqb f.axis 0) (eqb_same f.sphere 0 c.if-sphere-eq0.true)
+    ∙ ap (λ (t : Bool). t && eqb f.axis 0) (eqb_same f.cylinder 0 c.if-cylinder-eq0.true) ∙ eqb_same f.axis 0 c.if-axis-eq0.true)))
 
 pub returns-in_default-3 : goal.returns-in_default-3
 returns-in_default-3 c =
     let f = c.args.stored in
     refused-in f (plano-in f (sym c.in_ok-try_from.ensures ∙ ap byte_of c.in-Plano.is)
     ∙ must-not (eqb f.sphere 0 && eqb f.cylinder 0 && eqb f.axis 0) none (some plano)
-    (no-first-of-three (eqb f.sphere 0) (eqb f.cylinder 0) (eqb f.axis 0) (eqb-other f.sphere 0 c.if-stored-eq0.false)))
+    (no-first-of-three (eqb f.sphere 0) (eqb f.cylinder 0) (eqb f.axis 0) (eqb-other f.sphere 0 c.if-sphere-eq0.false)))
 
 pub returns-in_default-2 : goal.returns-in_default-2
 returns-in_default-2 c =
     let f = c.args.stored in
     refused-in f (plano-in f (sym c.in_ok-try_from.ensures ∙ ap byte_of c.in-Plano.is)
     ∙ must-not (eqb f.sphere 0 && eqb f.cylinder 0 && eqb f.axis 0) none (some plano)
-    (ap (λ (t : Bool). t && eqb f.axis 0) (no_second (eqb f.sphere 0) (eqb f.cylinder 0) (eqb-other f.cylinder 0 c.if-stored-eq0-2.false))))
+    (ap (λ (t : Bool). t && eqb f.axis 0) (no_second (eqb f.sphere 0) (eqb f.cylinder 0) (eqb-other f.cylinder 0 c.if-cylinder-eq0.false))))
 
 pub returns-in_default : goal.returns-in_default
 returns-in_default c =
     let f = c.args.stored in
     refused-in f (plano-in f (sym c.in_ok-try_from.ensures ∙ ap byte_of c.in-Plano.is)
     ∙ must-not (eqb f.sphere 0 && eqb f.cylinder 0 && eqb f.axis 0) none (some plano)
-    (no_third (eqb f.sphere 0) (eqb f.cylinder 0) (eqb f.axis 0) (eqb-other f.axis 0 c.if-stored-eq0-3.false)))
+    (no_third (eqb f.sphere 0) (eqb f.cylinder 0) (eqb f.axis 0) (eqb-other f.axis 0 c.if-axis-eq0.false)))
 
 pub returns-in-Sphere : goal.returns-in-Sphere
 returns-in-Sphere c =
@@ -54,22 +54,22 @@ returns-in-Sphere c =
     c.kept.ensures ∙ sphere-read f.sphere c.power_of.result c.power_of.ensures
     ∙ sym (ap (or_refused eye_of) (sphere-in f (sym c.in_ok-try_from.ensures ∙ ap byte_of c.in-Sphere.is)
     ∙ must-be (eqb f.cylinder 0 && eqb f.axis 0) none (ruled (sphere (count_in f.sphere)))
-    (ap (λ (t : Bool). t && eqb f.axis 0) (eqb_same f.cylinder 0 c.if-stored-eq0-4.true)
-    ∙ eqb_same f.axis 0 c.if-stored-eq0-5.true)))
+    (ap (λ (t : Bool). t && eqb f.axis 0) (eqb_same f.cylinder 0 c.if-cylinder-eq0-2.true)
+    ∙ eqb_same f.axis 0 c.if-axis-eq0-2.true)))
 
 pub returns-in_default-5 : goal.returns-in_default-5
 returns-in_default-5 c =
     let f = c.args.stored in
     refused-in f (sphere-in f (sym c.in_ok-try_from.ensures ∙ ap byte_of c.in-Sphere.is)
     ∙ must-not (eqb f.cylinder 0 && eqb f.axis 0) none (ruled (sphere (count_in f.sphere)))
-    (ap (λ (t : Bool). t && eqb f.axis 0) (eqb-other f.cylinder 0 c.if-stored-eq0-4.false)))
+    (ap (λ (t : Bool). t && eqb f.axis 0) (eqb-other f.cylinder 0 c.if-cylinder-eq0-2.false)))
 
 pub returns-in_default-4 : goal.returns-in_default-4
 returns-in_default-4 c =
     let f = c.args.stored in
     refused-in f (sphere-in f (sym c.in_ok-try_from.ensures ∙ ap byte_of c.in-Sphere.is)
     ∙ must-not (eqb f.cylinder 0 && eqb f.axis 0) none (ruled (sphere (count_in f.sphere)))
-    (no_second (eqb f.cylinder 0) (eqb f.axis 0) (eqb-other f.axis 0 c.if-stored-eq0-5.false)))
+    (no_second (eqb f.cylinder 0) (eqb f.axis 0) (eqb-other f.axis 0 c.if-axis-eq0-2.false)))
 
 pub returns-in-Toric : goal.returns-in-Toric
 returns-in-Toric c =
