@@ -55,8 +55,9 @@ fn is_untouched(
 {
     let from = starts[i] as usize;
     let end = from + layout.sub_len;
-    for j in 0..at.count as usize {
-        if touches(at.starts[j] as usize, layout.b, from, end) {
+    let bursts = &at.starts[..at.count as usize];
+    for start in bursts {
+        if touches(*start as usize, layout.b, from, end) {
             return false;
         }
     }
