@@ -16,8 +16,10 @@ use Rattle.codes.specs.Answer.{figured_as, LaidAs, ServesAs}
 use Rattle.codes.specs.Bridge.{coding_of}
 use Rattle.codes.specs.declared.Figures.{Figures}
 use Rattle.codes.specs.declared.WordLayout.{WordLayout}
-use Rattle.codes.specs.declared.FiguresAnswer.{FiguresAnswer}
-use Rattle.codes.specs.declared.FiguresAnswer.TheVariants.{Fit, Refused}
+use Rattle.std.specs.Prelude.{Result, Ok, Err, Some, None}
+use Rattle.std.specs.Prelude.{Option as Optional}
+use Rattle.refusals.specs.declared.Refusal.{Refusal}
+use Rattle.records.specs.declared.LaidFigures.{LaidFigures}
 use Rattle.codes.proofs.Layouts.{small}
 use Rattle.codes.proofs.Answered.{laid-learnt, serves}
 use Rattle.jobs.specs.Letters.{is_letter}
@@ -25,27 +27,18 @@ use Rattle.jobs.proofs.Letters.{no_kind}
 use Rattle.records.specs.Session.{Session}
 use Rattle.lines.specs.Lines.{letter_s, letter_l, letter_w, letter_r}
 use Rattle.records.specs.Records.{record_head_len, if_fit, current, payload_len_of, write_len, read_len, record_len, max_record}
-use Rattle.records.specs.declared.CurrentAnswer.{CurrentAnswer}
-use Rattle.records.specs.declared.CurrentAnswer.TheVariants.{Missing as NoFigures, Laid}
 use Rattle.records.specs.Bridge.{IsCurrent, Current, or_zero}
 
 -- ---- The last accepted figures
 
 -- "figures alone" answers for them
-pub laid-current : (f : Figures) (r : FiguresAnswer) (l : WordLayout) → r ≡ Fit l → figured_as r ≡ figures_under (coding_of f) → LaidAs f r → IsCurrent (some f) f l
+pub laid-current : (f : Figures) (r : Result WordLayout Refusal) (l : WordLayout) → r ≡ Ok l → figured_as r ≡ figures_under (coding_of f) → LaidAs f r → IsCurrent (some f) f l
 laid-current f r l e answer laid =
     let is = laid-learnt f r l e answer laid in
     record { are = ap (if_fit f) (sym answer ∙ ap figured_as e); laid = subst (LaidAs f) e laid; numbers = is.2; small = is.3 }
 
-pub refused-current : (f : Figures) (r : FiguresAnswer) (a : ℕ) → r ≡ Refused a → figured_as r ≡ figures_under (coding_of f) → current (some f) ≡ none
+pub refused-current : (f : Figures) (r : Result WordLayout Refusal) (a : Refusal) → r ≡ Err a → figured_as r ≡ figures_under (coding_of f) → current (some f) ≡ none
 refused-current f r a e answer = ap (if_fit f) (sym answer ∙ ap figured_as e)
-
--- an answer that was taken apart
-pub current-laid : (last : Option Figures) (r : CurrentAnswer) (f : Figures) (l : WordLayout) → r ≡ Laid f l → Current last r → IsCurrent last f l
-current-laid last r f l e is = subst (Current last) e is
-
-pub current-none : (last : Option Figures) (r : CurrentAnswer) → r ≡ NoFigures → Current last r → current last ≡ none
-current-none last r e is = subst (Current last) e is
 
 pub payload-within : (q k : ℕ) → payload_len q k ≤ k
 unfolding payload_len
@@ -89,7 +82,7 @@ pub current-serves : (last : Option Figures) (f : Figures) (l : WordLayout) → 
 current-serves last f l is =
     let fit = accepted-fit last f is.are in
     let n = is.numbers in
-    serves f (Fit l) l refl (rw (fit.0, fit.1, n.count-is, n.tail-is, n.len_is)) is.laid
+    serves f (Ok l) l refl (rw (fit.0, fit.1, n.count-is, n.tail-is, n.len_is)) is.laid
 
 -- ---- No record is longer than the buffer for it
 

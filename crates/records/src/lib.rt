@@ -12,7 +12,7 @@ ghost use Rattle.records.specs.Records.{record_head_len, two_bytes, write_len, r
 ghost use Rattle.records.specs.Records.{long_figures_in, letter_of, begun_len, needed_for};
 ghost use Rattle.records.specs.Bridge.{last_figures, session_of, Current, Knows, StillKnown, or_zero, HasStarts};
 
-use codes::{Figures, FiguresAnswer, WordLayout};
+use codes::{Figures, WordLayout};
 use jobs::JobTable;
 use params::long::LongParams;
 use params::{Params, bytes};
@@ -20,32 +20,25 @@ use placements::{Placement, starts};
 use symbols::numbers;
 use symbols::numbers::NUMBER_BYTES;
 
-// The figures of the last accepted S or L.
+// The figures of the last accepted S or L with their layout.
 #[derive(Clone, Copy)]
-pub enum LastFigures {
-    Missing,
-    Accepted(Figures),
-}
-
-// Those figures with their layout.
-#[derive(Clone, Copy)]
-pub enum CurrentAnswer {
-    Missing,
-    Laid(Figures, WordLayout),
+pub struct LaidFigures {
+    pub figures: Figures,
+    pub layout: WordLayout,
 }
 
 // What is known of a session's figures and table, so that many records need not find it anew: the last accepted figures with their layout, and
 // whether the table holds a number twice.
 #[derive(Clone, Copy)]
 pub struct Known {
-    pub current: CurrentAnswer,
+    pub current: Option<LaidFigures>,
     pub twice: bool,
 }
 
-// What is kept between two records: figures, job table, and how many records were served.
+// What is kept between two records: the figures of the last accepted S or L, job table, and how many records were served.
 #[derive(Clone, Copy)]
 pub struct Session {
-    pub figures: LastFigures,
+    pub figures: Option<Figures>,
     pub table: JobTable,
     pub records: u32,
 }
@@ -64,11 +57,9 @@ impl Known {
     pub fn of(session: Session) -> Self
         ensures { Knows (session_of session) result }
     {
-        let figures = session.figures;
-        let table = session.table;
         Known {
-            current: current(figures),
-            twice: table.twice(),
+            current: current(session.figures),
+            twice: session.table.twice(),
         }
     }
 
@@ -77,10 +68,9 @@ impl Known {
         requires { StillKnown (session_of next) letter self }
         ensures { Knows (session_of next) result }
     {
-        let figures = next.figures;
         match letter {
             b'S' | b'L' => Known {
-                current: current(figures),
+                current: current(next.figures),
                 twice: self.twice,
             },
             _ => self,
@@ -106,7 +96,7 @@ impl Session {
         ensures room { Session.MAX_LINE ≡ max_line }
     {
         Session {
-            figures: LastFigures::Missing,
+            figures: None,
             table: JobTable::empty(),
             records: 0,
         }
@@ -114,7 +104,7 @@ impl Session {
 }
 
 // How many bytes a record with this letter has, mark and letter included; 0 for an unknown letter and for W or R before an accepted S or L.
-fn record_len(session: Session, current: CurrentAnswer, letter: u8) -> usize
+fn record_len(session: Session, current: Option<LaidFigures>, letter: u8) -> usize
     requires { Current (last_figures session.figures) current }
     ensures len { result ≡ or_zero (record_len (session_of session) letter) }
     ensures most { result ≤ max_record }
@@ -133,45 +123,45 @@ fn record_len(session: Session, current: CurrentAnswer, letter: u8) -> usize
 }
 
 // m starts and K bytes.
-fn write_len(figures: LastFigures, current: CurrentAnswer) -> usize
+fn write_len(figures: Option<Figures>, current: Option<LaidFigures>) -> usize
     requires { Current (last_figures figures) current }
     ensures { result ≡ or_zero (write_len (currentOf (last_figures figures))) }
 {
-    let CurrentAnswer::Laid(_, layout) = current else {
+    let Some(laid) = current else {
         return 0;
     };
+    let layout = laid.layout;
     HEAD_LEN + 2 * layout.m + bytes::payload_len(layout.q, layout.message_len)
 }
 
 // n bytes.
-fn read_len(figures: LastFigures, current: CurrentAnswer) -> usize
+fn read_len(figures: Option<Figures>, current: Option<LaidFigures>) -> usize
     requires { Current (last_figures figures) current }
     ensures { result ≡ or_zero (read_len (currentOf (last_figures figures))) }
 {
-    let CurrentAnswer::Laid(_, layout) = current else {
+    let Some(laid) = current else {
         return 0;
     };
-    HEAD_LEN + layout.n
+    HEAD_LEN + laid.layout.n
 }
 
 // The last accepted figures and their layout.
-pub fn current(figures: LastFigures) -> CurrentAnswer
+pub fn current(figures: Option<Figures>) -> Option<LaidFigures>
     ensures { Current (last_figures figures) result }
 {
     match figures {
-        LastFigures::Missing => CurrentAnswer::Missing,
-        LastFigures::Accepted(given) => laid(given),
+        None => None,
+        Some(given) => laid(given),
     }
 }
 
 // The same of figures that were accepted.
-fn laid(figures: Figures) -> CurrentAnswer
+fn laid(figures: Figures) -> Option<LaidFigures>
     ensures { Current (some figures) result }
 {
-    let answer = figures.layout();
-    match answer {
-        FiguresAnswer::Refused(_) => CurrentAnswer::Missing,
-        FiguresAnswer::Fit(layout) => CurrentAnswer::Laid(figures, layout),
+    match figures.layout() {
+        Err(_) => None,
+        Ok(layout) => Some(LaidFigures { figures, layout }),
     }
 }
 
@@ -180,12 +170,11 @@ pub fn needed(session: Session, waiting: &[u8]) -> usize
     ensures bytes { result ≡ needed_for (session_of session) waiting.now }
     ensures most { result ≤ max_record }
 {
-    let figures = session.figures;
-    needed_by(session, current(figures), waiting)
+    needed_by(session, current(session.figures), waiting)
 }
 
 // The same, with the last accepted figures already laid out.
-pub fn needed_by(session: Session, current: CurrentAnswer, waiting: &[u8]) -> usize
+pub fn needed_by(session: Session, current: Option<LaidFigures>, waiting: &[u8]) -> usize
     requires { Current (last_figures session.figures) current }
     ensures bytes { result ≡ needed_for (session_of session) waiting.now }
     ensures most { result ≤ max_record }
@@ -201,12 +190,11 @@ pub fn needed_by(session: Session, current: CurrentAnswer, waiting: &[u8]) -> us
 pub fn is_readable(session: Session, received: &[u8]) -> bool
     ensures { result ≡ readable (session_of session) received.now }
 {
-    let figures = session.figures;
-    is_readable_by(session, current(figures), received)
+    is_readable_by(session, current(session.figures), received)
 }
 
 // The same, with the last accepted figures already laid out.
-pub fn is_readable_by(session: Session, current: CurrentAnswer, received: &[u8]) -> bool
+pub fn is_readable_by(session: Session, current: Option<LaidFigures>, received: &[u8]) -> bool
     requires { Current (last_figures session.figures) current }
     ensures { result ≡ readable (session_of session) received.now }
 {
@@ -218,7 +206,7 @@ pub fn is_readable_by(session: Session, current: CurrentAnswer, received: &[u8])
 }
 
 // How many bytes the record has that begins with these; 0 where mark and letter are not there yet, and where no record begins with them.
-fn begun_len(session: Session, current: CurrentAnswer, received: &[u8]) -> usize
+fn begun_len(session: Session, current: Option<LaidFigures>, received: &[u8]) -> usize
     requires { Current (last_figures session.figures) current }
     ensures len { result ≡ or_zero (begun_len (session_of session) received.now) }
     ensures most { result ≤ max_record }
