@@ -16,7 +16,7 @@ use Rattle.combinatorics.proofs.Bursts.{rank-of-starts}
 use Rattle.cells.specs.Outcomes.{Coding, held, in_use, defect_at, unserved, figures_under, Covered, unplaced, cover_under}
 use Rattle.cells.proofs.Outcomes.{refused-alike}
 use Rattle.cells.specs.Figures.{max_bursts}
-use Rattle.std.specs.Prelude.{Result, Ok}
+use Rattle.std.specs.Prelude.{Result}
 use Rattle.refusals.specs.declared.Refusal.{Refusal}
 use Rattle.placements.specs.declared.Placement.{Placement}
 use Rattle.placements.specs.Bridge.{coverable, cover_within, covered_as as found_as, Room}

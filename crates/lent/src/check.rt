@@ -22,6 +22,7 @@ pub fn verify(figures: Figures, starts: &[u8], message: &[u8], word: &[u8]) -> u
     }
 }
 
+// The same as a Result.
 fn try_verify(figures: Figures, starts: &[u8], message: &[u8], word: &[u8]) -> Result<bool, Refusal>
     ensures { verdict_as result ≡ verify_bytes_under (coding_of figures) starts.now message.now word.now }
 {

@@ -18,6 +18,7 @@ pub fn figures(figures: Figures, out: &mut [u64]) -> u8
     refusals::answer(put_figures(figures, out))
 }
 
+// The same as a Result.
 fn put_figures(figures: Figures, out: &mut [u64]) -> Result<(), Refusal>
     ensures { figures_lent (answer_of result) out.new ≡ figures_lent_under (coding_of figures) out.old }
 {
@@ -25,9 +26,11 @@ fn put_figures(figures: Figures, out: &mut [u64]) -> Result<(), Refusal>
     if out.len() != FIGURES {
         return Err(Refusal::Length);
     }
-    out[0] = layout.placement_count();
-    out[1] = layout.index_tail() as u64;
-    out[2] = layout.message_len as u64;
-    out[3] = bytes::payload_len(layout.q, layout.message_len) as u64;
+    out.copy_from_slice(&[
+        layout.placement_count(),
+        layout.index_tail() as u64,
+        layout.message_len as u64,
+        bytes::payload_len(layout.q, layout.message_len) as u64,
+    ]);
     Ok(())
 }

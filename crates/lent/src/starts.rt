@@ -16,10 +16,7 @@ use refusals::Refusal;
 pub fn placement_from(bytes: &[u8], m: u32) -> Placement
     ensures { held_as result ≡ placement_from m bytes.now }
 {
-    if Params::MAX_BURSTS < m {
-        return Placement::none();
-    }
-    if bytes.len() != 2 * m as usize {
+    if Params::MAX_BURSTS < m || bytes.len() != 2 * m as usize {
         return Placement::none();
     }
     placements::starts::placement_at(bytes, 0, m as usize)
@@ -39,6 +36,7 @@ pub fn cover_bytes(figures: Figures, map: &[u8], bytes: &mut [u8]) -> u8
     refusals::answer(try_cover(figures, map, bytes))
 }
 
+// The same as a Result.
 fn try_cover(figures: Figures, map: &[u8], bytes: &mut [u8]) -> Result<(), Refusal>
     ensures { cover_lent (answer_of result) bytes.new ≡ cover_bytes_under (coding_of figures) map.now bytes.old }
 {

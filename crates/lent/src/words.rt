@@ -18,6 +18,7 @@ pub fn encode(figures: Figures, starts: &[u8], message: &[u8], word: &mut [u8]) 
     refusals::answer(try_encode(figures, starts, message, word))
 }
 
+// The same as a Result.
 fn try_encode(
     figures: Figures,
     starts: &[u8],
@@ -42,6 +43,7 @@ pub fn decode(figures: Figures, word: &[u8], message: &mut [u8], starts: &mut [u
     refusals::answer(try_decode(figures, word, message, starts))
 }
 
+// The same as a Result.
 fn try_decode(
     figures: Figures,
     word: &[u8],

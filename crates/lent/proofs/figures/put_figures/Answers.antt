@@ -11,7 +11,7 @@ use Rattle.codes.specs.Given.{HasNumbers}
 use Rattle.codes.proofs.Answered.{laid-learnt}
 use Rattle.params.specs.Answer.{Small}
 use Rattle.lent.specs.Figures.{figures_lent}
-use Rattle.lent.proofs.FiguresLaws.{lent-unfit, lent_length, lent-served, layout-set}
+use Rattle.lent.proofs.FiguresLaws.{lent-unfit, lent_length, lent-served, layout-numbers}
 use Rattle.lent.proofs.figures.put_figures.Goals as goal
 use Rattle.lent.proofs.figures.put_figures.Goals.{In_ok-layout, Start}
 
@@ -39,10 +39,9 @@ payload_len-requires c =
 
 pub returns : goal.returns
 returns c =
-    let size = c.if-out-ne-FIGURES.false in
     let is = learnt (goal.at.returns c).In_ok-layout in
     ap (figures_lent served)
-    (layout-set (d (goal.at.returns c).Start) c.in_ok-layout.layout is.2 c.args.out.now size c.placement_count.result
-    c.index_tail.result c.payload_len.result c.placement_count.ensures c.index_tail.ensures
-    c.payload_len.ensures)
-    ∙ sym (lent-served (d (goal.at.returns c).Start) c.args.out.now is.0 is.1 size)
+    (c.copy_from_slice.ensures.after
+    ∙ layout-numbers (d (goal.at.returns c).Start) c.in_ok-layout.layout is.2 c.placement_count.result c.index_tail.result c.payload_len.result
+    c.placement_count.ensures c.index_tail.ensures c.payload_len.ensures)
+    ∙ sym (lent-served (d (goal.at.returns c).Start) c.args.out.now is.0 is.1 c.if-out-ne-FIGURES.false)
