@@ -28,9 +28,9 @@ use Rattle.payloads.specs.Payload.{job_number}
 use Rattle.jobcodec.specs.DemandThree.{Claim}
 use Rattle.jobcodec.specs.JobRead.{JobRead, job_read_under}
 use Rattle.jobcodec.proofs.DemandThree.{follows-figures}
-use Rattle.exports.specs.Follows.{answers_on, bytes_after}
+use Rattle.lent_jobs.specs.Follows.{answers_on, bytes_after}
 use Rattle.lent_jobs.specs.Table.{table_in}
-use Rattle.exports.proofs.Follows.{bytes_left, bytes-follow}
+use Rattle.lent_jobs.proofs.Follows.{bytes_left, bytes-follow}
 use Rattle.lent_jobs.proofs.JobLaws.{read_whole}
 use Rattle.records.specs.Session.{Session, at_start, max_records, next_session}
 use Rattle.lines.specs.Lines.{refusal_line, letter_s, letter_l, letter_w, letter_r}

@@ -15,7 +15,7 @@ use Rattle.ledger.specs.Simulation.{Start}
 use Rattle.payloads.specs.Payload.{job_number}
 use Rattle.jobcodec.specs.DemandThree.{Claim}
 use Rattle.jobcodec.specs.JobRead.{JobRead}
-use Rattle.exports.specs.Follows.{answers_on, bytes_after, has32_bits}
+use Rattle.lent_jobs.specs.Follows.{answers_on, bytes_after, has32_bits}
 use Rattle.lent_jobs.specs.Jobs.{job_read_bytes_under}
 use Rattle.lent_jobs.specs.Table.{TableOf}
 use Rattle.lines.specs.Lines.{refusal_line, letter_s, letter_l, letter_r}

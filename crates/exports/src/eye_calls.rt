@@ -11,7 +11,8 @@ use params::Params;
 
 // Transposing: the eye that four values are, with the other sign of its cylinder; kind and axis into `marks`, sphere and cylinder into `powers`.
 // Refusals: 3 16.
-pub fn burgzemi_transpose(
+#[unsafe(no_mangle)]
+pub extern "C" fn burgzemi_transpose(
     kind: u8,
     sphere: f64,
     cylinder: f64,
@@ -27,7 +28,8 @@ pub fn burgzemi_transpose(
 }
 
 // The spherical equivalent of the eye that four values are. Refusals: 3 16.
-pub fn burgzemi_spherical_equivalent(
+#[unsafe(no_mangle)]
+pub extern "C" fn burgzemi_spherical_equivalent(
     kind: u8,
     sphere: f64,
     cylinder: f64,
@@ -42,7 +44,8 @@ pub fn burgzemi_spherical_equivalent(
 
 // Prescription write: the word of a placement, a job number that the table has open and the prescription of both eyes and the pupil distance.
 // Refusals: 1 2 10 3 5 16 17 12 23 14.
-pub fn burgzemi_prescription_write(
+#[unsafe(no_mangle)]
+pub extern "C" fn burgzemi_prescription_write(
     n: u32,
     q: u32,
     m: u32,
@@ -86,7 +89,8 @@ pub fn burgzemi_prescription_write(
 
 // Prescription read: the job number, and kinds and axes of both eyes, into `marks`; the powers of both eyes and the pupil distance into `powers`.
 // Refusals: 1 2, 10 for K, 3 4 7 19 8 9 19, 10, 16, 12 23 14.
-pub fn burgzemi_prescription_read(
+#[unsafe(no_mangle)]
+pub extern "C" fn burgzemi_prescription_read(
     n: u32,
     q: u32,
     m: u32,

@@ -22,14 +22,16 @@ use lent_prescriptions::prescriptions;
 use params::Params;
 
 // Figures alone: T, R, k and K, four numbers. Refusals: 1 2 3.
-pub fn burgzemi_larsson_figures(n: u32, q: u32, m: u32, b: u32, figures: &mut [u64]) -> u8
+#[unsafe(no_mangle)]
+pub extern "C" fn burgzemi_larsson_figures(n: u32, q: u32, m: u32, b: u32, figures: &mut [u64]) -> u8
     ensures { figures_lent result figures.new ≡ figures_lent_under (coding (params n q m b)) figures.old }
 {
     figures::figures(Figures::Larsson(Params { n, q, m, b }), figures)
 }
 
 // Word write: the word of a placement, whose starts are 2 bytes each and the high byte first, and of a message. Refusals: 1 2 3 5 4.
-pub fn burgzemi_larsson_encode(
+#[unsafe(no_mangle)]
+pub extern "C" fn burgzemi_larsson_encode(
     n: u32,
     q: u32,
     m: u32,
@@ -50,7 +52,8 @@ pub fn burgzemi_larsson_encode(
 }
 
 // Word read: the message, and the starts of the bursts. Refusals: 1 2 3 4 21 8 9 19.
-pub fn burgzemi_larsson_decode(
+#[unsafe(no_mangle)]
+pub extern "C" fn burgzemi_larsson_decode(
     n: u32,
     q: u32,
     m: u32,
@@ -71,7 +74,8 @@ pub fn burgzemi_larsson_decode(
 }
 
 // The check of a word against a placement and a message: 0 where it agrees, 255 where it doesn't. Refusals: 1 2 3 5 4.
-pub fn burgzemi_larsson_verify(
+#[unsafe(no_mangle)]
+pub extern "C" fn burgzemi_larsson_verify(
     n: u32,
     q: u32,
     m: u32,
@@ -91,14 +95,16 @@ pub fn burgzemi_larsson_verify(
 }
 
 // Covering: the starts of the placement of least rank that covers the defect map. Refusals: 1 2 3 4 6.
-pub fn burgzemi_larsson_cover(n: u32, q: u32, m: u32, b: u32, map: &[u8], starts: &mut [u8]) -> u8
+#[unsafe(no_mangle)]
+pub extern "C" fn burgzemi_larsson_cover(n: u32, q: u32, m: u32, b: u32, map: &[u8], starts: &mut [u8]) -> u8
     ensures { cover_lent result starts.new ≡ cover_bytes_under (coding (params n q m b)) map.now starts.old }
 {
     starts::cover_bytes(Figures::Larsson(Params { n, q, m, b }), map, starts)
 }
 
 // Job write: the word of a placement and a payload whose job the table has open; number 0 is no job. Refusals: 1 2 10 3 5 17 12 23 14.
-pub fn burgzemi_larsson_job_write(
+#[unsafe(no_mangle)]
+pub extern "C" fn burgzemi_larsson_job_write(
     n: u32,
     q: u32,
     m: u32,
@@ -121,7 +127,8 @@ pub fn burgzemi_larsson_job_write(
 }
 
 // Job read: the payload of a found word whose job the table has open. Refusals: 1 2, 10 for K, 3 4 21 8 9 19, 10, 12 23 14.
-pub fn burgzemi_larsson_job_read(
+#[unsafe(no_mangle)]
+pub extern "C" fn burgzemi_larsson_job_read(
     n: u32,
     q: u32,
     m: u32,
@@ -142,7 +149,8 @@ pub fn burgzemi_larsson_job_read(
 }
 
 // Words to the strip: `depth` words of n symbols, one after another, side by side. Refusals: 1 2 18 3 4.
-pub fn burgzemi_larsson_interleave(
+#[unsafe(no_mangle)]
+pub extern "C" fn burgzemi_larsson_interleave(
     n: u32,
     q: u32,
     m: u32,
@@ -157,7 +165,8 @@ pub fn burgzemi_larsson_interleave(
 }
 
 // The strip to words, one after another. Refusals: 1 2 18 3 4.
-pub fn burgzemi_larsson_deinterleave(
+#[unsafe(no_mangle)]
+pub extern "C" fn burgzemi_larsson_deinterleave(
     n: u32,
     q: u32,
     m: u32,
@@ -173,7 +182,8 @@ pub fn burgzemi_larsson_deinterleave(
 
 // Prescription write: the word of a placement, a job number that the table has open and the prescription of both eyes and the pupil distance.
 // Refusals: 1 2 10 3 5 16 17 12 23 14.
-pub fn burgzemi_larsson_prescription_write(
+#[unsafe(no_mangle)]
+pub extern "C" fn burgzemi_larsson_prescription_write(
     n: u32,
     q: u32,
     m: u32,
@@ -217,7 +227,8 @@ pub fn burgzemi_larsson_prescription_write(
 
 // Prescription read: the job number, and kinds and axes of both eyes, into `marks`; the powers of both eyes and the pupil distance into `powers`.
 // Refusals: 1 2, 10 for K, 3 4 21 8 9 19, 10, 16, 12 23 14.
-pub fn burgzemi_larsson_prescription_read(
+#[unsafe(no_mangle)]
+pub extern "C" fn burgzemi_larsson_prescription_read(
     n: u32,
     q: u32,
     m: u32,

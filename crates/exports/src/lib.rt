@@ -1,5 +1,5 @@
 // The entry points for programs in other languages, on numbers and lent bytes, numbers and floats. Each answers 0 or the refusal, which leaves every lent
-// buffer as it was; the check of a word has 255 for "no" besides. `exports_c` is the archive that C links. Assumes nothing.
+// buffer as it was; the check of a word has 255 for "no" besides. C links the archive of this crate. Assumes nothing.
 #![tactic(auto)]
 
 ghost use Rattle.std.specs.Prelude.{◌≡◌};
@@ -19,21 +19,23 @@ use lent::{check, figures, starts, words};
 use lent_jobs::job;
 use params::Params;
 
-pub mod calls;
-pub mod eye_calls;
-pub mod larsson_code;
-pub mod long;
-pub mod moves;
+mod calls;
+mod eye_calls;
+mod larsson_code;
+mod long;
+mod moves;
 
 // Figures alone: T, r, k and K, four numbers. Refusals: 1 2 3.
-pub fn burgzemi_figures(n: u32, q: u32, m: u32, b: u32, figures: &mut [u64]) -> u8
+#[unsafe(no_mangle)]
+pub extern "C" fn burgzemi_figures(n: u32, q: u32, m: u32, b: u32, figures: &mut [u64]) -> u8
     ensures { figures_lent result figures.new ≡ figures_lent_under (coding (params n q m b)) figures.old }
 {
     figures::figures(Figures::Ranked(Params { n, q, m, b }), figures)
 }
 
 // Word read: the message, and the starts of the bursts, 2 bytes each and the high byte first. Refusals: 1 2 3 4 7 19 8 9 19.
-pub fn burgzemi_decode(
+#[unsafe(no_mangle)]
+pub extern "C" fn burgzemi_decode(
     n: u32,
     q: u32,
     m: u32,
@@ -54,7 +56,8 @@ pub fn burgzemi_decode(
 }
 
 // Word write: the word of a placement, whose starts are 2 bytes each and the high byte first, and of a message. Refusals: 1 2 3 5 4.
-pub fn burgzemi_encode(
+#[unsafe(no_mangle)]
+pub extern "C" fn burgzemi_encode(
     n: u32,
     q: u32,
     m: u32,
@@ -75,7 +78,8 @@ pub fn burgzemi_encode(
 
 // The check of a word against a placement and a message: 0 where it agrees outside the bursts with the word that they give, 255 where it doesn't.
 // Refusals: 1 2 3 5 4.
-pub fn burgzemi_verify(
+#[unsafe(no_mangle)]
+pub extern "C" fn burgzemi_verify(
     n: u32,
     q: u32,
     m: u32,
@@ -95,14 +99,16 @@ pub fn burgzemi_verify(
 }
 
 // Covering: the starts of the placement of least rank that covers the defect map. Refusals: 1 2 3 4 6.
-pub fn burgzemi_cover(n: u32, q: u32, m: u32, b: u32, map: &[u8], starts: &mut [u8]) -> u8
+#[unsafe(no_mangle)]
+pub extern "C" fn burgzemi_cover(n: u32, q: u32, m: u32, b: u32, map: &[u8], starts: &mut [u8]) -> u8
     ensures { cover_lent result starts.new ≡ cover_bytes_out (params n q m b) map.now starts.old }
 {
     starts::cover_bytes(Figures::Ranked(Params { n, q, m, b }), map, starts)
 }
 
 // Job write: the word of a placement and a payload whose job the table has open; number 0 is no job. Refusals: 1 2 10 3 5 17 12 23 14.
-pub fn burgzemi_job_write(
+#[unsafe(no_mangle)]
+pub extern "C" fn burgzemi_job_write(
     n: u32,
     q: u32,
     m: u32,
@@ -125,7 +131,8 @@ pub fn burgzemi_job_write(
 }
 
 // Job read: the payload of a found word whose job the table has open. Refusals: 1 2, 10 for K, 3 4 7 19 8 9 19, 10, 12 23 14.
-pub fn burgzemi_job_read(
+#[unsafe(no_mangle)]
+pub extern "C" fn burgzemi_job_read(
     n: u32,
     q: u32,
     m: u32,
@@ -140,7 +147,8 @@ pub fn burgzemi_job_read(
 }
 
 // Words to the strip: `depth` words of n symbols, one after another, side by side. Refusals: 1 2 18 3 4.
-pub fn burgzemi_interleave(
+#[unsafe(no_mangle)]
+pub extern "C" fn burgzemi_interleave(
     n: u32,
     q: u32,
     m: u32,
@@ -155,7 +163,8 @@ pub fn burgzemi_interleave(
 }
 
 // The strip to words, one after another. Refusals: 1 2 18 3 4.
-pub fn burgzemi_deinterleave(
+#[unsafe(no_mangle)]
+pub extern "C" fn burgzemi_deinterleave(
     n: u32,
     q: u32,
     m: u32,

@@ -22,14 +22,16 @@ use lent_prescriptions::prescriptions;
 use params::long::LongParams;
 
 // Figures alone: T, r, k and K, four numbers. Refusals: 1 2 3.
-pub fn burgzemi_long_figures(n: u32, q: u32, b: u32, figures: &mut [u64]) -> u8
+#[unsafe(no_mangle)]
+pub extern "C" fn burgzemi_long_figures(n: u32, q: u32, b: u32, figures: &mut [u64]) -> u8
     ensures { figures_lent result figures.new ≡ figures_lent_under (coding (long_params n q b)) figures.old }
 {
     figures::figures(Figures::Long(LongParams { n, q, b }), figures)
 }
 
 // Word write: the word of a placement, whose start is 2 bytes and the high byte first, and of a message. Refusals: 1 2 3 5 4.
-pub fn burgzemi_long_encode(
+#[unsafe(no_mangle)]
+pub extern "C" fn burgzemi_long_encode(
     n: u32,
     q: u32,
     b: u32,
@@ -44,7 +46,8 @@ pub fn burgzemi_long_encode(
 }
 
 // Word read: the message, and the start of the burst. Refusals: 1 2 3 4 7 19 8 9 19.
-pub fn burgzemi_long_decode(
+#[unsafe(no_mangle)]
+pub extern "C" fn burgzemi_long_decode(
     n: u32,
     q: u32,
     b: u32,
@@ -59,21 +62,24 @@ pub fn burgzemi_long_decode(
 }
 
 // The check of a word against a placement and a message: 0 where it agrees, 255 where it doesn't. Refusals: 1 2 3 5 4.
-pub fn burgzemi_long_verify(n: u32, q: u32, b: u32, start: &[u8], message: &[u8], word: &[u8]) -> u8
+#[unsafe(no_mangle)]
+pub extern "C" fn burgzemi_long_verify(n: u32, q: u32, b: u32, start: &[u8], message: &[u8], word: &[u8]) -> u8
     ensures { result ≡ verdict_number (verify_bytes_under (coding (long_params n q b)) start.now message.now word.now) }
 {
     check::verify(Figures::Long(LongParams { n, q, b }), start, message, word)
 }
 
 // Covering: the start of the placement of least rank that covers the defect map. Refusals: 1 2 3 4 6.
-pub fn burgzemi_long_cover(n: u32, q: u32, b: u32, map: &[u8], start: &mut [u8]) -> u8
+#[unsafe(no_mangle)]
+pub extern "C" fn burgzemi_long_cover(n: u32, q: u32, b: u32, map: &[u8], start: &mut [u8]) -> u8
     ensures { cover_lent result start.new ≡ cover_bytes_under (coding (long_params n q b)) map.now start.old }
 {
     starts::cover_bytes(Figures::Long(LongParams { n, q, b }), map, start)
 }
 
 // Job write: the word of a placement and a payload whose job the table has open; number 0 is no job. Refusals: 1 2 10 3 5 17 12 23 14.
-pub fn burgzemi_long_job_write(
+#[unsafe(no_mangle)]
+pub extern "C" fn burgzemi_long_job_write(
     n: u32,
     q: u32,
     b: u32,
@@ -95,7 +101,8 @@ pub fn burgzemi_long_job_write(
 }
 
 // Job read: the payload of a found word whose job the table has open. Refusals: 1 2, 10 for K, 3 4 7 19 8 9 19, 10, 12 23 14.
-pub fn burgzemi_long_job_read(
+#[unsafe(no_mangle)]
+pub extern "C" fn burgzemi_long_job_read(
     n: u32,
     q: u32,
     b: u32,
@@ -110,7 +117,8 @@ pub fn burgzemi_long_job_read(
 }
 
 // Words to the strip: `depth` words of n symbols, one after another, side by side. Refusals: 1 2 18 3 4.
-pub fn burgzemi_long_interleave(
+#[unsafe(no_mangle)]
+pub extern "C" fn burgzemi_long_interleave(
     n: u32,
     q: u32,
     b: u32,
@@ -124,7 +132,8 @@ pub fn burgzemi_long_interleave(
 }
 
 // The strip to words, one after another. Refusals: 1 2 18 3 4.
-pub fn burgzemi_long_deinterleave(
+#[unsafe(no_mangle)]
+pub extern "C" fn burgzemi_long_deinterleave(
     n: u32,
     q: u32,
     b: u32,
@@ -139,7 +148,8 @@ pub fn burgzemi_long_deinterleave(
 
 // Prescription write: the word of a placement, a job number that the table has open and the prescription of both eyes and the pupil distance.
 // Refusals: 1 2 10 3 5 16 17 12 23 14.
-pub fn burgzemi_long_prescription_write(
+#[unsafe(no_mangle)]
+pub extern "C" fn burgzemi_long_prescription_write(
     n: u32,
     q: u32,
     b: u32,
@@ -182,7 +192,8 @@ pub fn burgzemi_long_prescription_write(
 
 // Prescription read: the job number, and kinds and axes of both eyes, into `marks`; the powers of both eyes and the pupil distance into `powers`.
 // Refusals: 1 2, 10 for K, 3 4 7 19 8 9 19, 10, 16, 12 23 14.
-pub fn burgzemi_long_prescription_read(
+#[unsafe(no_mangle)]
+pub extern "C" fn burgzemi_long_prescription_read(
     n: u32,
     q: u32,
     b: u32,

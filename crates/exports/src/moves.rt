@@ -8,7 +8,8 @@ use params::Params;
 
 // Moves the job of an older strip, which the table has open, to a strip of Construction A with the same figures and placement.
 // Refusals: 1 2 10 3 4 21 8 9 19 10, 12 23 14, 22, 17.
-pub fn burgzemi_move_to_a(
+#[unsafe(no_mangle)]
+pub extern "C" fn burgzemi_move_to_a(
     n: u32,
     q: u32,
     m: u32,
@@ -23,7 +24,8 @@ pub fn burgzemi_move_to_a(
 }
 
 // Moves the job of a strip of Construction A back to an older one. Refusals: 1 2 10 3 4 7 19 8 9 19 10, 12 23 14, 22, 17.
-pub fn burgzemi_move_to_larsson(
+#[unsafe(no_mangle)]
+pub extern "C" fn burgzemi_move_to_larsson(
     n: u32,
     q: u32,
     m: u32,

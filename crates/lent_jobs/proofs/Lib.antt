@@ -3,3 +3,4 @@ pub mod TableBack
 pub mod CallLaws
 pub mod WithTable
 pub mod JobLaws
+pub mod Follows

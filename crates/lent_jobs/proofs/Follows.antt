@@ -25,7 +25,7 @@ use Rattle.lent_jobs.specs.Table.{number_fits, IsTable, TableOf}
 use Rattle.lent_jobs.proofs.TableBack.{table-back, empty-bytes, empty-table}
 use Rattle.lent_jobs.specs.Calls.{CallLent, called_as}
 use Rattle.lent_jobs.proofs.CallLaws.{as_called}
-use Rattle.exports.specs.Follows.{call_on, answers_on, bytes_after, EmptyBytes, has32_bits, BytesFollow}
+use Rattle.lent_jobs.specs.Follows.{call_on, answers_on, bytes_after, EmptyBytes, has32_bits, BytesFollow}
 
 -- ---- A call leaves a table, and a refused one the table that it found
 
