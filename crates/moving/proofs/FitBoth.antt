@@ -3,7 +3,7 @@ use mathlib.Core.Path.{◌≡◌, sym, ap, ap₂, ◌∙◌}
 use mathlib.Core.Logic.{◌≢◌}
 use mathlib.Core.Bool.{Bool, true, false, ◌&&◌}
 use mathlib.Core.List.{List}
-use Prim.Native.Nat.{ℕ, suc, ◌≤◌, ◌<◌}
+use Prim.Native.Nat.{ℕ, ◌≤◌, ◌<◌}
 use native.Mathlib.Omega.{arith}
 use lib.Dec.{eqb}
 use lib.ListN.{length}
@@ -13,9 +13,6 @@ use Rattle.combinatorics.proofs.Cases.{eqb_same, eqb-other, leb-holds, leb-fails
 use Rattle.cells.specs.Bytes.{payload_len}
 use Rattle.cells.specs.Outcomes.{Coding, FiguresOut, figured, unserved, figures_number, figures_under, Encoded, unwritten}
 use Rattle.codes.specs.declared.WordLayout.{WordLayout}
-use Rattle.codes.specs.declared.FiguresAnswer.{FiguresAnswer}
-use Rattle.codes.specs.declared.FiguresAnswer.TheVariants.{Refused}
-use Rattle.codes.specs.Answer.{figured_as}
 use Rattle.codes.specs.Given.{coding_in, Serves}
 use Rattle.codes.proofs.Layouts.{in_order, numbers-in, bound, under-layout}
 use Rattle.codes.proofs.Exact.{placed-is}
@@ -61,14 +58,6 @@ module _ (refuse : ℕ → Encoded) (rest : Encoded) (a : ℕ) where
   second-refuses true false true t r k e = ap refuse (ap figures_number e)
   second-refuses true false false t r k e = ap refuse (ap figures_number e)
   second-refuses true true s t r k e = no-refusal t r k e
-
--- of a refusal and the other's answer
-module _ (a b : ℕ) (r : FiguresAnswer) (is : r ≡ Refused b) where
-  pub other-first : b < a → b ≡ first_refusal a (figured_as r)
-  other-first l = rw (is, leb-holds (suc b) a (omega arith))
-
-  pub own_first : a ≤ b → a ≡ first_refusal a (figured_as r)
-  own_first l = rw (is, leb-fails (suc b) a (omega arith))
 
 module _ (d e : Coding) (strip moved a : ℕ) (refuse : ℕ → Encoded) (rest : Encoded) where
   -- the code of the strip that is read

@@ -1,13 +1,14 @@
 -- What the figures of two codes answer. Assumes nothing.
-use Rattle.std.specs.Prelude.{◌≡◌, ◌&&◌, ℕ, ltb, eqb}
+use Rattle.std.specs.Prelude.{◌≡◌, ◌&&◌, Result, Ok, Err, ℕ, ltb, eqb}
 use Rattle.refusals.specs.Refusals.{must, invalid, unfit, wrong_length, bad_payload}
+use Rattle.refusals.specs.declared.Refusal.{Refusal}
+use Rattle.refusals.specs.Numbers.{number_of}
 use Rattle.cells.specs.Outcomes.{Coding, FiguresOut, figured, unserved, Encoded}
 use Rattle.payloads.specs.Payload.{carries_job}
+use Rattle.codes.specs.declared.WordLayout.{WordLayout}
 use Rattle.codes.specs.Given.{coding_in}
 use Rattle.moving.specs.Given.{BothReady}
 use Rattle.moving.specs.Move.{same_figures}
-use Rattle.moving.specs.declared.both.BothAnswer.{BothAnswer}
-use Rattle.moving.specs.declared.both.BothAnswer.TheVariants.{Fit, Refused}
 
 -- "10 3", and on
 abbrev pub after_fitting : Coding → Coding → ℕ → ℕ → (ℕ → Encoded) → Encoded → Encoded
@@ -29,6 +30,6 @@ first_refusal a (figured t r k) = a
 first_refusal a (unserved b) = must (ltb b a) a b
 
 -- every order that begins so ends in the refusal, or is past all four
-abbrev pub BothIn : Coding → Coding → ℕ → ℕ → BothAnswer → Type 0
-BothIn d e strip moved (Fit from to) = (coding_in from ≡ d) × (coding_in to ≡ e) × BothReady from to strip moved
-BothIn d e strip moved (Refused a) = (refuse : ℕ → Encoded) (rest : Encoded) → from_figures d e strip moved refuse rest ≡ refuse a
+abbrev pub BothIn : Coding → Coding → ℕ → ℕ → Result (WordLayout × WordLayout) Refusal → Type 0
+BothIn d e strip moved (Ok x) = (coding_in x.0 ≡ d) × (coding_in x.1 ≡ e) × BothReady x.0 x.1 strip moved
+BothIn d e strip moved (Err r) = (refuse : ℕ → Encoded) (rest : Encoded) → from_figures d e strip moved refuse rest ≡ refuse (number_of r)

@@ -1,5 +1,6 @@
 // Moving a strip there and back, with damage in between, as one function on lent strips. Assumes nothing.
 ghost use Rattle.std.specs.Prelude.{◌≡◌};
+ghost use Rattle.refusals.specs.Numbers.{answer_of};
 ghost use Rattle.codes.specs.Bridge.{coding_of};
 ghost use Rattle.placements.specs.Bridge.{starts_in};
 ghost use Rattle.jobs.specs.Slots.{entries};
@@ -13,7 +14,7 @@ use placements::Placement;
 use refusals::Refusal;
 
 // "There and back" run as code: moves the job of a strip of one code to a strip of another, puts any values into the bursts of a placement there, and moves
-// what is then found back under the same table. The refusal of the move that is refused, or 0. No entry point: the damage has a symbol for each position of the
+// what is then found back under the same table. The refusal is that of the move that is refused. No entry point: the damage has a symbol for each position of the
 // strip in between.
 pub fn move_there_and_back(
     from: Figures,
@@ -24,18 +25,15 @@ pub fn move_there_and_back(
     damage: &[u8],
     between: &mut [u8],
     back: &mut [u8],
-) -> u8
+) -> Result<(), Refusal>
     requires { DamageLent at damage.now between.old }
-    ensures outcome { there_and_back_as result between.new back.new
+    ensures outcome { there_and_back_as (answer_of result) between.new back.new
         ≡ there_and_back_out (coding_of from) (coding_of to) (entries table) (starts_in at) strip.now damage.now between.old
         back.old }
     ensures returned { CameBack (coding_of from) (coding_of to) (entries table) (starts_in at) strip.now damage.now
-        between.old back.old result back.new }
+        between.old back.old (answer_of result) back.new }
 {
-    let refusal = move_strip(from, to, table, strip, between);
-    if refusal != Refusal::NONE {
-        return refusal;
-    }
+    move_strip(from, to, table, strip, between)?;
     roundtrip::spoil(at, to.burst_len(), damage, between);
     move_strip(to, from, table, between, back)
 }

@@ -7,7 +7,7 @@ use mathlib.Core.Option.{Option, none, some, none-ne-some}
 use Prim.Native.Nat.{ℕ, ◌<◌}
 use lib.Dec.{eqb}
 use lib.ListN.{length, drop}
-use Rattle.refusals.specs.Refusals.{must, served, invalid, wrong_length, bad_symbol, bad_payload, bad_prescription}
+use Rattle.refusals.specs.Refusals.{must, served, invalid, wrong_length, bad_symbol, bad_payload}
 use Rattle.combinatorics.specs.Lists.{all_below}
 use Rattle.combinatorics.proofs.Cases.{eqb-other}
 use Rattle.cells.specs.Bytes.{payload_len}
@@ -15,7 +15,8 @@ use Rattle.cells.specs.Outcomes.{Coding, unserved, figures_under, decode_under}
 use Rattle.codes.specs.Given.{coding_in, Serves}
 use Rattle.codes.proofs.Layouts.{in_order, numbers-in}
 use Rattle.codes.specs.declared.WordLayout.{WordLayout}
-use Rattle.decoder.specs.declared.WordAnswer.{WordAnswer}
+use Rattle.std.specs.Prelude.{Result}
+use Rattle.refusals.specs.declared.Refusal.{Refusal}
 use Rattle.decoder.specs.Answer.{answer_as}
 use Rattle.jobs.specs.declared.Entry.{Entry}
 use Rattle.jobs.specs.Jobs.{needs_open}
@@ -51,7 +52,7 @@ module _ (d : Coding) (es : List Entry) (w : List ℕ) where
   word-first r = rw (r.range, r.once, r.fit, r.carries)
 
   spelled-word : (ms ms' : List ℕ) → ReadyUnder d es → length ms ≡ d.codec.message_len_of
-      → (r said : WordAnswer) → r ≡ said → answer_as r ≡ spelled_answer d.codec.alphabet (length ms) (decode_under d w ms) → ms' ≡ (decode_under d w ms).message
+      → (r said : Result ℕ Refusal) → r ≡ said → answer_as r ≡ spelled_answer d.codec.alphabet (length ms) (decode_under d w ms) → ms' ≡ (decode_under d w ms).message
       → prescription_read_under d es w ≡ after_spelled refused (λ ds. of_payload es (payload_in d.codec.alphabet d.codec.message_len_of ds)) (answer_as said) ms'
   spelled-word ms ms' ready room r said is e lent =
       word-first ready
@@ -61,7 +62,7 @@ module _ (d : Coding) (es : List Entry) (w : List ℕ) where
 
 -- the same by the layout's own q
 pub read-spelled : (l : WordLayout) (g : Serves l) (es : List Entry) (w ms ms' : List ℕ) → ReadyUnder (coding_in l) es → length ms ≡ (coding_in l).codec.message_len_of
-    → (r said : WordAnswer) → r ≡ said → answer_as r ≡ spelled_answer l.q (length ms) (decode_under (coding_in l) w ms)
+    → (r said : Result ℕ Refusal) → r ≡ said → answer_as r ≡ spelled_answer l.q (length ms) (decode_under (coding_in l) w ms)
     → ms' ≡ (decode_under (coding_in l) w ms).message
     → prescription_read_under (coding_in l) es w ≡ after_spelled refused (λ ds. of_payload es (payload_in l.q (coding_in l).codec.message_len_of ds))
     (answer_as said) ms'
@@ -80,12 +81,12 @@ read-few l es w h count e few = let order = in_order l h.serves in rw (order.0, 
 -- ---- The prescription of a payload's text, and the table
 
 module _ (es : List Entry) (payload : List ℕ) where
-  pub no-prescription : (a : ℕ) → refused a ≡ read_text_out (drop number_len payload) → refused bad_prescription ≡ of_payload es payload
+  pub no-prescription : (a : ℕ) → refused a ≡ read_text_out (drop number_len payload) → refused a ≡ of_payload es payload
   unfolding read_text_out
   no-prescription a e = go (prescribed_in (drop number_len payload)) e
     where
-      go : (o : Option Prescribed) → refused a ≡ or_refused prescription_of o → refused bad_prescription ≡ hand_prescription es payload o
-      go none e = refl
+      go : (o : Option Prescribed) → refused a ≡ or_refused prescription_of o → refused a ≡ hand_prescription es payload o
+      go none e = ap (λ (r : Answered Prescription). refused r.number) e
       go (some x) e = absurd (none-ne-some (prescription_of x) (ap (λ (r : Answered Prescription). r.value) e))
 
   module _ (p : Prescription) (found : answered p ≡ read_text_out (drop number_len payload)) where

@@ -1,6 +1,8 @@
 -- What prescription read answers, for every input. No payload is lent: number and prescription are answered by value. Assumes nothing.
-use Rattle.std.specs.Prelude.{not, ◌&&◌, List, ℕ, eqb, length, drop}
+use Rattle.std.specs.Prelude.{not, ◌&&◌, List, ℕ, eqb, length, drop, Result, Ok, Err}
 use Rattle.std.proofs.Math.Option.{Option, none, some}
+use Rattle.refusals.specs.declared.Refusal.{Refusal}
+use Rattle.refusals.specs.Numbers.{number_of}
 use Rattle.refusals.specs.Refusals.{must, invalid, unfit, wrong_length, bad_symbol, bad_payload, bad_prescription}
 use Rattle.combinatorics.specs.Lists.{all_below}
 use Rattle.cells.specs.Codec.{Codec, Reading, accepted}
@@ -14,8 +16,6 @@ use Rattle.prescription.specs.declared.texts.Prescription.{Prescription}
 use Rattle.prescription.specs.Eyes.{Prescribed, prescription_of}
 use Rattle.prescription.specs.Stored.{prescribed_in}
 use Rattle.prescription.specs.Outcomes.{Answered, answered, refused}
-use Rattle.prescriptioncodec.specs.declared.ReadAnswer.{ReadAnswer}
-use Rattle.prescriptioncodec.specs.declared.ReadAnswer.TheVariants.{Handed, Refused}
 use Rattle.prescriptioncodec.specs.PrescriptionWrite.{number_len}
 
 -- the job's number and its prescription
@@ -57,6 +57,6 @@ prescription_read_under d es w =
 
 -- ---- What an answer says, case by case: 0, the number and the prescription, or the refusal
 
-abbrev pub read_answered : ReadAnswer → Answered HandedOut
-read_answered (Handed n p) = answered (record { number = n; prescription = p })
-read_answered (Refused a) = refused a
+abbrev pub read_answered : Result (ℕ × Prescription) Refusal → Answered HandedOut
+read_answered (Ok x) = answered (record { number = x.0; prescription = x.1 })
+read_answered (Err r) = refused (number_of r)

@@ -2,6 +2,7 @@
 #![tactic(auto)]
 
 ghost use Rattle.std.specs.Prelude.{◌≡◌, ◌≤◌, length};
+ghost use Rattle.refusals.specs.Numbers.{answer_of};
 ghost use Rattle.cells.specs.Outcomes.{unwritten};
 ghost use Rattle.codes.specs.Bridge.{coding_of};
 ghost use Rattle.codes.specs.Given.{coding_in};
@@ -13,8 +14,7 @@ ghost use Rattle.prescription.specs.Eyes.{prescribed_of};
 ghost use Rattle.prescriptioncodec.specs.PrescriptionRead.{of_payload, prescription_read_under, read_answered};
 ghost use Rattle.prescriptioncodec.specs.PrescriptionWrite.{as_job, prescription_write_under};
 
-use codes::{Figures, FiguresAnswer, WordLayout};
-use decoder::WordAnswer;
+use codes::{Figures, WordLayout};
 use jobs::JobTable;
 use params::{Params, bytes};
 use placements::Placement;
@@ -30,13 +30,6 @@ const MAX_LEN: usize = Params::MAX_WORD as usize;
 
 const SHORT_LEN: usize = Params::SHORT_WORD as usize;
 
-// A job's number and its prescription, or the refusal.
-#[derive(Clone, Copy)]
-pub enum ReadAnswer {
-    Handed(u32, Prescription),
-    Refused(u8),
-}
-
 // Writes a job's number and its prescription into a word. Refusals in order: 1 2 10 3 5 16 17 12 23 14; the word then keeps what it held.
 pub fn prescription_write(
     figures: Figures,
@@ -45,19 +38,15 @@ pub fn prescription_write(
     number: u32,
     prescription: Prescription,
     word: &mut [u8],
-) -> u8
-    ensures answer { result ≡ (prescription_write_under (coding_of figures) (entries table) (held_as at) number prescription word.old).answer }
+) -> Result<(), Refusal>
+    ensures answer { answer_of result ≡ (prescription_write_under (coding_of figures) (entries table) (held_as at) number prescription word.old).answer }
     ensures word { word.new
         ≡ (prescription_write_under (coding_of figures) (entries table) (held_as at) number prescription word.old).word }
 {
     if table.twice() {
-        return Refusal::INVALID;
+        return Err(Refusal::Invalid);
     }
-    let answer = figures.layout();
-    match answer {
-        FiguresAnswer::Refused(refusal) => refusal,
-        FiguresAnswer::Fit(layout) => write_laid(layout, table, at, number, prescription, word),
-    }
+    write_laid(figures.layout()?, table, at, number, prescription, word)
 }
 
 // The same for figures that fit. Refusals: 10 3 5 16 17 12 23 14.
@@ -68,26 +57,26 @@ fn write_laid(
     number: u32,
     prescription: Prescription,
     word: &mut [u8],
-) -> u8
+) -> Result<(), Refusal>
     requires { ServesTable layout (entries table) }
-    ensures { unwritten word.new result
+    ensures { unwritten word.new (answer_of result)
         ≡ prescription_write_under (coding_in layout) (entries table) (held_as at) number prescription word.old }
 {
     let count = bytes::payload_len(layout.q, layout.message_len);
     if count < jobcodec::MIN_PAYLOAD {
-        return Refusal::PAYLOAD;
+        return Err(Refusal::Payload);
     }
     if at.count as usize != layout.m {
-        return Refusal::LENGTH;
+        return Err(Refusal::Length);
     }
     if word.len() != layout.n {
-        return Refusal::LENGTH;
+        return Err(Refusal::Length);
     }
     if !at.apart(layout.n as u32, layout.b as u32) {
-        return Refusal::STARTS;
+        return Err(Refusal::Starts);
     }
     if count < MIN_PRESCRIBED {
-        return Refusal::PRESCRIPTION;
+        return Err(Refusal::Prescription);
     }
     if count <= SHORT_LEN {
         let mut short = [0u8; SHORT_LEN];
@@ -122,43 +111,44 @@ fn write_payload(
     prescription: Prescription,
     payload: &mut [u8],
     word: &mut [u8],
-) -> u8
+) -> Result<(), Refusal>
     requires { ServesTable layout (entries table) × (17 ≤ length payload.old) }
-    ensures { unwritten word.new result
+    ensures { unwritten word.new (answer_of result)
         ≡ as_job (coding_in layout) (entries table) (held_as at) number (length payload.old) word.old (prescribed_of prescription) }
 {
-    let refusal = refusals::answer(prescription.write_text(&mut payload[NUMBER_BYTES..]));
-    if refusal != Refusal::NONE {
-        return refusal;
-    }
+    prescription.write_text(&mut payload[NUMBER_BYTES..])?;
     payloads::spell_value(BYTE_VALUES, number as u64, &mut payload[..NUMBER_BYTES]);
     jobcodec::write_laid(layout, table, at, payload, word)
 }
 
 // Hands out the number and the prescription of a found word. Refusals in order: 1 2, 10 for too few bytes, those of word read from 3 on (3 4 7 19 8 9 19, by
 // the Larsson code 3 4 21 8 9 19), 10, 16, 12 23 14.
-pub fn prescription_read(figures: Figures, table: JobTable, word: &[u8]) -> ReadAnswer
+pub fn prescription_read(
+    figures: Figures,
+    table: JobTable,
+    word: &[u8],
+) -> Result<(u32, Prescription), Refusal>
     ensures { read_answered result ≡ prescription_read_under (coding_of figures) (entries table) word.now }
 {
     if table.twice() {
-        return ReadAnswer::Refused(Refusal::INVALID);
+        return Err(Refusal::Invalid);
     }
-    let answer = figures.layout();
-    match answer {
-        FiguresAnswer::Refused(number) => ReadAnswer::Refused(number),
-        FiguresAnswer::Fit(layout) => read_laid(layout, table, word),
-    }
+    read_laid(figures.layout()?, table, word)
 }
 
 // The same for figures that fit. Refusals: 10 for too few bytes, those of word read from 3 on, 10, 16, 12 23 14.
-fn read_laid(layout: WordLayout, table: JobTable, word: &[u8]) -> ReadAnswer
+fn read_laid(
+    layout: WordLayout,
+    table: JobTable,
+    word: &[u8],
+) -> Result<(u32, Prescription), Refusal>
     requires { ServesTable layout (entries table) }
     ensures { read_answered result ≡ prescription_read_under (coding_in layout) (entries table) word.now }
 {
     let k = layout.message_len;
     let count = bytes::payload_len(layout.q, k);
     if count < jobcodec::MIN_PAYLOAD {
-        return ReadAnswer::Refused(Refusal::PAYLOAD);
+        return Err(Refusal::Payload);
     }
     if k <= SHORT_LEN {
         let mut short = [0u8; SHORT_LEN];
@@ -183,31 +173,27 @@ fn read_message(
     word: &[u8],
     message: &mut [u8],
     payload: &mut [u8],
-) -> ReadAnswer
+) -> Result<(u32, Prescription), Refusal>
     requires { ReadableJob layout (entries table) message.old payload.old }
     ensures { read_answered result ≡ prescription_read_under (coding_in layout) (entries table) word.now }
 {
-    let answer = jobcodec::read_spelled(layout, word, message);
-    let WordAnswer::Accepted(_) = answer else {
-        return ReadAnswer::Refused(decoder::refused_with(answer));
-    };
+    jobcodec::read_spelled(layout, word, message)?;
     hand_out(table, layout.q, message, payload)
 }
 
 // The number and the prescription of the payload that an accepted word's message spells. Refusals: 16, 12 23 14.
-fn hand_out(table: JobTable, q: u64, message: &[u8], payload: &mut [u8]) -> ReadAnswer
+fn hand_out(
+    table: JobTable,
+    q: u64,
+    message: &[u8],
+    payload: &mut [u8],
+) -> Result<(u32, Prescription), Refusal>
     requires { SpellsJob q message.now payload.old }
     ensures { read_answered result ≡ of_payload (entries table) (payload_in q (length message.now) message.now) }
 {
     payloads::unspell(q, bytes::byte_width(q), message, payload);
-    let answer = Prescription::read_text(&payload[NUMBER_BYTES..]);
-    let Ok(prescription) = answer else {
-        return ReadAnswer::Refused(Refusal::PRESCRIPTION);
-    };
+    let prescription = Prescription::read_text(&payload[NUMBER_BYTES..])?;
     let number = payloads::job_number(payload);
-    let refusal = jobcodec::needs_open(table, number);
-    if refusal != Refusal::NONE {
-        return ReadAnswer::Refused(refusal);
-    }
-    ReadAnswer::Handed(number, prescription)
+    jobcodec::needs_open(table, number)?;
+    Ok((number, prescription))
 }

@@ -48,7 +48,8 @@ struct Filling {
     stop: usize,
 }
 
-// The cells of a block that are left, and those of the bursts that start in it.
+// The cells of a block that are left, and those of the bursts that start in it. How many start in it is not known before, so the loop
+// counts nothing: it goes by where the next burst starts.
 fn fill_block(
     walk: Walk,
     at: Placement,

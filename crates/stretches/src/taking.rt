@@ -59,7 +59,8 @@ struct Taking {
     stop: usize,
 }
 
-// The message's cells of a block that are left, past the bursts that start in it.
+// The message's cells of a block that are left, past the bursts that start in it. How many start in it is not known before, so the loop
+// counts nothing: it goes by where the next burst starts.
 fn take_block(
     walk: Walk,
     at: Placement,

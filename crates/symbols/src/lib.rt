@@ -153,12 +153,10 @@ fn copy_long(to: &mut [u8], from: &[u8], len: usize, size: usize)
     requires { (0 < size) × (size ≤ 64) × (size ≤ len) × (len ≤ length to.old) × (len ≤ length from.now) }
     ensures { take len to.new ≡ take len from.now }
 {
-    let mut done: usize = 0;
-    while size < len - done {
-        copy_by(&mut to[done..], &from[done..], size);
-        done += size;
-    }
     let rest = len - size;
+    for done in (0..rest).step_by(size) {
+        copy_by(&mut to[done..], &from[done..], size);
+    }
     copy_by(&mut to[rest..], &from[rest..], size);
 }
 

@@ -1,5 +1,6 @@
 // The records that write and read jobs. Assumes nothing.
 ghost use Rattle.std.specs.Prelude.{◌≡◌, ◌+◌, ◌*◌, ◌≤◌, length, drop, replicate};
+ghost use Rattle.refusals.specs.Numbers.{answer_of};
 ghost use Rattle.cells.specs.Figures.{max_word};
 ghost use Rattle.cells.specs.Outcomes.{unwritten};
 ghost use Rattle.jobs.specs.Slots.{entries};
@@ -16,11 +17,11 @@ ghost use Rattle.records.specs.Bridge.{last_figures, session_of};
 ghost use Rattle.transfer.specs.Bridge.{Shown, Put, ServesTold, RecordLaid, Whole};
 
 use crate::{MAX_WORD, SHORT_WORD, StepAnswer, counted, stop};
-use codes::{Figures, WordLayout};
+use codes::WordLayout;
 use jobs::JobTable;
 use params::bytes;
 use placements::Placement;
-use records::{CurrentAnswer, HEAD_LEN, Known, Session};
+use records::{HEAD_LEN, Known, LaidFigures, Session};
 use refusals::Refusal;
 
 // W: the word of the placement and the payload.
@@ -29,28 +30,27 @@ pub fn serve_write(session: Session, known: Known, received: &[u8], line: &mut [
     ensures { Shown result line.old line.new
         (write_out (session_of session) received.now (currentOf (last_figures session.figures))) }
 {
-    let answer = known.current;
-    let CurrentAnswer::Laid(given, layout) = answer else {
+    let Some(laid) = known.current else {
         return stop(session, line);
     };
     let table = session.table;
-    let len = write_laid(table, given, layout, known.twice, received, line);
+    let len = write_laid(table, laid, known.twice, received, line);
     counted(session, len)
 }
 
 // The same by the last accepted figures and their layout.
 fn write_laid(
     table: JobTable,
-    figures: Figures,
-    layout: WordLayout,
+    laid: LaidFigures,
     twice: bool,
     received: &[u8],
     line: &mut [u8],
 ) -> usize
-    requires { RecordLaid (entries table) line.old figures layout twice (record_head_len + 2 * layout.m) received.now }
-    ensures { Put result line.old line.new (λ s. write_step s (job_write_under (coding_of figures) (entries table)
-        (record_starts figures received.now) (payload_of figures received.now) (replicate (coding_of figures).codec.word_len 0))) }
+    requires { RecordLaid (entries table) line.old laid.figures laid.layout twice (record_head_len + 2 * laid.layout.m) received.now }
+    ensures { Put result line.old line.new (λ s. write_step s (job_write_under (coding_of laid.figures) (entries table)
+        (record_starts laid.figures received.now) (payload_of laid.figures received.now) (replicate (coding_of laid.figures).codec.word_len 0))) }
 {
+    let layout = laid.layout;
     let m = layout.m;
     let n = layout.n;
     let at = records::placement_in(received, m);
@@ -93,11 +93,10 @@ fn write_word(
     ensures { Put result line.old line.new
         (λ s. write_step s (job_write_under (coding_in layout) (entries table) (held_as at) payload.now word.old)) }
 {
-    let answer = job_write(layout, twice, table, at, payload, word);
-    if answer != Refusal::NONE {
-        return lines::put_refusal(line, b'W', answer);
+    match job_write(layout, twice, table, at, payload, word) {
+        Err(refusal) => lines::put_refusal(line, b'W', u8::from(refusal)),
+        Ok(()) => lines::put_word(line, word),
     }
-    lines::put_word(line, word)
 }
 
 // Job write for figures that fit, with what is known of the table.
@@ -108,12 +107,12 @@ fn job_write(
     at: Placement,
     payload: &[u8],
     word: &mut [u8],
-) -> u8
+) -> Result<(), Refusal>
     requires { ServesTold layout twice (entries table) }
-    ensures { unwritten word.new result ≡ job_write_under (coding_in layout) (entries table) (held_as at) payload.now word.old }
+    ensures { unwritten word.new (answer_of result) ≡ job_write_under (coding_in layout) (entries table) (held_as at) payload.now word.old }
 {
     if twice {
-        return Refusal::INVALID;
+        return Err(Refusal::Invalid);
     }
     jobcodec::write_laid(layout, table, at, payload, word)
 }
@@ -124,28 +123,27 @@ pub fn serve_read(session: Session, known: Known, received: &[u8], line: &mut [u
     ensures { Shown result line.old line.new
         (read_out (session_of session) received.now (currentOf (last_figures session.figures))) }
 {
-    let answer = known.current;
-    let CurrentAnswer::Laid(given, layout) = answer else {
+    let Some(laid) = known.current else {
         return stop(session, line);
     };
     let table = session.table;
-    let len = read_laid(table, given, layout, known.twice, received, line);
+    let len = read_laid(table, laid, known.twice, received, line);
     counted(session, len)
 }
 
 // The same by the last accepted figures and their layout.
 fn read_laid(
     table: JobTable,
-    figures: Figures,
-    layout: WordLayout,
+    laid: LaidFigures,
     twice: bool,
     received: &[u8],
     line: &mut [u8],
 ) -> usize
-    requires { RecordLaid (entries table) line.old figures layout twice record_head_len received.now }
-    ensures { Put result line.old line.new (λ s. read_step s (job_read_under (coding_of figures) (entries table)
-        (drop record_head_len received.now) (replicate (payload_len_of figures) 0))) }
+    requires { RecordLaid (entries table) line.old laid.figures laid.layout twice record_head_len received.now }
+    ensures { Put result line.old line.new (λ s. read_step s (job_read_under (coding_of laid.figures) (entries table)
+        (drop record_head_len received.now) (replicate (payload_len_of laid.figures) 0))) }
 {
+    let layout = laid.layout;
     let count = bytes::payload_len(layout.q, layout.message_len);
     if count <= SHORT_WORD {
         let mut short = [0u8; SHORT_WORD];
@@ -182,20 +180,25 @@ fn read_payload(
     ensures { Put result line.old line.new
         (λ s. read_step s (job_read_under (coding_in layout) (entries table) word.now payload.old)) }
 {
-    let answer = job_read(layout, twice, table, word, payload);
-    if answer != Refusal::NONE {
-        return lines::put_refusal(line, b'R', answer);
+    match job_read(layout, twice, table, word, payload) {
+        Err(refusal) => lines::put_refusal(line, b'R', u8::from(refusal)),
+        Ok(()) => lines::put_payload(line, payload),
     }
-    lines::put_payload(line, payload)
 }
 
 // Job read likewise.
-fn job_read(layout: WordLayout, twice: bool, table: JobTable, word: &[u8], payload: &mut [u8]) -> u8
+fn job_read(
+    layout: WordLayout,
+    twice: bool,
+    table: JobTable,
+    word: &[u8],
+    payload: &mut [u8],
+) -> Result<(), Refusal>
     requires { ServesTold layout twice (entries table) }
-    ensures { seen result payload.new ≡ job_read_under (coding_in layout) (entries table) word.now payload.old }
+    ensures { seen (answer_of result) payload.new ≡ job_read_under (coding_in layout) (entries table) word.now payload.old }
 {
     if twice {
-        return Refusal::INVALID;
+        return Err(Refusal::Invalid);
     }
     jobcodec::read_laid(layout, table, word, payload)
 }

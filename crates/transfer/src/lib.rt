@@ -14,10 +14,10 @@ ghost use Rattle.transfer.specs.Steps.{serve_out, step_out, stopped, ended, figu
 ghost use Rattle.records.specs.Bridge.{last_figures, session_of, Knows};
 ghost use Rattle.transfer.specs.Bridge.{Ready, Shown, Whole};
 
-use codes::{Figures, FiguresAnswer};
+use codes::Figures;
 use jobs::JobTable;
 use params::Params;
-use records::{HEAD_LEN, Known, LastFigures, Session};
+use records::{HEAD_LEN, Known, Session};
 
 mod job_records;
 
@@ -119,13 +119,12 @@ fn serve_figures(session: Session, letter: u8, figures: Figures, line: &mut [u8]
     requires { Ready session line.old }
     ensures { Shown result line.old line.new (figures_step (session_of session) letter figures (figures_under (coding_of figures))) }
 {
-    let answer = figures.layout();
-    match answer {
-        FiguresAnswer::Refused(number) => {
-            let len = lines::put_refusal(line, letter, number);
+    match figures.layout() {
+        Err(refusal) => {
+            let len = lines::put_refusal(line, letter, u8::from(refusal));
             counted(session, len)
         }
-        FiguresAnswer::Fit(layout) => {
+        Ok(layout) => {
             let len = lines::put_figures(
                 line,
                 letter,
@@ -134,7 +133,7 @@ fn serve_figures(session: Session, letter: u8, figures: Figures, line: &mut [u8]
                 layout.message_len as u64,
             );
             let table = session.table;
-            after(session, LastFigures::Accepted(figures), table, len)
+            after(session, Some(figures), table, len)
         }
     }
 }
@@ -147,14 +146,14 @@ fn serve_call(session: Session, letter: u8, number: u32, line: &mut [u8]) -> Ste
 {
     let table = session.table;
     let out = table.call(letter, number);
-    let len = lines::put_refusal(line, letter, out.answer);
+    let len = lines::put_refusal(line, letter, refusals::answer(out.answer));
     let figures = session.figures;
     let next = out.table;
     after(session, figures, next, len)
 }
 
 // The session after one record more, with these figures and this table.
-fn after(session: Session, figures: LastFigures, table: JobTable, len: usize) -> StepAnswer
+fn after(session: Session, figures: Option<Figures>, table: JobTable, len: usize) -> StepAnswer
     requires { session.records < max_records }
     ensures next { session_of result.next ≡ afterRecord (session_of session) (last_figures figures) (entries table) }
     ensures len { result.len ≡ len }

@@ -12,9 +12,12 @@ use Rattle.payloads.specs.Payload.{message_of, payload_in, spells_payload}
 use Rattle.moving.specs.Resize.{resized}
 use Rattle.moving.specs.Given.{message_number}
 use Rattle.moving.proofs.Steps.{payload-within, lent_is, front-room, front-len, whole_room, whole-len, resized-front}
+use Rattle.refusals.specs.Numbers.{answer_of}
+use Rattle.refusals.proofs.Numbers.{never-served}
+use Rattle.std.proofs.lemmas.Result.{err_from_is_err_and}
 use Rattle.moving.proofs.Steps.{no_payload, payload-number}
 use Rattle.moving.proofs.other_message.Goals as goal
-use Rattle.moving.proofs.other_message.Goals.{After-may_move-refusal, After-payload-2-1, Start}
+use Rattle.moving.proofs.other_message.Goals.{After-may_move, After-payload-2-1, Start}
 
 count-short : (s : Start) (n : ℕ) → n ≡ payload_len s.args.q (length s.args.message.now) → n ≤ max_word
 count-short s n e = omega (arith, e, payload-within s.args.q (length s.args.message.now), s.requires.short)
@@ -84,11 +87,11 @@ pub slice_bounds-may_move-end : goal.slice_bounds-may_move-end
 slice_bounds-may_move-end c = front-len (count (goal.at.slice_bounds-may_move-end c).After-payload-2-1) (front (goal.at.slice_bounds-may_move-end c).After-payload-2-1) _ (same (goal.at.slice_bounds-may_move-end c).After-payload-2-1)
 
 -- the number of its tests
-number : (c : After-may_move-refusal)
-    → (c.may_move-refusal.result ≡ message_number (q (goal.at.After-may_move-refusal c).After-payload-2-1) (entries c.args.table) (length c.args.other.now) (ms (goal.at.After-may_move-refusal c).After-payload-2-1))
+number : (c : After-may_move)
+    → (answer_of c.may_move.result ≡ message_number (q (goal.at.After-may_move c).After-payload-2-1) (entries c.args.table) (length c.args.other.now) (ms (goal.at.After-may_move c).After-payload-2-1))
 number c =
-    payload-number (q (goal.at.After-may_move-refusal c).After-payload-2-1) (entries c.args.table) (length c.args.other.now) (ms (goal.at.After-may_move-refusal c).After-payload-2-1) (spelled (goal.at.After-may_move-refusal c).After-payload-2-1) (count (goal.at.After-may_move-refusal c).After-payload-2-1) (room (goal.at.After-may_move-refusal c).After-payload-2-1) c.may_move-refusal.result (front (goal.at.After-may_move-refusal c).After-payload-2-1)
-    (drop (count (goal.at.After-may_move-refusal c).After-payload-2-1) (replicate max_word 0)) (same (goal.at.After-may_move-refusal c).After-payload-2-1) (room-is (goal.at.After-may_move-refusal c).After-payload-2-1) (payload-is (goal.at.After-may_move-refusal c).After-payload-2-1) c.may_move-refusal.ensures
+    payload-number (q (goal.at.After-may_move c).After-payload-2-1) (entries c.args.table) (length c.args.other.now) (ms (goal.at.After-may_move c).After-payload-2-1) (spelled (goal.at.After-may_move c).After-payload-2-1) (count (goal.at.After-may_move c).After-payload-2-1) (room (goal.at.After-may_move c).After-payload-2-1) (answer_of c.may_move.result) (front (goal.at.After-may_move c).After-payload-2-1)
+    (drop (count (goal.at.After-may_move c).After-payload-2-1) (replicate max_word 0)) (same (goal.at.After-may_move c).After-payload-2-1) (room-is (goal.at.After-may_move c).After-payload-2-1) (payload-is (goal.at.After-may_move c).After-payload-2-1) c.may_move.ensures
 
 pub slice_bounds-payload-end-3 : goal.slice_bounds-payload-end-3
 slice_bounds-payload-end-3 c =
@@ -115,12 +118,19 @@ returns-clause-message c =
 
 pub returns-clause-number : goal.returns-clause-number
 returns-clause-number c =
-    let k = length c.args.other.now in sym c.if-refusal-ne-NONE.false ∙ number (goal.at.returns-clause-number c).After-may_move-refusal
+    sym (ap answer_of c.in_ok-may_move.was) ∙ number (goal.at.returns-clause-number c).After-may_move
 
 pub returns-then-not-spells-clause-number : goal.returns-then-not-spells-clause-number
 returns-then-not-spells-clause-number c =
     no_payload c.args.q (entries c.args.table) (length c.args.other.now) c.args.message.now
     (sym c.spells.ensures ∙ c.if-not-spells.true)
 
-pub returns-then-refusal-ne-NONE-clause-number : goal.returns-then-refusal-ne-NONE-clause-number
-returns-then-refusal-ne-NONE-clause-number c = number (goal.at.returns-then-refusal-ne-NONE-clause-number c).After-may_move-refusal
+pub returns-in_err-may_move-clause-number : goal.returns-in_err-may_move-clause-number
+returns-in_err-may_move-clause-number c =
+    let p = err_from_is_err_and c.from_residual.result c.from_residual.ensures.1 in
+    rw (p.1, p.2) (sym (ap answer_of c.in_err-may_move.was) ∙ number (goal.at.returns-in_err-may_move-clause-number c).After-may_move)
+
+pub returns-in_err-may_move-clause-message : goal.returns-in_err-may_move-clause-message
+returns-in_err-may_move-clause-message c z =
+    let p = err_from_is_err_and c.from_residual.result c.from_residual.ensures.1 in
+    absurd (never-served _ (sym (ap answer_of p.1) ∙ z))

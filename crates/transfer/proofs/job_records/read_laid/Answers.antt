@@ -23,10 +23,10 @@ use Rattle.transfer.proofs.job_records.read_laid.Goals.{After-payload_len-count}
 
 longest : (c : After-payload_len-count) → c.payload_len-count.result ≤ max_word
 longest c =
-    let k = c.args.layout.message_len in
+    let k = c.args.laid.layout.message_len in
     omega (
       arith,
-      payload-within c.args.layout.q k,
+      payload-within c.args.laid.layout.q k,
       c.payload_len-count.ensures,
       c.requires.numbers.len_is,
       c.requires.small.message-most,
@@ -40,19 +40,19 @@ lent_is c room le = length-take-le {A = ℕ} c.payload_len-count.result (replica
 line-is : (c : After-payload_len-count) (room : ℕ) (le : c.payload_len-count.result ≤ room) → (r : ℕ) (line : List ℕ)
     → (let a = c.args in let bytes = a.received.now in let es = entries a.table in
     Put r a.line.now line
-    (λ s. read_step s (job_read_under (coding_in a.layout) es (take (length bytes - record_head_len) (drop record_head_len bytes))
+    (λ s. read_step s (job_read_under (coding_in a.laid.layout) es (take (length bytes - record_head_len) (drop record_head_len bytes))
     (take {A = ℕ} c.payload_len-count.result (replicate room 0))))
     → Put r a.line.now line
-    (λ s. read_step s (job_read_under (coding_of a.figures) es (drop record_head_len bytes) (replicate {A = ℕ} (payload_len_of a.figures) 0))))
+    (λ s. read_step s (job_read_under (coding_of a.laid.figures) es (drop record_head_len bytes) (replicate {A = ℕ} (payload_len_of a.laid.figures) 0))))
 line-is c room le r line =
     let a = c.args in
-    let l = a.layout in
+    let l = a.laid.layout in
     let bytes = a.received.now in
     let count = c.payload_len-count in
     let is = c.requires.numbers in
-    put-read r a.line.now line (entries a.table) (coding_in l) (coding_of a.figures) (take (length bytes - record_head_len) (drop record_head_len bytes))
+    put-read r a.line.now line (entries a.table) (coding_in l) (coding_of a.laid.figures) (take (length bytes - record_head_len) (drop record_head_len bytes))
     (drop record_head_len bytes)
-    (take {A = ℕ} count.result (replicate room 0)) (replicate {A = ℕ} (payload_len_of a.figures) 0) c.requires.same (rest_all record_head_len bytes)
+    (take {A = ℕ} count.result (replicate room 0)) (replicate {A = ℕ} (payload_len_of a.laid.figures) 0) c.requires.same (rest_all record_head_len bytes)
     (zeros count.result room le ∙ ap (λ (k : ℕ). replicate {A = ℕ} k 0) (count.ensures ∙ ap₂ payload_len is.alphabet-is is.len_is))
 
 pub returns-then-count-le-SHORT_WORD : goal.returns-then-count-le-SHORT_WORD

@@ -1,6 +1,6 @@
 -- `serve_read` meets its contract: by the last accepted figures. Assumes nothing.
-use Rattle.records.specs.Bridge.{session_of}
-use Rattle.records.proofs.Lengths.{current-laid}
+use mathlib.Core.Path.{subst}
+use Rattle.records.specs.Bridge.{session_of, Current}
 use Rattle.transfer.proofs.job_records.serve_read.Goals as goal
 
 pub returns : goal.returns
@@ -9,7 +9,7 @@ returns c =
     let laid = c.read_laid-len in
     let went = c.counted.ensures in
     let from = session_of a.session in
-    let is = current-laid from.figures _ _ _ c.in-Laid.is c.requires.knows.figures in
+    let is = subst (Current from.figures) c.in-Some.is c.requires.knows.figures in
     rw is.are
     record {
       next = went.next;

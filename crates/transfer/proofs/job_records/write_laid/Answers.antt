@@ -22,26 +22,26 @@ use Rattle.transfer.proofs.job_records.write_laid.Goals as goal
 use Rattle.transfer.proofs.job_records.write_laid.Goals.{After-placement_in-at, Start}
 
 -- the word, in an array that has room for it
-longest : (s : Start) → s.args.layout.n ≤ max_word
+longest : (s : Start) → s.args.laid.layout.n ≤ max_word
 longest s = omega (arith, s.requires.numbers.word-is, s.requires.small.word-most)
 
-line-is : (c : After-placement_in-at) (room : ℕ) (le : c.args.layout.n ≤ room) → (r : ℕ) (line : List ℕ)
-    → (let a = c.args in let from = record_head_len + 2 * a.layout.m in let bytes = a.received.now in let es =
+line-is : (c : After-placement_in-at) (room : ℕ) (le : c.args.laid.layout.n ≤ room) → (r : ℕ) (line : List ℕ)
+    → (let a = c.args in let from = record_head_len + 2 * a.laid.layout.m in let bytes = a.received.now in let es =
     entries a.table in
-    Put r a.line.now line (λ s. write_step s (job_write_under (coding_in a.layout) es (held_as c.placement_in-at.result)
-    (take (length bytes - from) (drop from bytes)) (take {A = ℕ} a.layout.n (replicate room 0))))
-    → Put r a.line.now line (λ s. write_step s (job_write_under (coding_of a.figures) es (record_starts a.figures bytes) (payload_of a.figures bytes)
-    (replicate {A = ℕ} (coding_of a.figures).codec.word_len 0))))
+    Put r a.line.now line (λ s. write_step s (job_write_under (coding_in a.laid.layout) es (held_as c.placement_in-at.result)
+    (take (length bytes - from) (drop from bytes)) (take {A = ℕ} a.laid.layout.n (replicate room 0))))
+    → Put r a.line.now line (λ s. write_step s (job_write_under (coding_of a.laid.figures) es (record_starts a.laid.figures bytes) (payload_of a.laid.figures bytes)
+    (replicate {A = ℕ} (coding_of a.laid.figures).codec.word_len 0))))
 line-is c room le r line =
     let a = c.args in
-    let l = a.layout in
+    let l = a.laid.layout in
     let bytes = a.received.now in
     let from = record_head_len + 2 * l.m in
     let m = c.requires.numbers.bursts-is in
-    put-write r a.line.now line (entries a.table) (coding_in l) (coding_of a.figures) (held_as c.placement_in-at.result)
-    (record_starts a.figures bytes)
-    (take (length bytes - from) (drop from bytes)) (payload_of a.figures bytes) (take {A = ℕ} l.n (replicate room 0))
-    (replicate {A = ℕ} (coding_of a.figures).codec.word_len 0) c.requires.same
+    put-write r a.line.now line (entries a.table) (coding_in l) (coding_of a.laid.figures) (held_as c.placement_in-at.result)
+    (record_starts a.laid.figures bytes)
+    (take (length bytes - from) (drop from bytes)) (payload_of a.laid.figures bytes) (take {A = ℕ} l.n (replicate room 0))
+    (replicate {A = ℕ} (coding_of a.laid.figures).codec.word_len 0) c.requires.same
     (c.placement_in-at.ensures ∙ ap (λ (k : ℕ). held (tabulate k 0 (λ i. two_bytes bytes (record_head_len + 2 * i)))) m)
     (rest_all from bytes ∙ ap (λ (k : ℕ). drop (record_head_len + 2 * k) bytes) m)
     (zeros l.n room le ∙ ap (λ (k : ℕ). replicate {A = ℕ} k 0) c.requires.numbers.word-is)
