@@ -3,12 +3,14 @@ use mathlib.Core.Path.{◌≡◌, refl, sym, ap, ap₂, ◌∙◌}
 use mathlib.Core.Bool.{true}
 use mathlib.Core.List.{List, [], ◌∷◌, ◌++◌, flat_map}
 use Prim.Native.Nat.{ℕ, suc, ◌+◌, ◌*◌, ◌^◌, ◌<◌}
+use native.Mathlib.Numerals.{add-one}
 use native.Mathlib.Omega.{arith}
 use borrow.Author.Tests.{leb-true}
 use lib.Dec.{ltb}
 use lib.ListN.{length, get_or, drop, replicate, length-append}
 use lib.Seq.{get_or-drop, drop_at, drop-drop}
-use Rattle.combinatorics.specs.Lists.{all, all_below}
+use Rattle.combinatorics.specs.Lists.{all}
+use Rattle.std.specs.List.{list_all, range_with_len}
 use Rattle.combinatorics.specs.Stretch.{tabulate}
 use Rattle.combinatorics.proofs.Lists.{both}
 use Rattle.cells.specs.Bytes.{byte_values}
@@ -79,10 +81,10 @@ module _ (bytes : List ℕ) where
       let b = both (number_fits e) (all number_fits es) h in
       ap₂ {C = List Entry} ◌∷◌ (entry_here e es j at b.0) (entries-back es (suc j) b.1 (next e es j at))
 
-  states-back : (es : List Entry) (j : ℕ) → drop (j * slot_len) bytes ≡ table_bytes es → all_below state_count (tabulate (length es) j (state_at bytes)) ≡ true
-  unfolding all tabulate
+  states-back : (es : List Entry) (j : ℕ) → drop (j * slot_len) bytes ≡ table_bytes es
+      → list_all (λ i. ltb (state_at bytes i) state_count) (range_with_len j (length es)) ≡ true
   states-back [] j at = refl
-  states-back (e ∷ es) j at = rw (state-here e es j at, state-back e (table_bytes es)) (states-back es (suc j) (next e es j at))
+  states-back (e ∷ es) j at = rw (state-here e es j at, state-back e (table_bytes es), add-one j) (states-back es (suc j) (next e es j at))
 
 -- ---- The whole table
 

@@ -1,20 +1,15 @@
 -- Laws of the job table in bytes: written and read back it is the same, and how loops read and write it. Assumes nothing.
 use mathlib.Core.Path.{◌≡◌, refl, sym, ap, ap₂, ◌∙◌}
 use mathlib.Core.Logic.{◌≢◌}
-use mathlib.Core.Bool.{true, false}
 use mathlib.Core.List.{List, [], ◌∷◌, ◌++◌, flat_map, append_assoc, append-nil}
-use Prim.Native.Nat.{ℕ, zero, suc, ◌+◌, ◌-◌, ◌*◌, ◌≤◌, ◌<◌}
+use Prim.Native.Nat.{ℕ, zero, suc, ◌+◌, ◌-◌, ◌*◌, ◌<◌}
 use native.Mathlib.Numerals.{add-one}
 use native.Mathlib.Omega.{arith}
 use borrow.Rule.Slice.PartMut.{put_mid}
-use lib.Dec.{ltb}
 use lib.ListN.{length, get_or, take, drop, set, replicate, length-set, length-append, length-drop}
 use lib.Seq.{drop-length, take_all, take_at, take-suc, take-suc-set, length-take-le}
-use Rattle.combinatorics.specs.Lists.{all_below}
 use Rattle.combinatorics.specs.Stretch.{tabulate}
-use Rattle.combinatorics.proofs.Cases.{eqb-other, leb-holds, leb-fails}
-use Rattle.combinatorics.proofs.Lists.{all-fails, all-later, all-over}
-use Rattle.combinatorics.proofs.Members.{length-tabulate, tabulate-at}
+use Rattle.combinatorics.proofs.Cases.{eqb-other}
 use Rattle.cells.specs.Bytes.{byte_values}
 use Rattle.cells.specs.Digits.{plain, spell}
 use Rattle.cells.proofs.Walk.{rest-is}
@@ -26,7 +21,7 @@ use Rattle.jobs.specs.Slots.{entries}
 use Rattle.jobs.specs.Table.{empty_table}
 use Rattle.payloads.specs.Payload.{job_number}
 use Rattle.payloads.specs.Given.{Spellable}
-use Rattle.lent_jobs.specs.Table.{slot_len, table_len, state_count, entry_of, state_at, entry_at, states, states_known, table_in, slot_bytes, cancelled_state}
+use Rattle.lent_jobs.specs.Table.{slot_len, table_len, entry_of, state_at, entry_at, table_in, slot_bytes, cancelled_state}
 use Rattle.lent_jobs.specs.Table.{entry_bytes, table_bytes}
 
 -- ---- One slot, read
@@ -34,33 +29,6 @@ use Rattle.lent_jobs.specs.Table.{entry_bytes, table_bytes}
 pub entry_free : (state number : ℕ) → state ≢ 1 → state ≢ 2 → state ≢ 3 → state ≢ 4 → state ≢ 5 → Free ≡ entry_of state number
 entry_free state number a b c d e =
     rw (eqb-other state 1 a, eqb-other state 2 b, eqb-other state 3 c, eqb-other state 4 d, eqb-other state 5 e)
-
--- ---- States, as a loop looks at them
-
-module _ (bytes : List ℕ) where
-  pub states-all : all_below state_count (drop 0 (states bytes)) ≡ states_known bytes
-  unfolding states_known
-  states-all = refl
-
-  module _ (i : ℕ) where
-    state-is : i < slot_count → get_or (states bytes) i 0 ≡ state_at bytes i
-    state-is h =
-        let z : 0 + i ≡ i = omega arith in
-        tabulate-at slot_count 0 i (state_at bytes) h ∙ ap (state_at bytes) z
-
-    in-states : i < slot_count → i < length (states bytes)
-    in-states h = omega (arith, length-tabulate slot_count 0 (state_at bytes))
-
-    pub state-unknown : i < slot_count → 5 < state_at bytes i → all_below state_count (drop i (states bytes)) ≡ false
-    state-unknown h k = all-fails (λ x. ltb x state_count) (states bytes) i (in-states h)
-        (rw (state-is h) (leb-fails (suc (state_at bytes i)) state_count (omega arith)))
-
-    pub state-known : i < slot_count → state_at bytes i ≤ 5 → all_below state_count (drop i (states bytes)) ≡ all_below state_count (drop (i + 1) (states bytes))
-    state-known h k = all-later (λ x. ltb x state_count) (states bytes) i (in-states h)
-        (rw (state-is h) (leb-holds (suc (state_at bytes i)) state_count (omega arith)))
-
-    pub states-over : slot_count ≤ i → all_below state_count (drop i (states bytes)) ≡ true
-    states-over h = all-over (λ x. ltb x state_count) (states bytes) i (omega (arith, length-tabulate slot_count 0 (state_at bytes)))
 
 -- ---- The table, as a loop reads it
 

@@ -1,7 +1,8 @@
 -- The job table in lent bytes: 64 slots of 5 bytes each. Assumes nothing.
 use Rattle.std.specs.Prelude.{◌≡◌, Bool, true, cond, ℕ, ◌+◌, ◌*◌, ◌^◌, ltb, eqb, length, get_or, drop, replicate}
 use mathlib.Core.List.{List, ◌∷◌, flat_map}
-use Rattle.combinatorics.specs.Lists.{all, all_below}
+use Rattle.std.specs.List.{list_all, range_with_len}
+use Rattle.combinatorics.specs.Lists.{all}
 use Rattle.combinatorics.specs.Stretch.{tabulate}
 use Rattle.cells.specs.Bytes.{byte_values}
 use Rattle.cells.specs.Digits.{plain, spell}
@@ -43,11 +44,8 @@ state_at bytes i = get_or bytes (i * slot_len) 0
 abbrev pub entry_at : List ℕ → ℕ → Entry
 entry_at bytes i = entry_of (state_at bytes i) (job_number (drop (i * slot_len + 1) bytes))
 
-abbrev pub states : List ℕ → List ℕ
-states bytes = tabulate slot_count 0 (state_at bytes)
-
 unfoldable pub states_known : List ℕ → Bool
-states_known bytes = all_below state_count (states bytes)
+states_known bytes = list_all (λ i. ltb (state_at bytes i) state_count) (range_with_len 0 slot_count)
 
 unfoldable pub table_in : List ℕ → List Entry
 table_in bytes = tabulate slot_count 0 (entry_at bytes)

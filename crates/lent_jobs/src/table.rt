@@ -30,6 +30,9 @@ const ON_HOLD: u8 = 4;
 
 const CANCELLED_ON_HOLD: u8 = 5;
 
+// How many states there are.
+const STATES: u8 = 6;
+
 // What a job is refused with where the table has another length, so that no slot is looked at: 1 2 10, or else 3.
 pub fn without_table(figures: Figures) -> Refusal
     ensures { number_of result ≡ without_table (coding_of figures) }
@@ -59,16 +62,12 @@ pub fn lent_table(figures: Figures, bytes: &[u8]) -> Result<JobTable, Refusal>
 }
 
 // Whether each slot has one of the states.
+#[tactic(auto, unfolding(crate::specs::Table::states_known))]
 pub fn states_known(bytes: &[u8]) -> bool
     requires { length bytes.now ≡ table_len }
     ensures { result ≡ states_known bytes.now }
 {
-    for i in 0..JobTable::SLOTS {
-        if CANCELLED_ON_HOLD < bytes[i * SLOT_LEN] {
-            return false;
-        }
-    }
-    true
+    (0..JobTable::SLOTS).all(|i| bytes[i * SLOT_LEN] < STATES)
 }
 
 // The table that the bytes are.
