@@ -1,5 +1,6 @@
 // A placement that was read as bytes, for the reader for C. Inner functions. Assumes nothing.
 ghost use Rattle.std.specs.Prelude.{◌≡◌, List, ℕ, ◌*◌, ◌≤◌, length};
+ghost use Rattle.refusals.specs.Numbers.{answer_of};
 ghost use Rattle.cells.specs.Figures.{max_bursts};
 ghost use Rattle.placements.specs.Bridge.{starts_in};
 ghost use Rattle.decoder.specs.Answer.{decoded_as};
@@ -12,17 +13,13 @@ use refusals::Refusal;
 use symbols::numbers::BYTE_VALUES;
 
 // What the word reader answered, under any figures: its number, and the placement of an accepted word as bytes.
-pub fn put_decoded(decoded: Decoded, starts: &mut [u8]) -> u8
+pub fn put_decoded(decoded: Decoded, starts: &mut [u8]) -> Result<(), Refusal>
     requires { StartsFit decoded starts.old }
-    ensures { (out : List ℕ) → lent_as result out starts.new ≡ exported_as starts.old (decoded_as decoded out) }
+    ensures { (out : List ℕ) → lent_as (answer_of result) out starts.new ≡ exported_as starts.old (decoded_as decoded out) }
 {
-    match decoded.answer {
-        Err(refusal) => u8::from(refusal),
-        Ok(_) => {
-            put_starts(decoded.placement, starts);
-            Refusal::NONE
-        }
-    }
+    decoded.answer?;
+    put_starts(decoded.placement, starts);
+    Ok(())
 }
 
 // The starts in use as bytes.

@@ -7,7 +7,7 @@ use mathlib.Core.Option.{Option, none, some}
 use Prim.Native.Nat.{ℕ, zero, suc, ◌+◌, ◌*◌, ◌≤◌, ◌<◌}
 use native.Mathlib.Omega.{arith}
 use lib.Dec.{eqb}
-use lib.ListN.{length, get_or, take, length-append}
+use lib.ListN.{length, get_or, length-append}
 use Rattle.combinatorics.specs.Stretch.{members, consecutive}
 use Rattle.combinatorics.proofs.Cases.{by_le, eqb_same, eqb-other, leb-holds, leb-fails}
 use Rattle.combinatorics.proofs.Members.{members-on, members-most, length-members}

@@ -16,7 +16,9 @@ use Rattle.combinatorics.proofs.Bursts.{rank-of-starts}
 use Rattle.cells.specs.Outcomes.{Coding, held, in_use, defect_at, unserved, figures_under, Covered, unplaced, cover_under}
 use Rattle.cells.proofs.Outcomes.{refused-alike}
 use Rattle.cells.specs.Figures.{max_bursts}
-use Rattle.placements.specs.declared.CoverAnswer.{CoverAnswer}
+use Rattle.std.specs.Prelude.{Result}
+use Rattle.refusals.specs.declared.Refusal.{Refusal}
+use Rattle.placements.specs.declared.Placement.{Placement}
 use Rattle.placements.specs.Bridge.{coverable, cover_within, covered_as as found_as, Room}
 use Rattle.placements.proofs.Calls.{cover-length, cover-symbol, cover-none, cover-some}
 use Rattle.decoder.specs.Exported.{start_bytes}
@@ -86,7 +88,8 @@ module _ (n m b : ℕ) (room : Room n m b) (map : List ℕ) where
       count : coverable n m b map ≡ true → length (starts_of n m b v) ≡ m
       count some = (rank-of-starts n m b room.some room.within v (leb-true (suc v) (placements n m b) some)).count
 
-  pub cover-fits : (bytes : List ℕ) → length bytes ≡ 2 * m → (c : CoverAnswer) → found_as c ≡ cover_within n m b map → CoverFits c bytes
-  cover-fits bytes size c e r =
-      let count : c.placement.count ≡ m = covered-count (found_as c) e r in
+  pub cover-fits : (bytes : List ℕ) → length bytes ≡ 2 * m → (c : Result Placement Refusal) → found_as c ≡ cover_within n m b map → CoverFits c bytes
+  cover-fits bytes size c e at is =
+      let told = ap found_as is in
+      let count : at.count ≡ m = sym (ap (λ (c : Covered). c.placement.count) told) ∙ covered-count (found_as c) e (ap (λ (c : Covered). c.answer) told) in
       (omega (arith, count, room.few), omega (arith, count))

@@ -1,12 +1,11 @@
 -- Laws of figures alone in lent numbers, refusal by refusal. Assumes nothing.
-use mathlib.Core.Path.{◌≡◌, refl, ◌∙◌}
+use mathlib.Core.Path.{◌≡◌}
 use mathlib.Core.Logic.{◌≢◌}
 use mathlib.Core.Bool.{true}
 use mathlib.Core.List.{List, [], ◌∷◌}
 use Prim.Native.Nat.{ℕ}
-use native.Mathlib.Omega.{arith}
 use lib.Dec.{eqb}
-use lib.ListN.{length, set}
+use lib.ListN.{length}
 use Rattle.refusals.specs.Refusals.{must, served, wrong_length}
 use Rattle.combinatorics.proofs.Cases.{eqb_same, eqb-other}
 use Rattle.cells.specs.Bytes.{payload_len}
@@ -34,18 +33,8 @@ module _ (d : Coding) (out : List ℕ) where
     unfolding figures_lent_under
     lent-served e = rw (range, fit, eqb_same (length out) 4 e)
 
--- four numbers, each set
-four-set : (out : List ℕ) (t r k p : ℕ) → length out ≡ 4 → set (set (set (set out 0 t) 1 r) 2 k) 3 p ≡ t ∷ r ∷ k ∷ p ∷ []
-four-set [] t r k p h = absurd (omega (arith, h))
-four-set (_ ∷ []) t r k p h = absurd (omega (arith, h))
-four-set (_ ∷ _ ∷ []) t r k p h = absurd (omega (arith, h))
-four-set (_ ∷ _ ∷ _ ∷ []) t r k p h = absurd (omega (arith, h))
-four-set (_ ∷ _ ∷ _ ∷ _ ∷ []) t r k p h = refl
-four-set (_ ∷ _ ∷ _ ∷ _ ∷ _ ∷ rest) t r k p h = absurd (omega (arith, h))
-
--- those of a layout are its code's
-pub layout-set : (d : Coding) (l : WordLayout) → HasNumbers d l → (out : List ℕ) → length out ≡ 4 → (t r p : ℕ) → t ≡ count_by l.laid → r ≡ tail_by l.laid
-    → p ≡ payload_len l.q l.message_len → set (set (set (set out 0 t) 1 r) 2 l.message_len) 3 p ≡ figure_numbers d
+-- the numbers of a layout are its code's
+pub layout-numbers : (d : Coding) (l : WordLayout) → HasNumbers d l → (t r p : ℕ) → t ≡ count_by l.laid → r ≡ tail_by l.laid
+    → p ≡ payload_len l.q l.message_len → t ∷ r ∷ l.message_len ∷ p ∷ [] ≡ figure_numbers d
 unfolding figure_numbers
-layout-set d l is out h t r p e₁ e₂ e₃ =
-    four-set out t r l.message_len p h ∙ rw (e₁, e₂, e₃, is.count-is, is.tail-is, is.alphabet-is, is.len_is)
+layout-numbers d l is t r p e₁ e₂ e₃ = rw (e₁, e₂, e₃, is.count-is, is.tail-is, is.alphabet-is, is.len_is)

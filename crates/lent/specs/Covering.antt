@@ -1,10 +1,11 @@
 -- What covering answers a program in another language, and what the lent starts hold afterwards, for every input. Assumes nothing.
-use Rattle.std.specs.Prelude.{◌≡◌, List, ℕ, ◌*◌, ◌≤◌, eqb, length}
+use Rattle.std.specs.Prelude.{◌≡◌, Result, Ok, List, ℕ, ◌*◌, ◌≤◌, eqb, length}
 use Rattle.refusals.specs.Refusals.{must, served, invalid, unfit, wrong_length}
 use Rattle.cells.specs.Figures.{max_bursts, Params}
 use Rattle.cells.specs.Outcomes.{Coding, in_use, Covered, cover_under}
 use Rattle.construction_a.specs.Outcomes.{coding}
-use Rattle.placements.specs.declared.CoverAnswer.{CoverAnswer}
+use Rattle.refusals.specs.declared.Refusal.{Refusal}
+use Rattle.placements.specs.declared.Placement.{Placement}
 use Rattle.decoder.specs.Exported.{start_bytes}
 
 -- "covering 1 2 3 4 6", where 3 stands for the buffer of starts too
@@ -28,8 +29,8 @@ cover_bytes_under d map bytes =
     (cover_lent_as bytes (cover_under d map))))
 
 -- two bytes for each start of a placement that covers the map
-abbrev pub CoverFits : CoverAnswer → List ℕ → Type 0
-CoverFits c bytes = c.answer ≡ served → (c.placement.count ≤ max_bursts) × (length bytes ≡ 2 * c.placement.count)
+abbrev pub CoverFits : Result Placement Refusal → List ℕ → Type 0
+CoverFits found bytes = (at : Placement) → found ≡ Ok at → (at.count ≤ max_bursts) × (length bytes ≡ 2 * at.count)
 
 -- of Construction A
 unfoldable pub cover_bytes_out : Params → List ℕ → List ℕ → CoverLent

@@ -1,13 +1,12 @@
 // The check of a word for programs in other languages, under the figures of any code, with starts as bytes. Inner functions. Assumes nothing.
 ghost use Rattle.std.specs.Prelude.{◌≡◌};
 ghost use Rattle.codes.specs.Bridge.{coding_of};
-ghost use Rattle.codes.specs.Given.{coding_in, Serves};
+ghost use Rattle.verifier.specs.Answer.{verdict_as};
 ghost use Rattle.lent.specs.Check.{verify_bytes_under, verdict_number};
 
-use codes::{Figures, FiguresAnswer, WordLayout};
+use codes::Figures;
 use placements::starts::placement_at;
 use refusals::Refusal;
-use verifier::VerifyAnswer;
 
 // What the check answers for "no".
 const DIFFERS: u8 = 255;
@@ -16,26 +15,21 @@ const DIFFERS: u8 = 255;
 pub fn verify(figures: Figures, starts: &[u8], message: &[u8], word: &[u8]) -> u8
     ensures { result ≡ verdict_number (verify_bytes_under (coding_of figures) starts.now message.now word.now) }
 {
-    let answer = figures.layout();
-    match answer {
-        FiguresAnswer::Refused(number) => number,
-        FiguresAnswer::Fit(layout) => verify_laid(layout, starts, message, word),
+    match try_verify(figures, starts, message, word) {
+        Ok(true) => Refusal::NONE,
+        Ok(false) => DIFFERS,
+        Err(refusal) => u8::from(refusal),
     }
 }
 
-// The same for figures that fit. Refusals: 3 5 4.
-fn verify_laid(layout: WordLayout, starts: &[u8], message: &[u8], word: &[u8]) -> u8
-    requires { Serves layout }
-    ensures { result ≡ verdict_number (verify_bytes_under (coding_in layout) starts.now message.now word.now) }
+// The same as a Result.
+fn try_verify(figures: Figures, starts: &[u8], message: &[u8], word: &[u8]) -> Result<bool, Refusal>
+    ensures { verdict_as result ≡ verify_bytes_under (coding_of figures) starts.now message.now word.now }
 {
+    let layout = figures.layout()?;
     if starts.len() != 2 * layout.m {
-        return Refusal::LENGTH;
+        return Err(Refusal::Length);
     }
     let at = placement_at(starts, 0, layout.m);
-    let answer = verifier::verify_fitting(layout, at, message, word);
-    match answer {
-        VerifyAnswer::Agrees => Refusal::NONE,
-        VerifyAnswer::Differs => DIFFERS,
-        VerifyAnswer::Refused(number) => number,
-    }
+    verifier::verify_fitting(layout, at, message, word)
 }

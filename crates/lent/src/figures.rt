@@ -1,10 +1,10 @@
 // Figures alone for programs in other languages, whichever code's they are. Inner functions. Assumes nothing.
 ghost use Rattle.std.specs.Prelude.{◌≡◌};
+ghost use Rattle.refusals.specs.Numbers.{answer_of};
 ghost use Rattle.codes.specs.Bridge.{coding_of};
-ghost use Rattle.codes.specs.Given.{coding_in, Serves};
 ghost use Rattle.lent.specs.Figures.{figures_lent, figures_lent_under};
 
-use codes::{Figures, FiguresAnswer, WordLayout};
+use codes::Figures;
 use params::bytes;
 use refusals::Refusal;
 
@@ -15,24 +15,22 @@ const FIGURES: usize = 4;
 pub fn figures(figures: Figures, out: &mut [u64]) -> u8
     ensures { figures_lent result out.new ≡ figures_lent_under (coding_of figures) out.old }
 {
-    let answer = figures.layout();
-    match answer {
-        FiguresAnswer::Refused(number) => number,
-        FiguresAnswer::Fit(layout) => put_figures(layout, out),
-    }
+    refusals::answer(put_figures(figures, out))
 }
 
-// The same for figures that fit. Refusal: 3.
-fn put_figures(layout: WordLayout, out: &mut [u64]) -> u8
-    requires { Serves layout }
-    ensures { figures_lent result out.new ≡ figures_lent_under (coding_in layout) out.old }
+// The same as a Result.
+fn put_figures(figures: Figures, out: &mut [u64]) -> Result<(), Refusal>
+    ensures { figures_lent (answer_of result) out.new ≡ figures_lent_under (coding_of figures) out.old }
 {
+    let layout = figures.layout()?;
     if out.len() != FIGURES {
-        return Refusal::LENGTH;
+        return Err(Refusal::Length);
     }
-    out[0] = layout.placement_count();
-    out[1] = layout.index_tail() as u64;
-    out[2] = layout.message_len as u64;
-    out[3] = bytes::payload_len(layout.q, layout.message_len) as u64;
-    Refusal::NONE
+    out.copy_from_slice(&[
+        layout.placement_count(),
+        layout.index_tail() as u64,
+        layout.message_len as u64,
+        bytes::payload_len(layout.q, layout.message_len) as u64,
+    ]);
+    Ok(())
 }

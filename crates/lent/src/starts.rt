@@ -1,25 +1,22 @@
 // Starts as bytes: the placement that a caller gives, and the one that covering answers. Inner functions. Assumes nothing.
 ghost use Rattle.std.specs.Prelude.{◌≡◌};
+ghost use Rattle.refusals.specs.Numbers.{answer_of};
 ghost use Rattle.codes.specs.Bridge.{coding_of};
-ghost use Rattle.codes.specs.Given.{coding_in, Serves};
 ghost use Rattle.placements.specs.Bridge.{held_as, covered_as as found_as};
 ghost use Rattle.lent.specs.Starts.{placement_from};
 ghost use Rattle.lent.specs.Covering.{cover_lent, cover_lent_as, cover_bytes_under, CoverFits};
 
-use codes::{Figures, FiguresAnswer, WordLayout};
+use codes::Figures;
 use decoder::starts;
 use params::Params;
-use placements::{CoverAnswer, Placement};
+use placements::Placement;
 use refusals::Refusal;
 
 // The placement of m starts; one without starts where the bytes are not theirs.
 pub fn placement_from(bytes: &[u8], m: u32) -> Placement
     ensures { held_as result ≡ placement_from m bytes.now }
 {
-    if Params::MAX_BURSTS < m {
-        return Placement::none();
-    }
-    if bytes.len() != 2 * m as usize {
+    if Params::MAX_BURSTS < m || bytes.len() != 2 * m as usize {
         return Placement::none();
     }
     placements::starts::placement_at(bytes, 0, m as usize)
@@ -36,33 +33,26 @@ pub fn placement_under(figures: Figures, bytes: &[u8]) -> Placement
 pub fn cover_bytes(figures: Figures, map: &[u8], bytes: &mut [u8]) -> u8
     ensures { cover_lent result bytes.new ≡ cover_bytes_under (coding_of figures) map.now bytes.old }
 {
-    let answer = figures.layout();
-    match answer {
-        FiguresAnswer::Refused(number) => number,
-        FiguresAnswer::Fit(layout) => cover_laid(layout, map, bytes),
-    }
+    refusals::answer(try_cover(figures, map, bytes))
 }
 
-// The same for figures that fit. Refusals: 3 4 6.
-fn cover_laid(layout: WordLayout, map: &[u8], bytes: &mut [u8]) -> u8
-    requires { Serves layout }
-    ensures { cover_lent result bytes.new ≡ cover_bytes_under (coding_in layout) map.now bytes.old }
+// The same as a Result.
+fn try_cover(figures: Figures, map: &[u8], bytes: &mut [u8]) -> Result<(), Refusal>
+    ensures { cover_lent (answer_of result) bytes.new ≡ cover_bytes_under (coding_of figures) map.now bytes.old }
 {
+    let layout = figures.layout()?;
     if bytes.len() != 2 * layout.m {
-        return Refusal::LENGTH;
+        return Err(Refusal::Length);
     }
     let found = codes::cover_fitting(layout, map);
     put_covered(found, bytes)
 }
 
-// What covering answered, under any figures: its number, and the placement that covers the map as bytes.
-pub fn put_covered(found: CoverAnswer, bytes: &mut [u8]) -> u8
+// What covering answered, under any figures: its refusal, or the placement that covers the map as bytes.
+pub fn put_covered(found: Result<Placement, Refusal>, bytes: &mut [u8]) -> Result<(), Refusal>
     requires { CoverFits found bytes.old }
-    ensures { cover_lent result bytes.new ≡ cover_lent_as bytes.old (found_as found) }
+    ensures { cover_lent (answer_of result) bytes.new ≡ cover_lent_as bytes.old (found_as found) }
 {
-    if found.answer != Refusal::NONE {
-        return found.answer;
-    }
-    starts::put_starts(found.placement, bytes);
-    Refusal::NONE
+    starts::put_starts(found?, bytes);
+    Ok(())
 }

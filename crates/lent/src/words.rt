@@ -1,12 +1,12 @@
 // Words for programs in other languages, under the figures of any code: written and read with starts as bytes. Inner functions. Assumes nothing.
 ghost use Rattle.std.specs.Prelude.{◌≡◌};
+ghost use Rattle.refusals.specs.Numbers.{answer_of};
 ghost use Rattle.cells.specs.Outcomes.{unwritten};
 ghost use Rattle.codes.specs.Bridge.{coding_of};
-ghost use Rattle.codes.specs.Given.{coding_in, Serves};
 ghost use Rattle.decoder.specs.Exported.{lent_as, exported_under};
 ghost use Rattle.lent.specs.Words.{encode_bytes_under};
 
-use codes::{Figures, FiguresAnswer, WordLayout};
+use codes::Figures;
 use decoder::starts::put_decoded;
 use placements::starts::placement_at;
 use refusals::Refusal;
@@ -15,20 +15,21 @@ use refusals::Refusal;
 pub fn encode(figures: Figures, starts: &[u8], message: &[u8], word: &mut [u8]) -> u8
     ensures { unwritten word.new result ≡ encode_bytes_under (coding_of figures) starts.now message.now word.old }
 {
-    let answer = figures.layout();
-    match answer {
-        FiguresAnswer::Refused(number) => number,
-        FiguresAnswer::Fit(layout) => encode_laid(layout, starts, message, word),
-    }
+    refusals::answer(try_encode(figures, starts, message, word))
 }
 
-// The same for figures that fit. Refusals: 3 5 4.
-fn encode_laid(layout: WordLayout, starts: &[u8], message: &[u8], word: &mut [u8]) -> u8
-    requires { Serves layout }
-    ensures { unwritten word.new result ≡ encode_bytes_under (coding_in layout) starts.now message.now word.old }
+// The same as a Result.
+fn try_encode(
+    figures: Figures,
+    starts: &[u8],
+    message: &[u8],
+    word: &mut [u8],
+) -> Result<(), Refusal>
+    ensures { unwritten word.new (answer_of result) ≡ encode_bytes_under (coding_of figures) starts.now message.now word.old }
 {
+    let layout = figures.layout()?;
     if starts.len() != 2 * layout.m {
-        return Refusal::LENGTH;
+        return Err(Refusal::Length);
     }
     let at = placement_at(starts, 0, layout.m);
     codes::encode_fitting(layout, at, message, word)
@@ -39,21 +40,22 @@ pub fn decode(figures: Figures, word: &[u8], message: &mut [u8], starts: &mut [u
     ensures { lent_as result message.new starts.new
         ≡ exported_under (coding_of figures) word.now message.old starts.old }
 {
-    let answer = figures.layout();
-    match answer {
-        FiguresAnswer::Refused(number) => number,
-        FiguresAnswer::Fit(layout) => decode_laid(layout, word, message, starts),
-    }
+    refusals::answer(try_decode(figures, word, message, starts))
 }
 
-// The same for figures that fit. Refusals: 3 4 7 19 8 9 19, by the Larsson code 3 4 21 8 9 19.
-fn decode_laid(layout: WordLayout, word: &[u8], message: &mut [u8], found: &mut [u8]) -> u8
-    requires { Serves layout }
-    ensures { lent_as result message.new found.new
-        ≡ exported_under (coding_in layout) word.now message.old found.old }
+// The same as a Result.
+fn try_decode(
+    figures: Figures,
+    word: &[u8],
+    message: &mut [u8],
+    found: &mut [u8],
+) -> Result<(), Refusal>
+    ensures { lent_as (answer_of result) message.new found.new
+        ≡ exported_under (coding_of figures) word.now message.old found.old }
 {
+    let layout = figures.layout()?;
     if found.len() != 2 * layout.m {
-        return Refusal::LENGTH;
+        return Err(Refusal::Length);
     }
     let decoded = codes::decode_fitting(layout, word, message);
     put_decoded(decoded, found)

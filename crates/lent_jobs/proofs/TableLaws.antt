@@ -2,7 +2,7 @@
 use mathlib.Core.Path.{◌≡◌, refl, sym, ap, ap₂, ◌∙◌}
 use mathlib.Core.Logic.{◌≢◌}
 use mathlib.Core.Bool.{true, false}
-use mathlib.Core.List.{List, [], ◌∷◌, ◌++◌, map, flat_map, append_assoc, append-nil}
+use mathlib.Core.List.{List, [], ◌∷◌, ◌++◌, flat_map, append_assoc, append-nil}
 use Prim.Native.Nat.{ℕ, zero, suc, ◌+◌, ◌-◌, ◌*◌, ◌≤◌, ◌<◌}
 use native.Mathlib.Numerals.{add-one}
 use native.Mathlib.Omega.{arith}
@@ -20,12 +20,10 @@ use Rattle.cells.specs.Digits.{plain, spell}
 use Rattle.cells.proofs.Walk.{rest-is}
 use Rattle.jobs.specs.declared.Entry.{Entry}
 use Rattle.jobs.specs.declared.Entry.TheVariants.{Free, Open, OnHold, Cancelled}
-use Rattle.jobs.specs.declared.Slot.{Slot}
 use Rattle.jobs.specs.declared.JobTable.{JobTable}
 use Rattle.jobs.specs.Jobs.{slot_count}
 use Rattle.jobs.specs.Slots.{entries}
 use Rattle.jobs.specs.Table.{empty_table}
-use Rattle.jobs.proofs.SlotLaws.{stored-entries}
 use Rattle.payloads.specs.Payload.{job_number}
 use Rattle.payloads.specs.Given.{Spellable}
 use Rattle.lent_jobs.specs.Table.{slot_len, table_len, state_count, entry_of, state_at, entry_at, states, states_known, table_in, slot_bytes, cancelled_state}
@@ -89,15 +87,14 @@ module _ (bytes : List ℕ) where
   entry-is i number x n e = e ∙ ap (entry_of (state_at bytes i)) (n ∙ ap job_number (rest-is (i * slot_len + 1) bytes))
 
   pub read-turn : (t : JobTable) (i : ℕ) (x : Entry) → i < slot_count → Read bytes i (entries t) → x ≡ entry_at bytes i
-      → Read bytes (i + 1) (map (λ (s : Slot). s.entry) (set t.slots i (record { entry = x })))
+      → Read bytes (i + 1) (set t.slots i x)
   read-turn t i x h r v =
       let z : 0 + i ≡ i = omega arith in
       let l : i < length (entries t) = omega (arith, r.size) in
-      rw (stored-entries t.slots i x)
-      (record {
+      record {
         size = length-set (entries t) i x ∙ r.size;
         made = rw (add-one i, tabulate-next i 0 (entry_at bytes), z, ← r.made, ← v) (take-suc-set (entries t) i x l);
-      })
+      }
 
   pub read_all : (i : ℕ) (es : List Entry) → i ≡ slot_count → Read bytes i es → es ≡ table_in bytes
   unfolding table_in

@@ -1,5 +1,5 @@
 -- Laws of a job with a table in bytes: the refusals before its own. Assumes nothing.
-use mathlib.Core.Path.{◌≡◌, sym}
+use mathlib.Core.Path.{◌≡◌, sym, ap, ◌∙◌}
 use mathlib.Core.Logic.{◌≢◌}
 use mathlib.Core.Bool.{Bool, true, false, not, ◌&&◌}
 use mathlib.Core.List.{List, []}
@@ -7,8 +7,11 @@ use Prim.Native.Nat.{ℕ, ◌*◌, ◌≤◌, ◌<◌}
 use native.Mathlib.Omega.{arith}
 use lib.Dec.{eqb}
 use lib.ListN.{length}
-use Rattle.refusals.specs.Refusals.{must, invalid, unfit, wrong_length, bad_payload}
-use Rattle.combinatorics.proofs.Cases.{by_bool, eqb_same, eqb-other, leb-holds, leb-fails}
+use Rattle.refusals.specs.declared.Refusal.{Refusal}
+use Rattle.refusals.specs.Numbers.{number_of}
+use Rattle.refusals.proofs.Numbers.{never-served}
+use Rattle.refusals.specs.Refusals.{must, served, invalid, unfit, wrong_length, bad_payload}
+use Rattle.combinatorics.proofs.Cases.{by-eq, by_bool, eqb_same, eqb-other, leb-holds, leb-fails}
 use Rattle.cells.specs.Bytes.{payload_len}
 use Rattle.cells.specs.Figures.{max_bursts}
 use Rattle.cells.specs.Outcomes.{Coding, Held, held, unserved, figures_under}
@@ -20,7 +23,7 @@ use Rattle.payloads.specs.Payload.{carries_job}
 use Rattle.jobcodec.proofs.Outcomes.{both_true, both_false}
 use Rattle.lent.specs.Starts.{starts_from, placement_from}
 use Rattle.lent_jobs.specs.Table.{table_len, states_known, table_in}
-use Rattle.lent_jobs.specs.Jobs.{with_table, without_table}
+use Rattle.lent_jobs.specs.Jobs.{has_table_len, with_table, without_table}
 use Rattle.lent.proofs.StartLaws.{some-bursts}
 
 -- ---- A job with a table of another length
@@ -74,6 +77,16 @@ module _ {O : Type 0} (d : Coding) (table : List ℕ) (refuse : ℕ → O) (leng
         (λ k. rw (i, eqb_same (length table) table_len size, s, t, h, k)))
         (λ h. rw (i, eqb_same (length table) table_len size, s, t, h))))
         (λ i. rw i)
+
+  -- either of these, as the answer says it
+  pub refused-table : (rest : O) (r : Refusal) → number_of r ≡ must (has_table_len table) (without_table d) (must (states_known table) invalid served)
+      → refuse (number_of r) ≡ with_table d table lengths refuse rest
+  refused-table rest r e =
+      by-eq (length table) table_len (λ _. refuse (number_of r) ≡ with_table d table lengths refuse rest)
+      (λ size. by_bool (states_known table)
+      (λ s. absurd (never-served r (rw (eqb_same (length table) table_len size, s) at e)))
+      (λ s. ap refuse (rw (eqb_same (length table) table_len size, s) at e) ∙ unknown-state size rest s))
+      (λ other. ap refuse (rw (eqb-other (length table) table_len other) at e) ∙ other-table rest other)
 
 -- ---- Starts of another length are a placement of another count
 

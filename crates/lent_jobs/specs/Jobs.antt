@@ -1,10 +1,14 @@
 -- Jobs for a program in another language: what one with a table in bytes is refused with before its own refusals, and what job write and job read answer
 -- and their lent buffers hold afterwards, for every input. Assumes nothing.
-use Rattle.std.specs.Prelude.{Bool, true, not, ◌&&◌, List, ℕ, ◌*◌, eqb, length}
-use Rattle.refusals.specs.Refusals.{must, invalid, unfit, wrong_length, bad_payload}
+use Rattle.std.specs.Prelude.{◌≡◌, Result, Ok, Err, Bool, true, not, ◌&&◌, List, ℕ, ◌*◌, eqb, length}
+use Rattle.refusals.specs.Refusals.{must, served, invalid, unfit, wrong_length, bad_payload}
+use Rattle.refusals.specs.declared.Refusal.{Refusal}
+use Rattle.refusals.specs.Numbers.{number_of}
 use Rattle.cells.specs.Outcomes.{Coding, held, Encoded, unwritten}
 use Rattle.cells.specs.Figures.{Params}
 use Rattle.construction_a.specs.Outcomes.{coding}
+use Rattle.jobs.specs.declared.JobTable.{JobTable}
+use Rattle.jobs.specs.Slots.{entries}
 use Rattle.jobs.specs.Table.{twice}
 use Rattle.payloads.specs.Payload.{carries_job}
 use Rattle.jobcodec.specs.JobWrite.{job_write_under}
@@ -35,6 +39,11 @@ without_table d =
     (must d.fits unfit
     (must (carries_job d.codec.alphabet d.codec.message_len_of) bad_payload
     wrong_length))
+
+-- the table that a job is given, or what it is refused with before its own refusals
+abbrev pub LentAs : Coding → List ℕ → Result JobTable Refusal → Type 0
+LentAs d bytes (Ok t) = (length bytes ≡ table_len) × (states_known bytes ≡ true) × (entries t ≡ table_in bytes)
+LentAs d bytes (Err r) = number_of r ≡ must (has_table_len bytes) (without_table d) (must (states_known bytes) invalid served)
 
 -- ---- Under any figures
 

@@ -1,5 +1,6 @@
 // Job write and job read with the job table and the starts as bytes, under the figures of any code. Inner functions. Assumes nothing.
 ghost use Rattle.std.specs.Prelude.{◌≡◌};
+ghost use Rattle.refusals.specs.Numbers.{answer_of};
 ghost use Rattle.cells.specs.Outcomes.{unwritten};
 ghost use Rattle.codes.specs.Bridge.{coding_of};
 ghost use Rattle.jobcodec.specs.Given.{seen};
@@ -15,14 +16,22 @@ pub fn write(figures: Figures, table: &[u8], starts: &[u8], payload: &[u8], word
     ensures { unwritten word.new result
         ≡ job_write_bytes_under (coding_of figures) table.now starts.now payload.now word.old }
 {
-    if table.len() != table::TABLE_LEN {
-        return table::without_table(figures);
-    }
-    if !table::states_known(table) {
-        return Refusal::INVALID;
-    }
+    refusals::answer(try_write(figures, table, starts, payload, word))
+}
+
+// The same as a Result.
+fn try_write(
+    figures: Figures,
+    table: &[u8],
+    starts: &[u8],
+    payload: &[u8],
+    word: &mut [u8],
+) -> Result<(), Refusal>
+    ensures { unwritten word.new (answer_of result)
+        ≡ job_write_bytes_under (coding_of figures) table.now starts.now payload.now word.old }
+{
+    let held = table::lent_table(figures, table)?;
     let at = starts::placement_under(figures, starts);
-    let held = table::table_in(table);
     jobcodec::job_write(figures, held, at, payload, word)
 }
 
@@ -31,12 +40,13 @@ pub fn write(figures: Figures, table: &[u8], starts: &[u8], payload: &[u8], word
 pub fn read(figures: Figures, table: &[u8], word: &[u8], payload: &mut [u8]) -> u8
     ensures { seen result payload.new ≡ job_read_bytes_under (coding_of figures) table.now word.now payload.old }
 {
-    if table.len() != table::TABLE_LEN {
-        return table::without_table(figures);
-    }
-    if !table::states_known(table) {
-        return Refusal::INVALID;
-    }
-    let held = table::table_in(table);
+    refusals::answer(try_read(figures, table, word, payload))
+}
+
+// The same as a Result.
+fn try_read(figures: Figures, table: &[u8], word: &[u8], payload: &mut [u8]) -> Result<(), Refusal>
+    ensures { seen (answer_of result) payload.new ≡ job_read_bytes_under (coding_of figures) table.now word.now payload.old }
+{
+    let held = table::lent_table(figures, table)?;
     jobcodec::job_read(figures, held, word, payload)
 }

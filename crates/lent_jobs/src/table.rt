@@ -1,12 +1,13 @@
 // The job table as bytes: 64 slots of 5, a state byte and the job number, high byte first. Inner functions. Assumes nothing.
 ghost use Rattle.std.specs.Prelude.{◌≡◌, length};
+ghost use Rattle.refusals.specs.Numbers.{number_of};
 ghost use Rattle.jobs.specs.Slots.{entries};
 ghost use Rattle.codes.specs.Bridge.{coding_of};
-ghost use Rattle.lent_jobs.specs.Jobs.{without_table};
+ghost use Rattle.lent_jobs.specs.Jobs.{without_table, LentAs};
 ghost use Rattle.lent_jobs.specs.Table.{slot_len, table_len, entry_of, cancelled_state, states_known, table_in, slot_bytes, entry_bytes, table_bytes};
 
-use codes::{Figures, FiguresAnswer};
-use jobs::{Before, Entry, JobTable, Slot};
+use codes::Figures;
+use jobs::{Before, Entry, JobTable};
 use params::bytes;
 use refusals::Refusal;
 use symbols::numbers::BYTE_VALUES;
@@ -30,19 +31,31 @@ const ON_HOLD: u8 = 4;
 const CANCELLED_ON_HOLD: u8 = 5;
 
 // What a job is refused with where the table has another length, so that no slot is looked at: 1 2 10, or else 3.
-pub fn without_table(figures: Figures) -> u8
-    ensures { result ≡ without_table (coding_of figures) }
+pub fn without_table(figures: Figures) -> Refusal
+    ensures { number_of result ≡ without_table (coding_of figures) }
 {
-    let answer = figures.layout();
-    match answer {
-        FiguresAnswer::Refused(number) => number,
-        FiguresAnswer::Fit(layout) => {
+    match figures.layout() {
+        Err(refusal) => refusal,
+        Ok(layout) => {
             if bytes::payload_len(layout.q, layout.message_len) < jobcodec::MIN_PAYLOAD {
-                return Refusal::PAYLOAD;
+                return Refusal::Payload;
             }
-            Refusal::LENGTH
+            Refusal::Length
         }
     }
+}
+
+// The table that a job is given. Refusals: those of a job without a table, 1 for a slot with an unknown state.
+pub fn lent_table(figures: Figures, bytes: &[u8]) -> Result<JobTable, Refusal>
+    ensures { LentAs (coding_of figures) bytes.now result }
+{
+    if bytes.len() != TABLE_LEN {
+        return Err(without_table(figures));
+    }
+    if !states_known(bytes) {
+        return Err(Refusal::Invalid);
+    }
+    Ok(table_in(bytes))
 }
 
 // Whether each slot has one of the states.
@@ -67,9 +80,7 @@ pub fn table_in(bytes: &[u8]) -> JobTable
     for i in 0..JobTable::SLOTS {
         let at = i * SLOT_LEN;
         let number = payloads::job_number(&bytes[at + 1..]);
-        table.slots[i] = Slot {
-            entry: entry_of(bytes[at], number),
-        };
+        table.slots[i] = entry_of(bytes[at], number);
     }
     table
 }
@@ -95,7 +106,7 @@ pub fn put_table(table: JobTable, bytes: &mut [u8])
 {
     for i in 0..JobTable::SLOTS {
         let at = i * SLOT_LEN;
-        put_entry(table.slots[i].entry, &mut bytes[at..at + SLOT_LEN]);
+        put_entry(table.slots[i], &mut bytes[at..at + SLOT_LEN]);
     }
 }
 

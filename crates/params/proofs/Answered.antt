@@ -1,6 +1,6 @@
 -- What a caller learns of a layout that was answered. Assumes nothing.
 use mathlib.Core.Path.{◌≡◌, sym, ap, ◌∙◌}
-use Prim.Native.Nat.{ℕ, ◌*◌, ◌≤◌, ◌<◌}
+use Prim.Native.Nat.{◌*◌, ◌≤◌, ◌<◌}
 use Rattle.cells.specs.Figures.{Params, max_word, max_alphabet, max_bursts}
 use Rattle.construction_a.specs.Outcomes.{unserved, figures_number, figures_out}
 use Rattle.params.specs.declared.Layout.{Layout}

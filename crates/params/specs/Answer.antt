@@ -1,5 +1,5 @@
 -- What an answer of "figures alone" says: its number and values case by case, and what each field of a layout is. Assumes nothing.
-use Rattle.std.specs.Prelude.{◌≡◌, Result, Ok, Err, ℕ, ◌≤◌}
+use Rattle.std.specs.Prelude.{◌≡◌, Result, Ok, Err, ◌≤◌}
 use Rattle.refusals.specs.declared.Refusal.{Refusal}
 use Rattle.refusals.specs.Numbers.{number_of}
 use Rattle.cells.specs.Outcomes.{Coding}

@@ -27,7 +27,7 @@ use Rattle.jobs.proofs.Letters.{no_kind}
 use Rattle.records.specs.Session.{Session}
 use Rattle.lines.specs.Lines.{letter_s, letter_l, letter_w, letter_r}
 use Rattle.records.specs.Records.{record_head_len, if_fit, current, payload_len_of, write_len, read_len, record_len, max_record}
-use Rattle.records.specs.Bridge.{IsCurrent, Current, or_zero}
+use Rattle.records.specs.Bridge.{IsCurrent, Current}
 
 -- ---- The last accepted figures
 
@@ -60,11 +60,11 @@ module _ (last : Option Figures) (f : Figures) (l : WordLayout) (is : IsCurrent 
   pub payload-short : payload_len l.q l.message_len ≤ max_word
   payload-short = omega (arith, payload-within l.q l.message_len, is.numbers.len_is, is.small.message-most, is.small.word-most)
 
-  pub write-len-is : or_zero (write_len (current last)) ≡ record_head_len + 2 * l.m + payload_len l.q l.message_len
-  write-len-is = ap (λ x. or_zero (write_len x)) is.are ∙ omega (arith, is.numbers.bursts-is, payload-is)
+  pub write-len-is : some (record_head_len + 2 * l.m + payload_len l.q l.message_len) ≡ write_len (current last)
+  write-len-is = rw (is.are, is.numbers.bursts-is, payload-is)
 
-  pub read-len-is : or_zero (read_len (current last)) ≡ record_head_len + l.n
-  read-len-is = ap (λ x. or_zero (read_len x)) is.are ∙ omega (arith, is.numbers.word-is)
+  pub read-len-is : some (record_head_len + l.n) ≡ read_len (current last)
+  read-len-is = rw (is.are, is.numbers.word-is)
 
 -- figures that are the last accepted ones fit
 accepted-fit : (last : Option Figures) (f : Figures) → current last ≡ some f → ((coding_of f).in_range ≡ true) × ((coding_of f).fits ≡ true)
@@ -85,6 +85,11 @@ current-serves last f l is =
     serves f (Ok l) l refl (rw (fit.0, fit.1, n.count-is, n.tail-is, n.len_is)) is.laid
 
 -- ---- No record is longer than the buffer for it
+
+-- a length, or 0 where there is none
+abbrev pub or_zero : Option ℕ → ℕ
+or_zero none = 0
+or_zero (some k) = k
 
 current-most : (last : Option Figures) → (or_zero (write_len (current last)) ≤ max_record) × (or_zero (read_len (current last)) ≤ max_record)
 current-most none = (omega arith, omega arith)
@@ -110,10 +115,6 @@ record-most s letter = go (eqb letter letter_s) (eqb letter letter_l) (is_letter
     go false false false true d = (current-most s.figures).0
     go false false false false true = (current-most s.figures).1
     go false false false false false = omega arith
-
--- a length that is a record's
-pub measured : (s : Session) (letter r : ℕ) → r ≡ or_zero (record_len s letter) → (r ≡ or_zero (record_len s letter)) × (r ≤ max_record)
-measured s letter r e = (e, omega (arith, e, record-most s letter))
 
 -- ---- A letter of no record
 

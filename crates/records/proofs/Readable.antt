@@ -19,7 +19,8 @@ use Rattle.records.specs.Session.{Session}
 use Rattle.lines.specs.Lines.{letter_s, letter_l, letter_w, letter_r}
 use Rattle.records.specs.Records.{record_head_len, is_marked, letter_of, current, payload_len_of, write_len, read_len, record_len, max_record, is_whole}
 use Rattle.records.specs.Records.{readable, reach, begun_len, needed_for}
-use Rattle.records.specs.Bridge.{IsCurrent, or_zero}
+use Rattle.records.specs.Bridge.{IsCurrent}
+use Rattle.records.proofs.Lengths.{or_zero}
 use Rattle.records.proofs.Lengths.{record-most}
 
 -- ---- A record that can be read
@@ -59,22 +60,6 @@ cut bytes (some k) h l = eqb-other (length bytes) k (λ e. omega arith)
 either : (b : Bool) → ◌≡◌ {A = Option ℕ} (cond b none none) none
 either true = refl
 either false = refl
-
-whole_is : (bytes : List ℕ) (k : Option ℕ) → or_zero k ≢ 0 → is_whole bytes k ≡ eqb (length bytes) (or_zero k)
-whole_is bytes none h = absurd (h refl)
-whole_is bytes (some k) h = refl
-
-not-whole : (bytes : List ℕ) (k : Option ℕ) → record_head_len ≤ reach k → or_zero k ≡ 0 → is_whole bytes k ≡ false
-not-whole bytes none h e = refl
-not-whole bytes (some k) h e = absurd (omega arith)
-
-reach-none : (k : Option ℕ) → record_head_len ≤ reach k → or_zero k ≡ 0 → reach k ≡ record_head_len
-reach-none none h e = refl
-reach-none (some k) h e = absurd (omega arith)
-
-reach-some : (k : Option ℕ) → or_zero k ≢ 0 → reach k ≡ or_zero k
-reach-some none h = absurd (h refl)
-reach-some (some k) h = refl
 
 reach-most : (k : Option ℕ) → or_zero k ≤ max_record → reach k ≤ max_record
 reach-most none h = omega arith
@@ -125,21 +110,6 @@ module _ (s : Session) (bytes : List ℕ) where
   pub needed-most : needed_for s bytes ≤ max_record
   needed-most = reach-most (begun_len s bytes) begun-most
 
-  -- a length that is that record's
-  pub begun-measured : (r : ℕ) (k : Option ℕ) → begun_len s bytes ≡ k → r ≡ or_zero k → (r ≡ or_zero (begun_len s bytes)) × (r ≤ max_record)
-  begun-measured r k e z =
-      let is : r ≡ or_zero (begun_len s bytes) = z ∙ ap or_zero (sym e) in
-      (is, omega (arith, is, begun-most))
-
-  module _ (r : ℕ) (e : r ≡ or_zero (begun_len s bytes)) where
-    pub needed-none : r ≡ 0 → (record_head_len ≡ needed_for s bytes) × (record_head_len ≤ max_record)
-    needed-none z = (sym (reach-none (begun_len s bytes) needed-least (sym e ∙ z)), omega arith)
-
-    pub needed-some : r ≢ 0 → (r ≡ needed_for s bytes) × (r ≤ max_record)
-    needed-some n =
-        let is : r ≡ needed_for s bytes = e ∙ sym (reach-some (begun_len s bytes) (λ z. n (e ∙ z))) in
-        (is, omega (arith, is, needed-most))
-
   -- ---- Whether it can be read
 
   pub begun-readable : readable s bytes ≡ is_whole bytes (begun_len s bytes)
@@ -148,13 +118,6 @@ module _ (s : Session) (bytes : List ℕ) where
       by_le record_head_len (length bytes) (λ b. readable s bytes ≡ is_whole bytes (begun_len s bytes))
       (λ h. by_bool (is_marked bytes) (λ e. rw (e, begun-marked h e)) (λ e. rw (e, begun-unmarked e)))
       (λ h. rw (begun-short h, cut bytes (record_len s (letter_of bytes)) (reaches s (letter_of bytes)) h) (never (is_marked bytes)))
-
-  module _ (r : ℕ) (e : r ≡ or_zero (begun_len s bytes)) where
-    pub none-unreadable : r ≡ 0 → readable s bytes ≡ false
-    none-unreadable z = begun-readable ∙ not-whole bytes (begun_len s bytes) needed-least (sym e ∙ z)
-
-    pub some-readable : r ≢ 0 → readable s bytes ≡ eqb (length bytes) r
-    some-readable n = begun-readable ∙ whole_is bytes (begun_len s bytes) (λ z. n (e ∙ z)) ∙ ap (eqb (length bytes)) (sym e)
 
   pub readable-whole : readable s bytes ≡ true → is_whole bytes (record_len s (letter_of bytes)) ≡ true
   unfolding readable

@@ -46,10 +46,10 @@ pub record StillKnown (next : Session) (letter : ℕ) (k : Known) : Type 0 where
   pub figures : letter ≢ letter_s → letter ≢ letter_l → Current next.figures k.current
   pub table : k.twice ≡ twice next.table
 
--- a length, or 0 where there is none
-abbrev pub or_zero : Maybe ℕ → ℕ
-or_zero none = 0
-or_zero (some k) = k
+-- a length, or none
+abbrev pub length_as : Option ℕ → Maybe ℕ
+length_as (Some k) = some k
+length_as None = none
 
 -- a record that has room for the starts of a placement
 pub record HasStarts (m : ℕ) (bytes : List ℕ) : Type 0 where

@@ -10,7 +10,7 @@ ghost use Rattle.records.specs.Session.{at_start, max_records};
 ghost use Rattle.lines.specs.Lines.{max_line};
 ghost use Rattle.records.specs.Records.{record_head_len, two_bytes, write_len, read_len, record_len, max_record, readable, current as currentOf, figures_in};
 ghost use Rattle.records.specs.Records.{long_figures_in, letter_of, begun_len, needed_for};
-ghost use Rattle.records.specs.Bridge.{last_figures, session_of, Current, Knows, StillKnown, or_zero, HasStarts};
+ghost use Rattle.records.specs.Bridge.{last_figures, session_of, Current, Knows, StillKnown, length_as, HasStarts};
 
 use codes::{Figures, WordLayout};
 use jobs::JobTable;
@@ -103,46 +103,38 @@ impl Session {
     }
 }
 
-// How many bytes a record with this letter has, mark and letter included; 0 for an unknown letter and for W or R before an accepted S or L.
-fn record_len(session: Session, current: Option<LaidFigures>, letter: u8) -> usize
+// How many bytes a record with this letter has, mark and letter included; none for an unknown letter and for W or R before an accepted S or L.
+fn record_len(session: Session, current: Option<LaidFigures>, letter: u8) -> Option<usize>
     requires { Current (last_figures session.figures) current }
-    ensures len { result ≡ or_zero (record_len (session_of session) letter) }
-    ensures most { result ≤ max_record }
+    ensures { length_as result ≡ record_len (session_of session) letter }
 {
-    let figures = session.figures;
     match letter {
-        b'S' => HEAD_LEN + FIGURES_LEN,
-        b'L' => HEAD_LEN + LONG_FIGURES_LEN,
-        b'O' => HEAD_LEN + NUMBER_BYTES,
-        b'C' => HEAD_LEN + NUMBER_BYTES,
-        b'F' => HEAD_LEN + NUMBER_BYTES,
-        b'W' => write_len(figures, current),
-        b'R' => read_len(figures, current),
-        _ => 0,
+        b'S' => Some(HEAD_LEN + FIGURES_LEN),
+        b'L' => Some(HEAD_LEN + LONG_FIGURES_LEN),
+        b'O' => Some(HEAD_LEN + NUMBER_BYTES),
+        b'C' => Some(HEAD_LEN + NUMBER_BYTES),
+        b'F' => Some(HEAD_LEN + NUMBER_BYTES),
+        b'W' => write_len(session.figures, current),
+        b'R' => read_len(session.figures, current),
+        _ => None,
     }
 }
 
 // m starts and K bytes.
-fn write_len(figures: Option<Figures>, current: Option<LaidFigures>) -> usize
+fn write_len(figures: Option<Figures>, current: Option<LaidFigures>) -> Option<usize>
     requires { Current (last_figures figures) current }
-    ensures { result ≡ or_zero (write_len (currentOf (last_figures figures))) }
+    ensures { length_as result ≡ write_len (currentOf (last_figures figures)) }
 {
-    let Some(laid) = current else {
-        return 0;
-    };
-    let layout = laid.layout;
-    HEAD_LEN + 2 * layout.m + bytes::payload_len(layout.q, layout.message_len)
+    let layout = current?.layout;
+    Some(HEAD_LEN + 2 * layout.m + bytes::payload_len(layout.q, layout.message_len))
 }
 
 // n bytes.
-fn read_len(figures: Option<Figures>, current: Option<LaidFigures>) -> usize
+fn read_len(figures: Option<Figures>, current: Option<LaidFigures>) -> Option<usize>
     requires { Current (last_figures figures) current }
-    ensures { result ≡ or_zero (read_len (currentOf (last_figures figures))) }
+    ensures { length_as result ≡ read_len (currentOf (last_figures figures)) }
 {
-    let Some(laid) = current else {
-        return 0;
-    };
-    HEAD_LEN + laid.layout.n
+    Some(HEAD_LEN + current?.layout.n)
 }
 
 // The last accepted figures and their layout.
@@ -179,11 +171,7 @@ pub fn needed_by(session: Session, current: Option<LaidFigures>, waiting: &[u8])
     ensures bytes { result ≡ needed_for (session_of session) waiting.now }
     ensures most { result ≤ max_record }
 {
-    let len = begun_len(session, current, waiting);
-    if len == 0 {
-        return HEAD_LEN;
-    }
-    len
+    begun_len(session, current, waiting).unwrap_or(HEAD_LEN)
 }
 
 // Whether a record has the mark, a known letter, and its letter's length.
@@ -198,27 +186,25 @@ pub fn is_readable_by(session: Session, current: Option<LaidFigures>, received: 
     requires { Current (last_figures session.figures) current }
     ensures { result ≡ readable (session_of session) received.now }
 {
-    let len = begun_len(session, current, received);
-    if len == 0 {
-        return false;
+    match begun_len(session, current, received) {
+        Some(len) => received.len() == len,
+        None => false,
     }
-    received.len() == len
 }
 
-// How many bytes the record has that begins with these; 0 where mark and letter are not there yet, and where no record begins with them.
-fn begun_len(session: Session, current: Option<LaidFigures>, received: &[u8]) -> usize
+// How many bytes the record has that begins with these; none where mark and letter are not there yet, and where no record begins with them.
+fn begun_len(session: Session, current: Option<LaidFigures>, received: &[u8]) -> Option<usize>
     requires { Current (last_figures session.figures) current }
-    ensures len { result ≡ or_zero (begun_len (session_of session) received.now) }
-    ensures most { result ≤ max_record }
+    ensures { length_as result ≡ begun_len (session_of session) received.now }
 {
     if received.len() < HEAD_LEN {
-        return 0;
+        return None;
     }
     if received[0] != b'L' {
-        return 0;
+        return None;
     }
     if received[1] != b'T' {
-        return 0;
+        return None;
     }
     record_len(session, current, received[2])
 }

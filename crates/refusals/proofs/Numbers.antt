@@ -1,5 +1,5 @@
 -- No refusal has the number of an accepted call. Assumes nothing.
-use Rattle.std.proofs.Common.{◌≡◌, ◌≢◌, arith}
+use Rattle.std.proofs.Common.{◌≢◌, arith}
 use Rattle.refusals.specs.declared.Refusal.{Refusal}
 use Rattle.refusals.specs.declared.Refusal.TheVariants.{Invalid, Unfit, Length, Symbol, Starts, Uncovered, Pattern, Value, Disagrees, Payload, Record, Prescription, Depth, Erased, Majority, Surplus, Cancelled, AlreadyOpen, NotOpen, Full, NumberZero, NotCancelled, Held, NotHeld}
 use Rattle.refusals.specs.Refusals.{served}

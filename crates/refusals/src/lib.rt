@@ -77,55 +77,6 @@ impl Refusal {
     // What stands for an accepted call in place of a number.
     pub const NONE: u8 = 0;
 
-    // The numbers, where a call still answers one.
-    pub const INVALID: u8 = 1;
-
-    pub const UNFIT: u8 = 2;
-
-    pub const LENGTH: u8 = 3;
-
-    pub const SYMBOL: u8 = 4;
-
-    pub const STARTS: u8 = 5;
-
-    pub const UNCOVERED: u8 = 6;
-
-    pub const PATTERN: u8 = 7;
-
-    pub const VALUE: u8 = 8;
-
-    pub const DISAGREES: u8 = 9;
-
-    pub const PAYLOAD: u8 = 10;
-
-    pub const RECORD: u8 = 11;
-
-    pub const PRESCRIPTION: u8 = 16;
-
-    pub const DEPTH: u8 = 18;
-
-    pub const ERASED: u8 = 19;
-
-    pub const MAJORITY: u8 = 21;
-
-    pub const SURPLUS: u8 = 22;
-
-    pub const CANCELLED: u8 = 12;
-
-    pub const ALREADY_OPEN: u8 = 13;
-
-    pub const NOT_OPEN: u8 = 14;
-
-    pub const FULL: u8 = 15;
-
-    pub const NUMBER_ZERO: u8 = 17;
-
-    pub const NOT_CANCELLED: u8 = 20;
-
-    pub const HELD: u8 = 23;
-
-    pub const NOT_HELD: u8 = 24;
-
     // The numbers of both lists, in the order of the enum. Its contract ties each refusal here to the number of specs/.
     pub fn all() -> [u8; 24]
         ensures list { result ≡ refusals }

@@ -2,11 +2,11 @@
 // functions answer, a line for each. Assumes nothing.
 #![tactic(auto)]
 
-use codes::{Figures, FiguresAnswer};
-use decoder::WordAnswer;
-use jobs::JobTable;
+use codes::Figures;
+use jobs::{JobTable, TableAnswer};
 use params::Params;
-use placements::{CoverAnswer, Placement};
+use placements::Placement;
+use refusals::Refusal;
 use std::io;
 
 fn main(rt: HostRuntime) -> io::Result<()> {
@@ -43,20 +43,14 @@ fn byte_row(rt: &impl Print, n: u32, m: u32, b: u32) -> io::Result<()> {
 
 // The answer to figures alone: T, r and k, or the refusal.
 fn figures_row(rt: &impl Print, p: Params) -> io::Result<()> {
-    put(rt, "n ", p.n as u64)?;
-    put(rt, " q ", p.q as u64)?;
-    put(rt, " m ", p.m as u64)?;
-    put(rt, " b ", p.b as u64)?;
-    let answer = Figures::Ranked(p).layout();
-    match answer {
-        FiguresAnswer::Refused(number) => put(rt, ": refused ", number as u64)?,
-        FiguresAnswer::Fit(layout) => {
-            put(rt, ": T ", layout.placement_count())?;
-            put(rt, ", r ", layout.index_tail() as u64)?;
-            put(rt, ", k ", layout.message_len as u64)?;
+    print!(rt; "n {} q {} m {} b {}: ", p.n, p.q, p.m, p.b)?;
+    match Figures::Ranked(p).layout() {
+        Err(refusal) => println!(rt; "refused {}", u8::from(refusal)),
+        Ok(layout) => {
+            let (t, r) = (layout.placement_count(), layout.index_tail());
+            println!(rt; "T {t}, r {r}, k {}", layout.message_len)
         }
     }
-    end_row(rt)
 }
 
 // Covering on the first strip, without a defect and with one at position 12.
@@ -125,11 +119,10 @@ fn write_row(
     message: &[u8],
     word: &mut [u8],
 ) -> io::Result<()> {
-    let answer = codes::encode(Figures::Ranked(figures), at, message, word);
-    put(rt, what, answer as u64)?;
-    rt.print(" ")?;
+    let answer = refusals::answer(codes::encode(Figures::Ranked(figures), at, message, word));
+    print!(rt; "{what}{answer} ")?;
     put_symbols(rt, word)?;
-    end_row(rt)
+    println!(rt;)
 }
 
 // Up to three starts.
@@ -167,29 +160,24 @@ fn first_word(index: [u8; 6]) -> [u8; 30] {
 
 fn read_row(rt: &impl Print, what: &str, word: &[u8]) -> io::Result<()> {
     let mut message = [0u8; 20];
-    rt.print(what)?;
     let found = codes::decode(Figures::Ranked(first_strip()), word, &mut message);
-    let answer = found.answer;
-    match answer {
-        WordAnswer::Refused(number) => put(rt, ": refused ", number as u64)?,
-        WordAnswer::Accepted(rank) => {
-            let placement = found.placement;
-            put(rt, ": rank ", rank)?;
-            put(rt, ", start ", placement.starts[0] as u64)?;
-            rt.print(", message ")?;
+    match found.answer {
+        Err(refusal) => println!(rt; "{what}: refused {}", u8::from(refusal)),
+        Ok(rank) => {
+            print!(rt;
+                "{what}: rank {rank}, start {}, message ",
+                found.placement.starts[0]
+            )?;
             put_symbols(rt, &message)?;
+            println!(rt;)
         }
     }
-    end_row(rt)
 }
 
 // Symbols one after the other, each below 10.
 fn put_symbols(rt: &impl Print, symbols: &[u8]) -> io::Result<()> {
-    let mut i: usize = 0;
-    while i < symbols.len() {
-        let symbol = symbols[i];
-        rt.print(symbol as u64)?;
-        i += 1;
+    for symbol in symbols {
+        print!(rt; "{symbol}")?;
     }
     Ok(())
 }
@@ -203,47 +191,27 @@ fn strip(n: u32, q: u32, m: u32, b: u32) -> Params {
     Params { n, q, m, b }
 }
 
-fn cover_row(rt: &impl Print, what: &str, found: CoverAnswer) -> io::Result<()> {
-    rt.print(what)?;
-    let placement = found.placement;
-    if found.answer == 0 {
-        put(rt, ": start ", placement.starts[0] as u64)?;
-    } else {
-        put(rt, ": refused ", found.answer as u64)?;
+fn cover_row(rt: &impl Print, what: &str, found: Result<Placement, Refusal>) -> io::Result<()> {
+    match found {
+        Ok(placement) => println!(rt; "{what}: start {}", placement.starts[0]),
+        Err(refusal) => println!(rt; "{what}: refused {}", u8::from(refusal)),
     }
-    end_row(rt)
 }
 
 // The table filled with the jobs 1 to 64; then 65 is refused, and opens once 1 is finished.
 fn table_rows(rt: &impl Print) -> io::Result<()> {
     let mut table = JobTable::empty();
-    let mut number: u32 = 1;
-    while number <= 64 {
-        let opened = table.open(number);
-        call_row(rt, "open ", number, opened.answer)?;
-        table = opened.table;
-        number += 1;
+    for number in 1..=64 {
+        table = call_row(rt, "open", number, table.open(number))?;
     }
-    let full = table.open(65);
-    call_row(rt, "open ", 65, full.answer)?;
-    let finished = full.table.finish(1);
-    call_row(rt, "finish ", 1, finished.answer)?;
-    let room = finished.table.open(65);
-    call_row(rt, "open ", 65, room.answer)
+    table = call_row(rt, "open", 65, table.open(65))?;
+    table = call_row(rt, "finish", 1, table.finish(1))?;
+    call_row(rt, "open", 65, table.open(65))?;
+    Ok(())
 }
 
-fn call_row(rt: &impl Print, what: &str, number: u32, answer: u8) -> io::Result<()> {
-    put(rt, what, number as u64)?;
-    put(rt, ": ", answer as u64)?;
-    end_row(rt)
-}
-
-// Writes a text and the number behind it.
-fn put(rt: &impl Print, what: &str, number: u64) -> io::Result<()> {
-    rt.print(what)?;
-    rt.print(number)
-}
-
-fn end_row(rt: &impl Print) -> io::Result<()> {
-    rt.print("\n")
+// The answer of a call; the table that it hands back goes on.
+fn call_row(rt: &impl Print, what: &str, number: u32, called: TableAnswer) -> io::Result<JobTable> {
+    println!(rt; "{what} {number}: {}", refusals::answer(called.answer))?;
+    Ok(called.table)
 }

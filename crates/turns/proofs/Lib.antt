@@ -1,4 +1,3 @@
-pub mod Front
 pub mod Cut
 pub mod Pieces
 pub mod Serving

@@ -3,7 +3,6 @@
 #![tactic(auto)]
 
 ghost use Rattle.std.specs.Prelude.{◌≡◌, cond, ◌+◌, ◌-◌, ◌≤◌, min, length, take, drop};
-ghost use Rattle.text.specs.Text.{overwrite};
 ghost use Rattle.turns.specs.declared.Phase.TheVariants.{Failed};
 ghost use Rattle.turns.specs.View.{buffer_len, wants_at, room_at, ready_at, advance_out};
 ghost use Rattle.turns.specs.State.{Buffers, WithinBuffers, view_of, waiting_in, Begun, WaitsInFront, Fronted, Moved, repeated, in_phase, is_repeated};
@@ -22,7 +21,7 @@ const MAX_REPEATS: u64 = u64::MAX;
 const EINTR: i32 = 4;
 
 // What the program wants of the system: more input, all that is gathered written, or nothing any more.
-#[derive(Clone, Copy)]
+#[derive(Clone, Copy, Debug, PartialEq, Eq)]
 pub enum Wants {
     Read,
     Write,
@@ -30,7 +29,7 @@ pub enum Wants {
 }
 
 // How the input stands: it goes on, has ended, or a read failed; or the last line is gathered, and no more of it is looked at.
-#[derive(Clone, Copy)]
+#[derive(Clone, Copy, Debug, PartialEq, Eq)]
 pub enum Phase {
     Open,
     Ended,
@@ -89,12 +88,9 @@ impl State {
         if self.gathered != 0 {
             return Wants::Write;
         }
-        let phase = self.phase;
-        match phase {
+        match self.phase {
             Phase::Done => Wants::Stop,
-            Phase::Open => Wants::Read,
-            Phase::Ended => Wants::Read,
-            Phase::Failed => Wants::Read,
+            Phase::Open | Phase::Ended | Phase::Failed => Wants::Read,
         }
     }
 
@@ -107,16 +103,9 @@ impl State {
             return self.after_failed(error);
         }
         if got > 0 {
-            let session = self.session;
-            let phase = self.phase;
-            let to = self.to;
             return State {
-                session,
-                from: self.from,
-                to: to + got as usize,
-                gathered: self.gathered,
-                phase,
-                repeats: self.repeats,
+                to: self.to + got as usize,
+                ..self
             };
         }
         self.in_phase(Phase::Ended)
@@ -126,25 +115,16 @@ impl State {
     pub fn after_write(self, is_written: bool) -> State
         ensures { result ≡ after_write self is_written }
     {
-        let session = self.session;
-        let phase = self.phase;
         if is_written {
             return State {
-                session,
-                from: self.from,
-                to: self.to,
                 gathered: 0,
-                phase,
-                repeats: self.repeats,
+                ..self
             };
         }
         State {
-            session,
-            from: self.from,
-            to: self.to,
             gathered: 0,
             phase: Phase::Done,
-            repeats: self.repeats,
+            ..self
         }
     }
 
@@ -155,9 +135,10 @@ impl State {
         if !self.is_repeated(error) {
             return self.in_phase(Phase::Failed);
         }
-        let mut next = self;
-        next.repeats = self.repeats - 1;
-        next
+        State {
+            repeats: self.repeats - 1,
+            ..self
+        }
     }
 
     // The error is that of a call that a signal interrupted, and repeats are left.
@@ -173,15 +154,7 @@ impl State {
     fn in_phase(self, phase: Phase) -> State
         ensures { result ≡ in_phase self phase }
     {
-        let session = self.session;
-        State {
-            session,
-            from: self.from,
-            to: self.to,
-            gathered: self.gathered,
-            phase,
-            repeats: self.repeats,
-        }
+        State { phase, ..self }
     }
 
     // Any line has room behind what is gathered.
@@ -197,11 +170,9 @@ impl State {
         requires { WithinBuffers self }
         ensures { result ≡ ready_at self.phase needed (self.to - self.from) }
     {
-        let phase = self.phase;
-        match phase {
+        match self.phase {
             Phase::Open => needed <= self.to - self.from,
-            Phase::Ended => true,
-            Phase::Failed => true,
+            Phase::Ended | Phase::Failed => true,
             Phase::Done => false,
         }
     }
@@ -212,45 +183,16 @@ impl State {
         ensures waits { waiting_in result input.new ≡ waiting_in self input.old }
         ensures same { Fronted self result }
     {
-        let wants = self.wants();
-        match wants {
+        match self.wants() {
             Wants::Read => {
-                let session = self.session;
-                let phase = self.phase;
-                let from = self.from;
-                let to = self.to;
+                input.copy_within(self.from..self.to, 0);
                 State {
-                    session,
                     from: 0,
-                    to: to_front(input, from, to),
-                    gathered: self.gathered,
-                    phase,
-                    repeats: self.repeats,
+                    to: self.to - self.from,
+                    ..self
                 }
             }
-            Wants::Write => self,
-            Wants::Stop => self,
+            Wants::Write | Wants::Stop => self,
         }
     }
-}
-
-// Moves the bytes from `from` to `to` to the front, and answers how many there are.
-fn to_front(input: &mut [u8], from: usize, to: usize) -> usize
-    requires { (from ≤ to) × (to ≤ length input.old) }
-    ensures moved { input.new ≡ overwrite 0 (take (to - from) (drop from input.old)) input.old }
-    ensures len { result ≡ to - from }
-{
-    let rest = to - from;
-    let mut i: usize = 0;
-    while i < rest {
-        input[i] = input[from + i];
-        i += 1;
-    }
-    rest
-}
-
-fn least(a: usize, b: usize) -> usize
-    ensures { result ≡ min a b }
-{
-    if a < b { a } else { b }
 }

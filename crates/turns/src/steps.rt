@@ -7,7 +7,7 @@ ghost use Rattle.records.specs.Records.{needed_for};
 ghost use Rattle.turns.specs.View.{step_at, phase_after, served_out, advance_out};
 ghost use Rattle.turns.specs.State.{Buffers, WithinBuffers, Roomy, view_of, waiting_in};
 
-use crate::{Phase, State, least};
+use crate::{Phase, State};
 use records::{Known, Session};
 use transfer::StepAnswer;
 
@@ -26,15 +26,12 @@ pub fn serve_on(
     let mut now = state;
     let mut known = Known::of(state.session);
     while now.has_room() {
-        let session = now.session;
-        let from = now.from;
-        let to = now.to;
-        let current = known.current;
-        let needed = records::needed_by(session, current, &input[from..to]);
+        let waiting = &input[now.from..now.to];
+        let needed = records::needed_by(now.session, known.current, waiting);
         if !now.is_ready(needed) {
             return now;
         }
-        let letter = records::letter_in(&input[from..to]);
+        let letter = records::letter_in(waiting);
         now = serve(now, known, needed, input, output, line);
         known = known.after(letter, now.session);
     }
@@ -56,22 +53,17 @@ fn serve(
     ensures within { WithinBuffers result }
     ensures repeats { result.repeats ≡ state.repeats }
 {
-    let session = state.session;
-    let phase = state.phase;
     let from = state.from;
-    let to = state.to;
-    let end = from + least(needed, to - from);
-    let answer = step_at(phase, session, known, &input[from..end], line);
-    let len = answer.len;
-    let gathered = put_first(output, state.gathered, line, len);
-    let next = answer.next;
+    let phase = state.phase;
+    let end = from + needed.min(state.to - from);
+    let answer = step_at(phase, state.session, known, &input[from..end], line);
+    let gathered = put_first(output, state.gathered, line, answer.len);
     State {
-        session: next,
+        session: answer.next,
         from: end,
-        to,
         gathered,
         phase: phase_after(phase, answer.stops),
-        repeats: state.repeats,
+        ..state
     }
 }
 
@@ -88,9 +80,9 @@ fn step_at(
 {
     match phase {
         Phase::Failed => transfer::unreadable(session, line),
-        Phase::Open => transfer::step_on(session, known, received, line),
-        Phase::Ended => transfer::step_on(session, known, received, line),
-        Phase::Done => transfer::step_on(session, known, received, line),
+        Phase::Open | Phase::Ended | Phase::Done => {
+            transfer::step_on(session, known, received, line)
+        }
     }
 }
 

@@ -1,15 +1,16 @@
 -- `is_readable_by` meets its contract: no record begins so, or by its length. Assumes nothing.
-use mathlib.Core.Path.{sym}
+use mathlib.Core.Path.{sym, ap, ◌∙◌}
 use Rattle.records.specs.Bridge.{session_of}
-use Rattle.records.proofs.Readable.{none-unreadable, some-readable}
+use Rattle.records.specs.Records.{is_whole}
+use Rattle.records.proofs.Readable.{begun-readable}
 use Rattle.records.proofs.is_readable_by.Goals as goal
 
-pub returns-then-len-eq0 : goal.returns-then-len-eq0
-returns-then-len-eq0 c =
-    let a = c.args in
-    sym (none-unreadable (session_of a.session) a.received.now c.begun_len-len.result c.begun_len-len.ensures.len c.if-len-eq0.true)
+pub returns-in-Some : goal.returns-in-Some
+returns-in-Some c =
+    let bytes = c.args.received.now in
+    ap (is_whole bytes) c.in-Some.ensures ∙ sym (begun-readable (session_of c.args.session) bytes)
 
-pub returns : goal.returns
-returns c =
-    let a = c.args in
-    sym (some-readable (session_of a.session) a.received.now c.begun_len-len.result c.begun_len-len.ensures.len c.if-len-eq0.false)
+pub returns-in-None : goal.returns-in-None
+returns-in-None c =
+    let bytes = c.args.received.now in
+    ap (is_whole bytes) c.in-None.ensures ∙ sym (begun-readable (session_of c.args.session) bytes)

@@ -1,7 +1,7 @@
 -- `bare_parts` meets its contract: `bare` holds those among the first i parts. Assumes nothing.
 use mathlib.Core.Path.{◌≡◌}
 use mathlib.Core.Bool.{not}
-use Prim.Native.Nat.{◌-◌, ◌≤◌}
+use Prim.Native.Nat.{◌≤◌}
 use Rattle.combinatorics.specs.Stretch.{has, members}
 use Rattle.construction_a.specs.Writing.{row}
 use Rattle.construction_a.specs.Reading.{looks_fixed}

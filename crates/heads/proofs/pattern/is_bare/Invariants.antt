@@ -1,6 +1,6 @@
 -- `is_bare` meets its contract: no block of the part before j looks fixed. Assumes nothing.
 use mathlib.Core.Path.{◌≡◌}
-use Prim.Native.Nat.{◌-◌, ◌≤◌}
+use Prim.Native.Nat.{◌-◌}
 use Rattle.combinatorics.specs.Stretch.{has}
 use Rattle.construction_a.specs.Writing.{row}
 use Rattle.construction_a.specs.Reading.{looks_fixed}

@@ -5,7 +5,6 @@ use mathlib.Core.Option.{some}
 use Prim.Native.Nat.{ℕ, ◌+◌, ◌*◌, ◌≤◌, ◌<◌}
 use native.Mathlib.Omega.{arith}
 use lib.ListN.{get_or, length-set}
-use Rattle.combinatorics.specs.Stretch.{tabulate}
 use Rattle.combinatorics.proofs.Members.{take-is, filled_on}
 use Rattle.construction_a.specs.Writing.{row}
 use Rattle.construction_a.specs.Reading.{looks_fixed, open_blocks, index_in_part}

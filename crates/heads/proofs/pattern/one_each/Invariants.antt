@@ -1,7 +1,7 @@
 -- `one_each` meets its contract: the first i parts have shown their blocks. Assumes nothing.
 use mathlib.Core.Path.{◌≡◌}
 use mathlib.Core.Option.{some}
-use Prim.Native.Nat.{ℕ, ◌-◌, ◌≤◌, ◌<◌}
+use Prim.Native.Nat.{ℕ, ◌<◌}
 use lib.ListN.{length, get_or}
 use Rattle.cells.specs.Figures.{max_bursts}
 use Rattle.construction_a.specs.Reading.{looks_fixed, index_in_part}

@@ -1,7 +1,7 @@
 -- `open_blocks` meets its contract: `shown` holds those among the first j blocks of the part. Assumes nothing.
 use mathlib.Core.Path.{◌≡◌}
 use mathlib.Core.Bool.{not}
-use Prim.Native.Nat.{◌-◌, ◌≤◌}
+use Prim.Native.Nat.{◌≤◌}
 use Rattle.combinatorics.specs.Stretch.{members}
 use Rattle.construction_a.specs.Writing.{row}
 use Rattle.construction_a.specs.Reading.{looks_fixed}

@@ -1,6 +1,6 @@
 -- `whole_part` meets its contract: the first j blocks of the part stand in the answer. Assumes nothing.
 use mathlib.Core.Path.{◌≡◌}
-use Prim.Native.Nat.{ℕ, ◌+◌, ◌*◌, ◌-◌, ◌≤◌, ◌<◌}
+use Prim.Native.Nat.{ℕ, ◌+◌, ◌*◌, ◌<◌}
 use lib.ListN.{length, get_or}
 use Rattle.cells.specs.Figures.{max_bursts}
 use Rattle.heads.proofs.pattern.whole_part.Given as goal

@@ -1,5 +1,4 @@
 -- `heads_below` meets its contract: the blocks from j on decide. Assumes nothing.
-use Prim.Native.Nat.{◌-◌, ◌≤◌}
 use Rattle.params.specs.Given.{figures_of}
 use Rattle.heads.proofs.Whole.{Tested}
 use Rattle.heads.proofs.written.heads_below.Given as goal

@@ -1,6 +1,4 @@
 -- `with_digits` meets its contract: the first i digits are taken in. Assumes nothing.
-use Prim.Native.Nat.{◌-◌, ◌≤◌}
-use lib.ListN.{length}
 use Rattle.heads.proofs.Valued.{Taken}
 use Rattle.heads.proofs.written.with_digits.Given as goal
 

@@ -1,6 +1,5 @@
 -- `written_value` meets its contract: the digits of the first j blocks are taken in. Assumes nothing.
 use mathlib.Core.Path.{◌≡◌}
-use Prim.Native.Nat.{◌-◌, ◌≤◌}
 use Rattle.params.specs.Given.{figures_of}
 use Rattle.heads.proofs.Valued.{Summed}
 use Rattle.heads.proofs.written.written_value.Given as goal

@@ -1,6 +1,6 @@
 -- `starts_of` meets its contract: the first i sub-blocks have their entries. Assumes nothing.
 use mathlib.Core.Path.{◌≡◌}
-use Prim.Native.Nat.{ℕ, suc, ◌+◌, ◌-◌, ◌≤◌, ◌<◌}
+use Prim.Native.Nat.{ℕ, suc, ◌<◌}
 use lib.ListN.{length, get_or}
 use Rattle.larsson.specs.Figures.{sub_start}
 use Rattle.params.specs.Given.{max_blocks}

@@ -1,8 +1,7 @@
 -- `byte_width` meets its contract: the values are those that so many symbols spell, and no smaller number was enough. Assumes nothing.
 use mathlib.Core.Path.{◌≡◌}
 use mathlib.Core.Bool.{false}
-use Prim.Native.Nat.{ℕ, ◌-◌, ◌^◌, ◌≤◌, ◌<◌}
-use Rattle.cells.specs.Bytes.{max_byte_width}
+use Prim.Native.Nat.{ℕ, ◌^◌, ◌<◌}
 use Rattle.cells.proofs.Bytes.{spells_byte}
 use Rattle.params.proofs.bytes.byte_width.Given as goal
 

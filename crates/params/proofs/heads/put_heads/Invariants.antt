@@ -1,6 +1,6 @@
 -- `put_heads` meets its contract: the blocks of the first i parts have their entries, and the next part starts behind them. Assumes nothing.
 use mathlib.Core.Path.{◌≡◌}
-use Prim.Native.Nat.{ℕ, suc, ◌-◌, ◌*◌, ◌≤◌, ◌<◌}
+use Prim.Native.Nat.{ℕ, suc, ◌*◌, ◌<◌}
 use lib.ListN.{length, get_or}
 use Rattle.cells.specs.Cut.{piece_start, block_head}
 use Rattle.params.specs.Given.{max_blocks}

@@ -1,6 +1,6 @@
 -- `put_part` meets its contract: the first j blocks of the part have their entries, and those before the part stand. Assumes nothing.
 use mathlib.Core.Path.{◌≡◌}
-use Prim.Native.Nat.{ℕ, suc, ◌+◌, ◌-◌, ◌≤◌, ◌<◌}
+use Prim.Native.Nat.{ℕ, suc, ◌+◌, ◌<◌}
 use lib.ListN.{length, get_or}
 use Rattle.cells.specs.Cut.{piece_start}
 use Rattle.params.specs.Given.{max_blocks}

@@ -5,7 +5,6 @@ use native.Mathlib.Nat.{mul_assoc, pow-suc}
 use native.Mathlib.Numerals.{add-one}
 use native.Mathlib.Omega.{arith}
 use borrow.Author.Count.{below_more}
-use borrow.Author.Rules.{rules}
 use Rattle.combinatorics.proofs.Cases.{leb-holds, leb-fails}
 use Rattle.combinatorics.proofs.Stretch.{first-is, first-none}
 use Rattle.params.proofs.Capped.{cap-left, cap-reached, cap-missed}

@@ -1,7 +1,7 @@
 -- `least_factors` meets its contract: the values are those of r factors, stopped at the count, and no number below r was enough. Assumes nothing.
 use mathlib.Core.Path.{◌≡◌}
 use mathlib.Core.Bool.{Bool, false}
-use Prim.Native.Nat.{ℕ, ◌-◌, ◌*◌, ◌^◌, ◌≤◌, ◌<◌, min}
+use Prim.Native.Nat.{ℕ, ◌*◌, ◌^◌, ◌<◌, min}
 use lib.Dec.{leb}
 use Rattle.params.proofs.tail.least_factors.Given as goal
 

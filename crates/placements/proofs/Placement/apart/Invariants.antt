@@ -1,6 +1,6 @@
 -- `Placement::apart` meets its contract: the bursts from j on are apart past `free` exactly when all are. Assumes nothing.
 use mathlib.Core.Path.{◌≡◌}
-use Prim.Native.Nat.{◌+◌, ◌-◌, ◌^◌, ◌≤◌, ◌<◌}
+use Prim.Native.Nat.{◌+◌, ◌^◌, ◌<◌}
 use lib.ListN.{drop}
 use Rattle.combinatorics.specs.Bursts.{apart}
 use Rattle.placements.specs.Bridge.{starts_in}

@@ -1,6 +1,6 @@
 -- `Placement::rank` meets its contract: what is summed and what the bursts from j on add make the rank. Assumes nothing.
 use mathlib.Core.Path.{◌≡◌}
-use Prim.Native.Nat.{◌+◌, ◌-◌, ◌≤◌}
+use Prim.Native.Nat.{◌+◌, ◌-◌}
 use lib.ListN.{drop}
 use Rattle.combinatorics.specs.Bursts.{rank_of}
 use Rattle.combinatorics.proofs.Loops.{rank_left}

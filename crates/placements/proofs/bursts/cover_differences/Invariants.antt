@@ -1,6 +1,4 @@
 -- `cover_differences` meets its contract: the differences before position x lie in bursts. Assumes nothing.
-use Prim.Native.Nat.{◌-◌, ◌≤◌}
-use lib.ListN.{length}
 use Rattle.combinatorics.proofs.Cover.{Covers}
 use Rattle.placements.specs.Bridge.{starts_in, differ_at}
 use Rattle.placements.proofs.bursts.cover_differences.Given as goal

@@ -1,5 +1,4 @@
 -- `cover_erasures` meets its contract: the erasures before `from` lie in bursts, and those from burst j on decide. Assumes nothing.
-use Prim.Native.Nat.{◌-◌, ◌≤◌}
 use lib.ListN.{drop}
 use Rattle.placements.specs.Bridge.{starts_in}
 use Rattle.placements.proofs.Positions.{Tested}

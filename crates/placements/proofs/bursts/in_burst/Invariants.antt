@@ -1,6 +1,5 @@
 -- `in_burst` meets its contract: the bursts before j don't have the position. Assumes nothing.
 use mathlib.Core.Path.{◌≡◌}
-use Prim.Native.Nat.{◌-◌, ◌≤◌}
 use lib.ListN.{drop}
 use Rattle.combinatorics.specs.Bursts.{in_burst}
 use Rattle.placements.specs.Bridge.{starts_in}

@@ -1,7 +1,7 @@
 -- `placement_at` meets its contract: the first j starts are filled in, and the others are 0. Assumes nothing.
 use mathlib.Core.Path.{◌≡◌}
 use mathlib.Core.List.{List}
-use Prim.Native.Nat.{ℕ, ◌+◌, ◌-◌, ◌*◌, ◌≤◌}
+use Prim.Native.Nat.{ℕ, ◌+◌, ◌*◌}
 use lib.ListN.{get_or}
 use Rattle.cells.specs.Bytes.{byte_values}
 use Rattle.placements.proofs.Begun.{begun}

@@ -14,7 +14,7 @@ put_first-gathered-requires c =
 pub returns-clause-view : goal.returns-clause-view
 returns-clause-view c =
     let s = c.args.state in
-    let n = c.least in
+    let n = c.min in
     let a = c.step_at-answer in
     let p = c.put_first-gathered in
     let l : length a.new.line ≡ max_line = search rules in
@@ -26,7 +26,7 @@ returns-clause-view c =
 pub returns-clause-within : goal.returns-clause-within
 returns-clause-within c =
     let s = c.args.state in
-    let n = c.least in
+    let n = c.min in
     let a = c.step_at-answer in
     let p = c.put_first-gathered in
     let l : length a.new.line ≡ max_line = search rules in
