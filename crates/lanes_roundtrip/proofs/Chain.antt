@@ -173,17 +173,6 @@ module _ (l : WordLayout) (d : ℕ) (map messages damage words strip read : List
           reads = λ j h out e. law.read message (found_interleaved k d map messages damage) out sent found e j h;
         })
 
-  -- ---- What is lent, by the layout's own numbers
-
-  pub words-room : length words ≡ d * l.n
-  words-room = sizes.words-len ∙ ap (λ (x : ℕ). d * x) (sym (numbers-in l lent.serves).word-is)
-
-  pub messages-room : length messages ≡ d * l.message_len
-  messages-room = sizes.messages-len ∙ ap (λ (x : ℕ). d * x) (sym (numbers-in l lent.serves).len_is)
-
-  pub read-room : length read ≡ d * l.message_len
-  read-room = sizes.read-len ∙ ap (λ (x : ℕ). d * x) (sym (numbers-in l lent.serves).len_is)
-
   -- ---- The calls' answers put together
 
   module _ (maps : List ℕ) (r : Bool) (taken : maps ≡ (deinterleave_under (coding_in l) d map words).buffer)

@@ -1,16 +1,32 @@
 -- A test of each lane, one after another, and what a word's answer says. Assumes nothing.
 use mathlib.Core.Path.{◌≡◌, refl}
-use mathlib.Core.Bool.{Bool, true, false}
+use mathlib.Core.Bool.{Bool, true, false, not}
 use Prim.Native.Nat.{ℕ, zero, suc, ◌+◌, ◌≤◌, ◌<◌, ◌-◌}
 use native.Mathlib.Omega.{arith}
 use Rattle.combinatorics.specs.Lists.{all}
 use Rattle.combinatorics.specs.Stretch.{tabulate, consecutive}
 use Rattle.combinatorics.proofs.Cases.{by-eq}
 use Rattle.combinatorics.proofs.Lists.{both}
-use Rattle.cells.specs.Outcomes.{answer_number}
-use Rattle.decoder.specs.declared.WordAnswer.{WordAnswer}
-use Rattle.decoder.specs.declared.WordAnswer.TheVariants.{Accepted, Refused}
-use Rattle.decoder.specs.Answer.{answer_as, word_number}
+use mathlib.Core.List.{List}
+use Rattle.combinatorics.proofs.Cases.{eqb-other}
+use Rattle.std.specs.Prelude.{Result, Ok, Err}
+use Rattle.std.specs.Result.{is_err}
+use Rattle.refusals.specs.Refusals.{served}
+use Rattle.refusals.specs.Numbers.{number_of}
+use Rattle.refusals.specs.declared.Refusal.{Refusal}
+use Rattle.refusals.proofs.Numbers.{never-served}
+use Rattle.placements.specs.declared.Placement.{Placement}
+use Rattle.placements.specs.Bridge.{covered_as}
+use lib.Dec.{eqb}
+use Rattle.cells.specs.Outcomes.{Coding, unplaced, encode_under}
+use Rattle.cells.proofs.Figures.{ranged}
+use Rattle.params.specs.Bridge.{given}
+use Rattle.codes.specs.declared.Figures.{Figures}
+use Rattle.codes.specs.declared.Figures.TheVariants.{Ranked, Long, Larsson}
+use Rattle.codes.specs.declared.WordLayout.{WordLayout}
+use Rattle.codes.specs.Bridge.{coding_of}
+use Rattle.codes.specs.Given.{coding_in, Serves}
+use Rattle.codes.proofs.Layouts.{in_order, under-layout}
 
 module _ (p : ℕ → Bool) (d j : ℕ) where
   -- lane j passes, and those behind it are left
@@ -29,10 +45,24 @@ module _ (p : ℕ → Bool) (d j : ℕ) where
   unfolding all tabulate
   none_left l = let s : d - j ≡ 0 = omega arith in rw s
 
--- document 01's number for each case
-pub same_number : (a : WordAnswer) → word_number a ≡ answer_number (answer_as a)
-same_number (Accepted v) = refl
-same_number (Refused a) = refl
+-- ---- A map that can't be covered keeps its place: every code has a burst, and the placement beside the refusal has none
+
+least : (f : Figures) → (coding_of f).in_range ≡ true → (coding_of f).fits ≡ true → 1 ≤ (coding_of f).bursts
+least (Ranked p) i h = (ranged (given p) i).m-least
+least (Long p) i h = omega arith
+least (Larsson p) i h = (ranged (given p) i).m-least
+
+pub uncovered-keeps : (l : WordLayout) → Serves l → (a : ℕ) (ms map : List ℕ) → (encode_under (coding_in l) (unplaced a).placement ms map).word ≡ map
+uncovered-keeps l g a ms map =
+    let some = under-layout (λ (d : Coding). 1 ≤ d.bursts) least l g in
+    rw ((in_order l g).0, (in_order l g).1, eqb-other 0 (coding_in l).bursts (λ e. omega (arith, e, some)))
+
+-- what covering answers is 0 exactly where it isn't refused
+pub covers : (r : Result Placement Refusal) → eqb (covered_as r).answer served ≡ not (is_err r)
+covers (Ok at) = refl
+covers (Err x) = eqb-other (number_of x) served (never-served x)
+
+-- ---- Lane by lane
 
 -- what holds of a stretch holds of each in it
 pub each-passes : (p : ℕ → Bool) (n k : ℕ) → all p (consecutive n k) ≡ true → (j : ℕ) → k ≤ j → j < k + n → p j ≡ true

@@ -27,11 +27,6 @@ part-len n j xs fit =
     let e : j * n + n - j * n ≡ n = omega arith in
     rw e (length-take-le n (drop (j * n) xs) (omega (arith, length-drop (j * n) xs)))
 
--- a part that keeps its length keeps that of the whole
-pub put-len : (n j : ℕ) (xs part : List ℕ) → length part ≡ length (mid_of (j * n) (j * n + n - j * n) xs)
-    → length (put_mid (j * n) (j * n + n - j * n) xs part) ≡ length xs
-put-len n j xs part e = same_len_mid (j * n) (j * n + n - j * n) xs part e
-
 -- the lanes say it all
 pub lanes-same : (n d : ℕ) (xs ys : List ℕ) → length xs ≡ d * n → length ys ≡ d * n → ((i : ℕ) → i < d → lane n i xs ≡ lane n i ys) → xs ≡ ys
 lanes-same n d xs ys ex ey same = ext_get_or 0 xs ys (ex ∙ sym ey) (λ t l. here t (omega arith))

@@ -1,7 +1,6 @@
 -- What the call answers, test by test. Assumes nothing.
 use mathlib.Core.Path.{◌≡◌, sym}
-use mathlib.Core.Logic.{◌≢◌}
-use mathlib.Core.Bool.{Bool, true, false, ◌&&◌}
+use mathlib.Core.Bool.{true, false, ◌&&◌}
 use mathlib.Core.List.{List}
 use Prim.Native.Nat.{ℕ, ◌*◌, ◌≤◌, ◌<◌}
 use native.Mathlib.Omega.{arith}
@@ -9,7 +8,7 @@ use lib.Dec.{eqb}
 use lib.ListN.{length}
 use Rattle.refusals.specs.Refusals.{must, served, wrong_length, bad_symbol, uncovered, bad_depth}
 use Rattle.combinatorics.specs.Lists.{all_below}
-use Rattle.combinatorics.proofs.Cases.{by_bool, eqb_same, eqb-other, eqb-true, leb-holds, leb-fails}
+use Rattle.combinatorics.proofs.Cases.{by_bool, eqb-true, leb-holds, leb-fails}
 use Rattle.combinatorics.proofs.Lists.{both}
 use Rattle.cells.specs.Outcomes.{Coding, unserved, figures_under}
 use Rattle.cells.proofs.Outcomes.{refused-alike}
@@ -29,60 +28,6 @@ pub in-depth : (d : ℕ) → 1 ≤ d → d ≤ 16 → in_depth d ≡ true
 in-depth d l m = rw (leb-holds 1 d l, leb-holds d 16 m)
 
 -- ---- Lengths
-
-module _ (k : Coding) (d n sent : ℕ) (map messages damage words strip read : List ℕ)
-    (word-is : n ≡ k.codec.word_len) (len_is : sent ≡ k.codec.message_len_of) where
-  abbrev sized : Bool
-  sized = lanes_sized k d map messages damage words strip read
-
-  pub no-map : length map ≢ d * n → false ≡ sized
-  no-map h = rw (sym word-is, eqb-other (length map) (d * n) h)
-
-  module _ (e₁ : length map ≡ d * n) where
-    pub no-messages : length messages ≢ d * sent → false ≡ sized
-    no-messages h = rw (sym word-is, sym len_is, eqb_same (length map) (d * n) e₁, eqb-other (length messages) (d * sent) h)
-
-    module _ (e₂ : length messages ≡ d * sent) where
-      pub no-damage : length damage ≢ d * n → false ≡ sized
-      no-damage h =
-          rw (sym word-is, sym len_is, eqb_same (length map) (d * n) e₁, eqb_same (length messages) (d * sent) e₂, eqb-other (length damage) (d * n) h)
-
-      module _ (e₃ : length damage ≡ d * n) where
-        pub no_words : length words ≢ d * n → false ≡ sized
-        no_words h =
-            rw (
-              sym word-is,
-              sym len_is,
-              eqb_same (length map) (d * n) e₁,
-              eqb_same (length messages) (d * sent) e₂,
-              eqb_same (length damage) (d * n) e₃,
-              eqb-other (length words) (d * n) h,
-            )
-
-        module _ (e₄ : length words ≡ d * n) where
-          pub no-strip : length strip ≢ d * n → false ≡ sized
-          no-strip h =
-              rw (
-                sym word-is,
-                sym len_is,
-                eqb_same (length map) (d * n) e₁,
-                eqb_same (length messages) (d * sent) e₂,
-                eqb_same (length damage) (d * n) e₃,
-                eqb_same (length words) (d * n) e₄,
-                eqb-other (length strip) (d * n) h,
-              )
-
-          pub by_read : length strip ≡ d * n → eqb (length read) (d * sent) ≡ sized
-          by_read e₅ =
-              rw (
-                sym word-is,
-                sym len_is,
-                eqb_same (length map) (d * n) e₁,
-                eqb_same (length messages) (d * sent) e₂,
-                eqb_same (length damage) (d * n) e₃,
-                eqb_same (length words) (d * n) e₄,
-                eqb_same (length strip) (d * n) e₅,
-              )
 
 -- what right lengths are
 pub record Sizes (k : Coding) (d : ℕ) (map messages damage words strip read : List ℕ) : Type 0 where
@@ -129,17 +74,6 @@ symbols-of k map messages damage e =
     let e₂ = both (all_below 2 map && sent) found e in
     let e₁ = both (all_below 2 map) sent e₂.0 in
     record { bits = e₁.0; sent = e₁.1; found = e₂.1 }
-
-module _ (k : Coding) (map messages damage : List ℕ) where
-  pub no_bits : all_below 2 map ≡ false → false ≡ lanes_in_alphabet k map messages damage
-  no_bits e = rw e
-
-  module _ (q : ℕ) (alphabet-is : q ≡ k.codec.alphabet) (bits : all_below 2 map ≡ true) where
-    pub no-symbols : all_below q messages ≡ false → false ≡ lanes_in_alphabet k map messages damage
-    no-symbols e = rw (sym alphabet-is, bits, e)
-
-    pub by-damage : all_below q messages ≡ true → all_below k.codec.found_bound damage ≡ lanes_in_alphabet k map messages damage
-    by-damage e = rw (sym alphabet-is, bits, e)
 
 -- ---- The outcome
 

@@ -1,6 +1,7 @@
 // Covering, writing and reading of words one after another. Inner functions. Assumes nothing.
 ghost use Rattle.std.specs.Prelude.{◌≡◌, List, ℕ, length};
 ghost use Rattle.refusals.specs.Refusals.{served};
+ghost use Rattle.refusals.specs.Numbers.{answer_of};
 ghost use Rattle.codes.specs.Given.{coding_in, Serves};
 ghost use Rattle.cells.specs.Outcomes.{answer_number, decode_under};
 ghost use Rattle.lanes_roundtrip.specs.LaneByLane.{LaneParts, LaneMessages, all_covered, cover_word, cover_words, ReadsLanes};
@@ -15,8 +16,7 @@ pub fn all_covered(layout: WordLayout, depth: usize, maps: &[u8]) -> bool
 {
     for j in 0..depth {
         let start = j * layout.n;
-        let cover = codes::cover_fitting(layout, &maps[start..start + layout.n]);
-        if cover.answer != Refusal::NONE {
+        if codes::cover_fitting(layout, &maps[start..start + layout.n]).is_err() {
             return false;
         }
     }
@@ -46,39 +46,31 @@ fn write_lane(layout: WordLayout, message: &[u8], word: &mut [u8])
     ensures word { word.new ≡ cover_word (coding_in layout) message.now word.old }
     ensures size { length word.new ≡ length word.old }
 {
-    let cover = codes::cover_fitting(layout, word);
-    codes::encode_fitting(layout, cover.placement, message, word);
+    if let Ok(at) = codes::cover_fitting(layout, word) {
+        let _ = codes::encode_fitting(layout, at, message, word);
+    }
 }
 
-// Each word's message: the number of the first that is refused, or 0.
-pub fn read_lanes(layout: WordLayout, depth: usize, words: &[u8], read: &mut [u8]) -> u8
+// Each word's message, or what the first word that isn't accepted is refused with.
+pub fn read_lanes(
+    layout: WordLayout,
+    depth: usize,
+    words: &[u8],
+    read: &mut [u8],
+) -> Result<(), Refusal>
     requires { LaneMessages layout depth words.now read.old }
     ensures { (messages : List ℕ) → ReadsLanes (coding_in layout) layout.n layout.message_len depth words.now messages
-        → (result ≡ served) × (read.new ≡ messages) }
+        → (answer_of result ≡ served) × (read.new ≡ messages) }
 {
     for j in 0..depth {
         let start = j * layout.n;
         let to = j * layout.message_len;
-        let refusal = read_lane(
+        codes::decode_fitting(
             layout,
             &words[start..start + layout.n],
             &mut read[to..to + layout.message_len],
-        );
-        if refusal != Refusal::NONE {
-            return refusal;
-        }
+        )
+        .answer?;
     }
-    Refusal::NONE
-}
-
-// The number of word read, and the message.
-fn read_lane(layout: WordLayout, word: &[u8], message: &mut [u8]) -> u8
-    requires { Serves layout }
-    ensures number { result ≡ answer_number (decode_under (coding_in layout) word.now message.old).answer }
-    ensures message { message.new ≡ (decode_under (coding_in layout) word.now message.old).message }
-    ensures size { length message.new ≡ length message.old }
-{
-    let read = codes::decode_fitting(layout, word, message);
-    let answer = read.answer;
-    decoder::refused_with(answer)
+    Ok(())
 }

@@ -4,6 +4,7 @@
 
 ghost use Rattle.std.specs.Prelude.{◌≡◌, List, ℕ, ◌≤◌};
 ghost use Rattle.refusals.specs.Refusals.{served};
+ghost use Rattle.refusals.specs.Numbers.{answer_of};
 ghost use Rattle.codes.specs.Bridge.{coding_of};
 ghost use Rattle.codes.specs.Given.{coding_in, Serves};
 ghost use Rattle.lanes.specs.Interleaving.{max_depth};
@@ -11,7 +12,7 @@ ghost use Rattle.lanes.specs.Outcomes.{interleave_under, deinterleave_under};
 ghost use Rattle.lanes_roundtrip.specs.LanesRoundTrip.{lanes_round_trip_as, lanes_round_trip_under, CoversDefects, lanes_sized, lanes_in_alphabet};
 ghost use Rattle.lanes_roundtrip.specs.LaneByLane.{LaneMessages, cover_words, ReadsLanes, LanesLent};
 
-use codes::{Figures, FiguresAnswer, WordLayout};
+use codes::{Figures, WordLayout};
 use params::found::found_bound;
 use refusals::Refusal;
 
@@ -29,26 +30,22 @@ pub fn lanes_round_trip(
     words: &mut [u8],
     interleaved: &mut [u8],
     read: &mut [u8],
-) -> u8
-    ensures outcome { lanes_round_trip_as words.new interleaved.new read.new result
+) -> Result<(), Refusal>
+    ensures outcome { lanes_round_trip_as words.new interleaved.new read.new (answer_of result)
         ≡ lanes_round_trip_under (coding_of figures) depth map.now sent.now damage.now words.old
         interleaved.old read.old }
-    ensures covered { CoversDefects (coding_of figures) depth map.now result }
+    ensures covered { CoversDefects (coding_of figures) depth map.now (answer_of result) }
 {
-    let answer = figures.layout();
-    match answer {
-        FiguresAnswer::Refused(number) => number,
-        FiguresAnswer::Fit(layout) => fitting_round_trip(
-            layout,
-            depth,
-            map,
-            sent,
-            damage,
-            words,
-            interleaved,
-            read,
-        ),
-    }
+    fitting_round_trip(
+        figures.layout()?,
+        depth,
+        map,
+        sent,
+        damage,
+        words,
+        interleaved,
+        read,
+    )
 }
 
 // The same for figures that fit. Refusals: 18 3 4 6.
@@ -61,23 +58,23 @@ fn fitting_round_trip(
     words: &mut [u8],
     interleaved: &mut [u8],
     read: &mut [u8],
-) -> u8
+) -> Result<(), Refusal>
     requires { Serves layout }
-    ensures { lanes_round_trip_as words.new interleaved.new read.new result
+    ensures { lanes_round_trip_as words.new interleaved.new read.new (answer_of result)
         ≡ lanes_round_trip_under (coding_in layout) depth map.now sent.now damage.now words.old
         interleaved.old read.old }
 {
     if depth < lanes::MIN_DEPTH {
-        return Refusal::DEPTH;
+        return Err(Refusal::Depth);
     }
     if lanes::MAX_DEPTH < depth {
-        return Refusal::DEPTH;
+        return Err(Refusal::Depth);
     }
     if !sized(layout, depth, map, sent, damage, words, interleaved, read) {
-        return Refusal::LENGTH;
+        return Err(Refusal::Length);
     }
     if !in_alphabet(layout, map, sent, damage) {
-        return Refusal::SYMBOL;
+        return Err(Refusal::Symbol);
     }
     run_lanes(layout, depth, map, sent, damage, words, interleaved, read)
 }
@@ -99,22 +96,12 @@ fn sized(
 {
     let cells = depth as usize * layout.n;
     let symbols = depth as usize * layout.message_len;
-    if map.len() != cells {
-        return false;
-    }
-    if sent.len() != symbols {
-        return false;
-    }
-    if damage.len() != cells {
-        return false;
-    }
-    if words.len() != cells {
-        return false;
-    }
-    if interleaved.len() != cells {
-        return false;
-    }
-    read.len() == symbols
+    map.len() == cells
+        && sent.len() == symbols
+        && damage.len() == cells
+        && words.len() == cells
+        && interleaved.len() == cells
+        && read.len() == symbols
 }
 
 // Whether every byte is one that a map, a message or a found word may have: otherwise refusal 4.
@@ -122,13 +109,9 @@ fn in_alphabet(layout: WordLayout, map: &[u8], sent: &[u8], damage: &[u8]) -> bo
     requires { Serves layout }
     ensures { result ≡ lanes_in_alphabet (coding_in layout) map.now sent.now damage.now }
 {
-    if !symbols::all_below(map, 2) {
-        return false;
-    }
-    if !symbols::all_below(sent, layout.q) {
-        return false;
-    }
-    symbols::all_below(damage, found_bound(layout.q))
+    symbols::all_below(map, 2)
+        && symbols::all_below(sent, layout.q)
+        && symbols::all_below(damage, found_bound(layout.q))
 }
 
 // The calls of the law, one after another. Refusal: 6.
@@ -141,15 +124,15 @@ fn run_lanes(
     words: &mut [u8],
     interleaved: &mut [u8],
     read: &mut [u8],
-) -> u8
+) -> Result<(), Refusal>
     requires { LanesLent layout depth map.now sent.now damage.now words.old interleaved.old read.old }
-    ensures { lanes_round_trip_as words.new interleaved.new read.new result
+    ensures { lanes_round_trip_as words.new interleaved.new read.new (answer_of result)
         ≡ lanes_round_trip_under (coding_in layout) depth map.now sent.now damage.now words.old
         interleaved.old read.old }
 {
-    lanes::deinterleave_fitting(layout, depth, map, words);
+    let _ = lanes::deinterleave_fitting(layout, depth, map, words);
     if !lane_by_lane::all_covered(layout, depth as usize, words) {
-        return Refusal::UNCOVERED;
+        return Err(Refusal::Uncovered);
     }
     write_interleaved(layout, depth, sent, words, interleaved);
     defects::spoil_defects(map, damage, interleaved);
@@ -170,7 +153,7 @@ fn write_interleaved(
         (cover_words (coding_in layout) layout.n layout.message_len depth sent.now words.old) interleaved.old).buffer }
 {
     lane_by_lane::write_lanes(layout, depth as usize, sent, words);
-    lanes::interleave_fitting(layout, depth, words, interleaved);
+    let _ = lanes::interleave_fitting(layout, depth, words, interleaved);
 }
 
 // The interleaved word taken apart, and each word's message.
@@ -180,13 +163,13 @@ fn read_interleaved(
     interleaved: &[u8],
     words: &mut [u8],
     read: &mut [u8],
-) -> u8
+) -> Result<(), Refusal>
     requires { LaneMessages layout depth words.old read.old }
     ensures words { words.new ≡ (deinterleave_under (coding_in layout) depth interleaved.now words.old).buffer }
     ensures read { (messages : List ℕ)
         → ReadsLanes (coding_in layout) layout.n layout.message_len depth words.new messages
-        → (result ≡ served) × (read.new ≡ messages) }
+        → (answer_of result ≡ served) × (read.new ≡ messages) }
 {
-    lanes::deinterleave_fitting(layout, depth, interleaved, words);
+    let _ = lanes::deinterleave_fitting(layout, depth, interleaved, words);
     lane_by_lane::read_lanes(layout, depth as usize, words, read)
 }

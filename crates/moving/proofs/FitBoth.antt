@@ -53,25 +53,12 @@ module _ (refuse : ℕ → Encoded) (rest : Encoded) (a : ℕ) where
   first-refuses true false true true false t r k t' r' k' e = ap refuse (ap figures_number e)
   first-refuses true true j g s t r k t' r' k' e = no-refusal t r k e
 
-  second-refuses : (j g s : Bool) (t r k : ℕ) → alone j g t r k ≡ unserved a → begins refuse rest true true j g s ≡ refuse a
-  second-refuses false g s t r k e = ap refuse (ap figures_number e)
-  second-refuses true false true t r k e = ap refuse (ap figures_number e)
-  second-refuses true false false t r k e = ap refuse (ap figures_number e)
-  second-refuses true true s t r k e = no-refusal t r k e
-
 module _ (d e : Coding) (strip moved a : ℕ) (refuse : ℕ → Encoded) (rest : Encoded) where
   -- the code of the strip that is read
   pub from-refuses : figures_under d ≡ unserved a → from_figures d e strip moved refuse rest ≡ refuse (first_refusal a (figures_under e))
   from-refuses u =
       first-refuses refuse (after_fitting d e strip moved refuse rest) a d.in_range d.fits e.in_range e.fits (same_figures d e)
       d.placement_count_of d.index_tail_of d.codec.message_len_of e.placement_count_of e.index_tail_of e.codec.message_len_of u
-
-  -- the other alone
-  pub to-refuses : d.in_range ≡ true → d.fits ≡ true → figures_under e ≡ unserved a → from_figures d e strip moved refuse rest ≡ refuse a
-  to-refuses i h u =
-      let next = after_fitting d e strip moved refuse rest in
-      ap₂ (λ (x y : Bool). begins refuse next x y e.in_range e.fits (same_figures d e)) i h
-      ∙ second-refuses refuse next a e.in_range e.fits (same_figures d e) e.placement_count_of e.index_tail_of e.codec.message_len_of u
 
 -- ---- The bytes of a layout
 
@@ -90,26 +77,12 @@ module _ (l : WordLayout) (g : Serves l) (count : ℕ) (e : count ≡ payload_le
 -- ---- Whether two layouts are of the same figures, by their own numbers
 
 module _ (from to : WordLayout) (g : Serves from) (h : Serves to) where
-  by-numbers : same_figures (coding_in from) (coding_in to) ≡ (eqb from.n to.n && eqb from.q to.q && eqb from.m to.m && eqb from.b to.b)
+  pub by-numbers : same_figures (coding_in from) (coding_in to) ≡ (eqb from.n to.n && eqb from.q to.q && eqb from.m to.m && eqb from.b to.b)
   unfolding same_figures
   by-numbers =
       let x = numbers-in from g in
       let y = numbers-in to h in
       rw (x.word-is, y.word-is, x.alphabet-is, y.alphabet-is, x.bursts-is, y.bursts-is, x.burst-is, y.burst-is)
-
-  pub other_word : from.n ≢ to.n → false ≡ same_figures (coding_in from) (coding_in to)
-  other_word d = rw (by-numbers, eqb-other from.n to.n d)
-
-  module _ (n : from.n ≡ to.n) where
-    pub other-alphabet : from.q ≢ to.q → false ≡ same_figures (coding_in from) (coding_in to)
-    other-alphabet d = rw (by-numbers, eqb_same from.n to.n n, eqb-other from.q to.q d)
-
-    module _ (q : from.q ≡ to.q) where
-      pub other-bursts : from.m ≢ to.m → false ≡ same_figures (coding_in from) (coding_in to)
-      other-bursts d = rw (by-numbers, eqb_same from.n to.n n, eqb_same from.q to.q q, eqb-other from.m to.m d)
-
-      pub by-burst-len : from.m ≡ to.m → eqb from.b to.b ≡ same_figures (coding_in from) (coding_in to)
-      by-burst-len m = rw (by-numbers, eqb_same from.n to.n n, eqb_same from.q to.q q, eqb_same from.m to.m m)
 
 -- ---- Figures that fit both: "2 10 3"
 

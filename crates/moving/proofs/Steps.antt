@@ -54,9 +54,6 @@ module _ (k : ℕ) (front rest : List ℕ) (e : length front ≡ k) where
   pub front-len : k ≡ length (take k (front ++ rest))
   front-len = sym (ap length front-is ∙ e)
 
-  pub front-four : 5 ≤ k → 4 ≤ length (take k (front ++ rest))
-  front-four l = omega (arith, front-len)
-
 drop-zeros : (c n : ℕ) → drop {A = ℕ} c (replicate n 0) ≡ replicate (n - c) 0
 drop-zeros zero n = let e : n ≡ n - 0 = omega arith in ap (λ (k : ℕ). replicate k 0) e
 drop-zeros (suc c) zero = let e : 0 ≡ 0 - suc c = omega arith in ap (λ (k : ℕ). replicate {A = ℕ} k 0) e
@@ -102,10 +99,6 @@ message-moves from to es out starts ms same count =
 module _ (to : Codec) (es : List Entry) (out starts ms : List ℕ) where
   pub message-refused : (a : ℕ) → a ≡ message_number to.alphabet es to.message_len_of ms → a ≢ served → unwritten out a ≡ word_moved to es out starts ms
   message-refused a e n = rw (← e, eqb-other a served n)
-
-  pub message-passes : message_number to.alphabet es to.message_len_of ms ≡ served
-      → served_word (to.encode starts (message_moved to.alphabet to.message_len_of ms)) ≡ word_moved to es out starts ms
-  message-passes e = rw e
 
 -- it spells a payload
 pub spells-passed : (q : ℕ) (es : List Entry) (k : ℕ) (ms : List ℕ) → message_number q es k ms ≡ served → spells_payload q (length ms) ms ≡ true

@@ -76,14 +76,5 @@ fn same_figures(source: WordLayout, target: WordLayout) -> bool
     requires { Serves source × Serves target }
     ensures { result ≡ same_figures (coding_in source) (coding_in target) }
 {
-    if source.n != target.n {
-        return false;
-    }
-    if source.q != target.q {
-        return false;
-    }
-    if source.m != target.m {
-        return false;
-    }
-    source.b == target.b
+    source.n == target.n && source.q == target.q && source.m == target.m && source.b == target.b
 }

@@ -1,17 +1,21 @@
 -- `read_lanes` meets its contract: the lanes so far hold their messages. Assumes nothing.
-use mathlib.Core.Path.{◌≡◌, refl, ap, ◌∙◌}
+use mathlib.Core.Path.{◌≡◌, refl, sym, ap, ◌∙◌}
 use mathlib.Core.List.{List}
 use Prim.Native.Nat.{ℕ, ◌+◌, ◌*◌, ◌≤◌, ◌<◌}
 use native.Mathlib.Omega.{arith}
 use lib.ListN.{length}
 use Rattle.refusals.specs.Refusals.{served}
+use Rattle.std.specs.Prelude.{Result}
+use Rattle.refusals.specs.declared.Refusal.{Refusal}
+use Rattle.refusals.proofs.Numbers.{never-served}
+use Rattle.decoder.specs.Answer.{answer_as}
 use Rattle.cells.specs.Outcomes.{Decoded, answer_number, decode_under}
 use Rattle.codes.specs.Given.{coding_in}
 use Rattle.codes.specs.declared.WordLayout.{WordLayout}
 use Rattle.lanes.specs.Interleaving.{lane}
-use Rattle.lanes_roundtrip.proofs.Filling.{lane-within, part-is-lane, part-len, put-len, filled_on, filled-all}
+use Rattle.lanes_roundtrip.proofs.Filling.{lane-within, part-is-lane, part-len, filled_on, filled-all}
 use Rattle.lanes_roundtrip.proofs.lane_by_lane.read_lanes.Goals as goal
-use Rattle.lanes_roundtrip.proofs.lane_by_lane.read_lanes.Goals.{After-read_lane-refusal, In-loop-j}
+use Rattle.lanes_roundtrip.proofs.lane_by_lane.read_lanes.Goals.{After-decode_fitting, In-loop-j}
 use Rattle.lanes_roundtrip.proofs.lane_by_lane.read_lanes.Invariants.{Reads}
 
 within-read : (c : In-loop-j) → (let a = c.args in let k = a.layout.message_len in
@@ -29,31 +33,34 @@ read_here l d j words messages part lent reads hj e is =
     let outcome = ap (λ (w : List ℕ). decode_under (coding_in l) w lent) is ∙ reads.reads j hj lent e in
     (ap (λ (o : Decoded). answer_number o.answer) outcome, ap (λ (o : Decoded). o.message) outcome)
 
-here : (c : After-read_lane-refusal) (messages : List ℕ)
+here : (c : After-decode_fitting) (messages : List ℕ)
     → (let a = c.args in
     Reads a.layout a.depth a.words.now messages
-    → (c.read_lane-refusal.result ≡ served) × (c.read_lane-refusal.new.message ≡ lane a.layout.message_len c.loop-j.j messages))
+    → (answer_number (answer_as c.decode_fitting.result.answer) ≡ served)
+    × (c.decode_fitting.new.message ≡ lane a.layout.message_len c.loop-j.j messages))
 here c messages reads =
     let a = c.args in
     let l = c.loop-j in
     let n = a.layout.n in
     let k = a.layout.message_len in
     let so = read_here a.layout a.depth l.j a.words.now messages _ _ reads c.loop-j-test.true
-    (part-len k l.j l.read (within-read (goal.at.After-read_lane-refusal c).In-loop-j)) (part-is-lane n l.j a.words.now) in
-    (c.read_lane-refusal.ensures.number ∙ so.0, c.read_lane-refusal.ensures.message ∙ so.1)
+    (part-len k l.j l.read (within-read (goal.at.After-decode_fitting c).In-loop-j)) (part-is-lane n l.j a.words.now) in
+    (ap (λ (o : Decoded). answer_number o.answer) c.decode_fitting.ensures ∙ so.0, ap (λ (o : Decoded). o.message) c.decode_fitting.ensures ∙ so.1)
 
-pub returns-then-refusal-ne-NONE : goal.returns-then-refusal-ne-NONE
-returns-then-refusal-ne-NONE c = λ messages reads. absurd (c.if-refusal-ne-NONE.true (here (goal.at.returns-then-refusal-ne-NONE c).After-read_lane-refusal messages reads).0)
+pub returns-in_err-decode_fitting : goal.returns-in_err-decode_fitting
+returns-in_err-decode_fitting c = λ messages reads.
+    absurd (never-served _ (sym (ap (λ (r : Result ℕ Refusal). answer_number (answer_as r)) c.in_err-decode_fitting.was)
+    ∙ (here (goal.at.returns-in_err-decode_fitting c).After-decode_fitting messages reads).0))
 
 pub loop-j-preserved : goal.loop-j-preserved
 loop-j-preserved c =
     let a = c.args in
     let l = c.loop-j in
     let k = a.layout.message_len in (
-      put-len k l.j l.read c.read_lane-refusal.new.message c.read_lane-refusal.ensures.size ∙ l.invariant.0,
+      c.read-1.given.1 ∙ l.invariant.0,
       λ messages reads.
-          filled_on k a.depth (λ i. lane k i messages) a.read.now l.j l.read c.read_lane-refusal.new.message c.loop-j-test.true
-          (l.invariant.1 messages reads) c.read_lane-refusal.ensures.size (here (goal.at.loop-j-preserved c).After-read_lane-refusal messages reads).1,
+          filled_on k a.depth (λ i. lane k i messages) a.read.now l.j l.read c.decode_fitting.new.message c.loop-j-test.true
+          (l.invariant.1 messages reads) c.read-1.given.0 (here (goal.at.loop-j-preserved c).After-decode_fitting messages reads).1,
     )
 
 pub returns : goal.returns
