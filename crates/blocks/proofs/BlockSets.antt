@@ -1,6 +1,5 @@
 -- Laws of an array of block kinds as a set of burst blocks. Assumes nothing.
 use mathlib.Core.Path.{◌≡◌, sym, ap, ◌∙◌, fun_ext}
-use mathlib.Core.Logic.{◌≢◌}
 use mathlib.Core.Bool.{Bool, true, false, not, cond, ◌||◌}
 use mathlib.Core.List.{List}
 use Prim.Native.Nat.{ℕ, ◌+◌, ◌-◌, ◌*◌, ◌≤◌, ◌<◌}
@@ -9,21 +8,13 @@ use lib.Dec.{eqb}
 use lib.ListN.{length, get_or, set}
 use lib.Seq.{get_or-set_same, get_or-set_other}
 use Rattle.combinatorics.specs.Stretch.{bit, count, first}
-use Rattle.combinatorics.proofs.Cases.{by-eq, by_bool, eqb_same, eqb-other}
+use Rattle.combinatorics.proofs.Cases.{by-eq, by_bool}
 use Rattle.combinatorics.proofs.StretchLoops.{count-on}
 use Rattle.combinatorics.proofs.Stretch.{sum-append, count-le, some-false, first-most}
 use Rattle.construction_a.specs.Writing.{becomes, with_burst, row, chosen, is_index_in, is_index, is_burst}
 use Rattle.cells.specs.Figures.{Params}
 use Rattle.construction_a.specs.Figures.{parts}
 use Rattle.blocks.specs.Blocks.{fixed_kind, burst_kind, index_kind, burst_set, marked, block_kind, BurstsOf}
-
-pub is-burst : (kinds : List ℕ) (k : ℕ) → get_or kinds k 0 ≡ 1 → burst_set kinds k ≡ true
-unfolding burst_set
-is-burst kinds k e = eqb_same (get_or kinds k 0) 1 e
-
-pub no-burst : (kinds : List ℕ) (k : ℕ) → get_or kinds k 0 ≢ 1 → burst_set kinds k ≡ false
-unfolding burst_set
-no-burst kinds k e = eqb-other (get_or kinds k 0) 1 e
 
 -- one block more
 pub set-burst : (kinds : List ℕ) (blocks last at : ℕ) → at < length kinds → at ≡ becomes blocks (burst_set kinds) last
@@ -37,14 +28,14 @@ set-burst kinds blocks last at h e =
 -- ---- A part, block by block
 
 module _ (kinds : List ℕ) (m i j found : ℕ) (so_far : found ≡ count j 0 (row m (burst_set kinds) i)) where
-  pub one_more : get_or kinds (i * m + j) 0 ≡ 1 → found + 1 ≡ count (j + 1) 0 (row m (burst_set kinds) i)
+  pub one_more : burst_set kinds (i * m + j) ≡ true → found + 1 ≡ count (j + 1) 0 (row m (burst_set kinds) i)
   one_more e =
-      let t = ap bit (is-burst kinds (i * m + j) e) in
+      let t = ap bit e in
       omega (arith, count-on j (row m (burst_set kinds) i))
 
-  pub none_more : get_or kinds (i * m + j) 0 ≢ 1 → found ≡ count (j + 1) 0 (row m (burst_set kinds) i)
+  pub none_more : burst_set kinds (i * m + j) ≡ false → found ≡ count (j + 1) 0 (row m (burst_set kinds) i)
   none_more e =
-      let t = ap bit (no-burst kinds (i * m + j) e) in
+      let t = ap bit e in
       omega (arith, count-on j (row m (burst_set kinds) i))
 
 -- ---- How many of a part's blocks are burst blocks, once some are seen
@@ -59,13 +50,13 @@ count-rest j m w h =
 -- ---- Which block becomes a burst block
 
 module _ (kinds : List ℕ) (blocks last : ℕ) where
-  pub spare-taken : get_or kinds last 0 ≡ 1 → becomes blocks (burst_set kinds) last ≡ first blocks 0 (λ k. not (burst_set kinds k))
+  pub spare-taken : burst_set kinds last ≡ true → becomes blocks (burst_set kinds) last ≡ first blocks 0 (λ k. not (burst_set kinds k))
   unfolding becomes
-  spare-taken e = rw (is-burst kinds last e)
+  spare-taken e = rw e
 
-  pub last_taken : get_or kinds last 0 ≢ 1 → becomes blocks (burst_set kinds) last ≡ last
+  pub last_taken : burst_set kinds last ≡ false → becomes blocks (burst_set kinds) last ≡ last
   unfolding becomes
-  last_taken e = rw (no-burst kinds last e)
+  last_taken e = rw e
 
   pub spare-in : count blocks 0 (burst_set kinds) < blocks → first blocks 0 (λ k. not (burst_set kinds k)) < blocks
   spare-in h =

@@ -1,3 +1,4 @@
 pub mod BlockSets
+pub mod Numbers
 pub mod Marks
 pub mod Bursting

@@ -8,28 +8,30 @@ ghost use Rattle.cells.specs.Round.{next};
 ghost use Rattle.construction_a.specs.Writing.{becomes, part_count, part_with, Chosen, chosen, is_index_in};
 ghost use Rattle.placements.specs.Bridge.{starts_in, PlacesBursts};
 ghost use Rattle.params.specs.Given.{max_blocks, figures_of, HeadsOf};
+ghost use Rattle.blocks.specs.Numbers.{kind_numbers};
 ghost use Rattle.blocks.specs.Blocks.{fixed_kind, burst_set, marked, BurstsOf, KindsOf};
 
 use params::Layout;
 use placements::Placement;
 
-// A block's kind as a number.
-pub const FIXED: u8 = 0;
-
-pub const BURST: u8 = 1;
-
-pub const INDEX: u8 = 2;
+// What a block of a word is.
+#[derive(Clone, Copy, Debug, PartialEq, Eq)]
+pub enum Kind {
+    Fixed,
+    Burst,
+    Index,
+}
 
 // The kind of each block of a placement's word.
 pub fn kinds_of(
     layout: Layout,
     heads: &[u16; Layout::MAX_HEADS],
     at: Placement,
-) -> [u8; Layout::MAX_BLOCKS]
+) -> [Kind; Layout::MAX_BLOCKS]
     requires { PlacesBursts layout at × HeadsOf (figures_of layout) heads.now }
-    ensures { KindsOf (figures_of layout) (starts_in at) result }
+    ensures { KindsOf (figures_of layout) (starts_in at) (kind_numbers result) }
 {
-    let mut kinds = [FIXED; Layout::MAX_BLOCKS];
+    let mut kinds = [Kind::Fixed; Layout::MAX_BLOCKS];
     mark_bursts(layout, heads, at, &mut kinds);
     mark_index(&mut kinds, layout.parts, layout.m);
     kinds
@@ -40,11 +42,11 @@ fn mark_bursts(
     layout: Layout,
     heads: &[u16; Layout::MAX_HEADS],
     at: Placement,
-    kinds: &mut [u8; Layout::MAX_BLOCKS],
+    kinds: &mut [Kind; Layout::MAX_BLOCKS],
 )
-    requires { PlacesBursts layout at × HeadsOf (figures_of layout) heads.now × (kinds.old ≡ replicate max_blocks fixed_kind) }
+    requires { PlacesBursts layout at × HeadsOf (figures_of layout) heads.now × (kind_numbers kinds.old ≡ replicate max_blocks fixed_kind) }
     ensures size { length kinds.new ≡ max_blocks }
-    ensures bursts { BurstsOf (figures_of layout) (starts_in at) kinds.new }
+    ensures bursts { BurstsOf (figures_of layout) (starts_in at) (kind_numbers kinds.new) }
 {
     let blocks = layout.parts * layout.m;
     let mut last: usize = 0;
@@ -52,16 +54,16 @@ fn mark_bursts(
         let start = at.starts[j] as usize;
         last = layout.block_from(heads, last, start + layout.b - 1);
         let next = burst_block(kinds, blocks, last);
-        kinds[next] = BURST;
+        kinds[next] = Kind::Burst;
     }
 }
 
 // The index blocks marked, in an array with the burst blocks, by the three cases of the rule.
-fn mark_index(kinds: &mut [u8; Layout::MAX_BLOCKS], parts: usize, m: usize)
+fn mark_index(kinds: &mut [Kind; Layout::MAX_BLOCKS], parts: usize, m: usize)
     requires { (0 < m) × (parts * m ≤ max_blocks) × (parts ≤ max_blocks) × (m ≤ max_blocks) × (length kinds.old ≡ max_blocks)
-        × (count (parts * m) 0 (burst_set kinds.old) ≡ m) }
-    ensures { (k : ℕ) → k < parts * m → get_or kinds.new k 0
-        ≡ marked (is_index_in m (burst_set kinds.old) (chosen parts m (burst_set kinds.old))) kinds.old k }
+        × (count (parts * m) 0 (burst_set (kind_numbers kinds.old)) ≡ m) }
+    ensures { (k : ℕ) → k < parts * m → get_or (kind_numbers kinds.new) k 0
+        ≡ marked (is_index_in m (burst_set (kind_numbers kinds.old)) (chosen parts m (burst_set (kind_numbers kinds.old)))) (kind_numbers kinds.old) k }
 {
     let full = part_with(kinds, parts, m, m);
     if full < parts {
@@ -77,47 +79,47 @@ fn mark_index(kinds: &mut [u8; Layout::MAX_BLOCKS], parts: usize, m: usize)
 }
 
 // Every block of a part marked as index block.
-fn mark_part(kinds: &mut [u8; Layout::MAX_BLOCKS], m: usize, part: usize)
+fn mark_part(kinds: &mut [Kind; Layout::MAX_BLOCKS], m: usize, part: usize)
     requires { (0 < m) × (part * m + m ≤ max_blocks) × (length kinds.old ≡ max_blocks) }
-    ensures { (k : ℕ) → get_or kinds.new k 0
-        ≡ marked (is_index_in m (burst_set kinds.old) (Chosen.whole part)) kinds.old k }
+    ensures { (k : ℕ) → get_or (kind_numbers kinds.new) k 0
+        ≡ marked (is_index_in m (burst_set (kind_numbers kinds.old)) (Chosen.whole part)) (kind_numbers kinds.old) k }
 {
     let from = part * m;
     for j in 0..m {
-        kinds[from + j] = INDEX;
+        kinds[from + j] = Kind::Index;
     }
 }
 
 // Of each part the block beside its burst block marked as index block. A part is looked at before a block of it is marked.
-fn mark_one_each(kinds: &mut [u8; Layout::MAX_BLOCKS], parts: usize, m: usize)
-    requires { (parts * m ≤ max_blocks) × (length kinds.old ≡ max_blocks) × ((i : ℕ) → i < parts → 0 < part_count m (burst_set kinds.old) i) }
-    ensures { (k : ℕ) → k < parts * m → get_or kinds.new k 0
-        ≡ marked (is_index_in m (burst_set kinds.old) Chosen.one_each) kinds.old k }
+fn mark_one_each(kinds: &mut [Kind; Layout::MAX_BLOCKS], parts: usize, m: usize)
+    requires { (parts * m ≤ max_blocks) × (length kinds.old ≡ max_blocks) × ((i : ℕ) → i < parts → 0 < part_count m (burst_set (kind_numbers kinds.old)) i) }
+    ensures { (k : ℕ) → k < parts * m → get_or (kind_numbers kinds.new) k 0
+        ≡ marked (is_index_in m (burst_set (kind_numbers kinds.old)) Chosen.one_each) (kind_numbers kinds.old) k }
 {
     for i in 0..parts {
         let at = i * m + beside(kinds, m, i);
-        kinds[at] = INDEX;
+        kinds[at] = Kind::Index;
     }
 }
 
 // The next burst block: block `last`, in which a burst ends, or the leftmost spare where it is one already.
-fn burst_block(kinds: &[u8; Layout::MAX_BLOCKS], blocks: usize, last: usize) -> usize
-    requires { (last < blocks) × (blocks ≤ max_blocks) × (count blocks 0 (burst_set kinds.now) < blocks) }
-    ensures { (result ≡ becomes blocks (burst_set kinds.now) last) × (result < blocks) }
+fn burst_block(kinds: &[Kind; Layout::MAX_BLOCKS], blocks: usize, last: usize) -> usize
+    requires { (last < blocks) × (blocks ≤ max_blocks) × (count blocks 0 (burst_set (kind_numbers kinds.now)) < blocks) }
+    ensures { (result ≡ becomes blocks (burst_set (kind_numbers kinds.now)) last) × (result < blocks) }
 {
-    if kinds[last] == BURST {
+    if kinds[last] == Kind::Burst {
         return first_spare(kinds, blocks);
     }
     last
 }
 
 // The leftmost block that is no burst block, or `blocks`.
-fn first_spare(kinds: &[u8; Layout::MAX_BLOCKS], blocks: usize) -> usize
+fn first_spare(kinds: &[Kind; Layout::MAX_BLOCKS], blocks: usize) -> usize
     requires { blocks ≤ max_blocks }
-    ensures { result ≡ first blocks 0 (λ k. not (burst_set kinds.now k)) }
+    ensures { result ≡ first blocks 0 (λ k. not (burst_set (kind_numbers kinds.now) k)) }
 {
     for k in 0..blocks {
-        if kinds[k] != BURST {
+        if kinds[k] != Kind::Burst {
             return k;
         }
     }
@@ -125,14 +127,14 @@ fn first_spare(kinds: &[u8; Layout::MAX_BLOCKS], blocks: usize) -> usize
 }
 
 // Whether part `part` has so many burst blocks: it is left as soon as it has more, or too few blocks to come.
-fn has_bursts(kinds: &[u8; Layout::MAX_BLOCKS], m: usize, part: usize, wanted: usize) -> bool
+fn has_bursts(kinds: &[Kind; Layout::MAX_BLOCKS], m: usize, part: usize, wanted: usize) -> bool
     requires { part * m + m ≤ max_blocks }
-    ensures { result ≡ eqb (part_count m (burst_set kinds.now) part) wanted }
+    ensures { result ≡ eqb (part_count m (burst_set (kind_numbers kinds.now)) part) wanted }
 {
     let from = part * m;
     let mut missing = wanted;
     for j in 0..m {
-        if kinds[from + j] == BURST {
+        if kinds[from + j] == Kind::Burst {
             if missing == 0 {
                 return false;
             }
@@ -146,9 +148,9 @@ fn has_bursts(kinds: &[u8; Layout::MAX_BLOCKS], m: usize, part: usize, wanted: u
 }
 
 // The first part that has so many burst blocks, or `parts`.
-fn part_with(kinds: &[u8; Layout::MAX_BLOCKS], parts: usize, m: usize, wanted: usize) -> usize
+fn part_with(kinds: &[Kind; Layout::MAX_BLOCKS], parts: usize, m: usize, wanted: usize) -> usize
     requires { parts * m ≤ max_blocks }
-    ensures { result ≡ part_with parts m (burst_set kinds.now) wanted }
+    ensures { result ≡ part_with parts m (burst_set (kind_numbers kinds.now)) wanted }
 {
     for i in 0..parts {
         if has_bursts(kinds, m, i, wanted) {
@@ -159,13 +161,13 @@ fn part_with(kinds: &[u8; Layout::MAX_BLOCKS], parts: usize, m: usize, wanted: u
 }
 
 // The block of a part that comes after its first burst block, 0 after the last; counted within the part.
-fn beside(kinds: &[u8; Layout::MAX_BLOCKS], m: usize, part: usize) -> usize
+fn beside(kinds: &[Kind; Layout::MAX_BLOCKS], m: usize, part: usize) -> usize
     requires { part * m + m ≤ max_blocks }
-    ensures { result ≡ Rattle.construction_a.specs.Writing.beside m (burst_set kinds.now) part }
+    ensures { result ≡ Rattle.construction_a.specs.Writing.beside m (burst_set (kind_numbers kinds.now)) part }
 {
     let from = part * m;
     for j in 0..m {
-        if kinds[from + j] == BURST {
+        if kinds[from + j] == Kind::Burst {
             return following(m, j);
         }
     }

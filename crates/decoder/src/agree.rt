@@ -2,10 +2,11 @@
 ghost use Rattle.std.specs.Prelude.{◌≡◌, List, ℕ, take};
 ghost use Rattle.construction_a.specs.Reading;
 ghost use Rattle.params.specs.Given.{figures_of, HeadsOf};
+ghost use Rattle.blocks.specs.Numbers.{kind_numbers};
 ghost use Rattle.blocks.specs.Blocks.{KindsOf};
 ghost use Rattle.heads.specs.Given.{CompleteWord};
 
-use blocks::{FIXED, INDEX};
+use blocks::Kind;
 use heads::looks::looks_fixed;
 use params::Layout;
 use placements::Placement;
@@ -15,32 +16,34 @@ use placements::Placement;
 pub fn agrees(
     layout: Layout,
     heads: &[u16; Layout::MAX_HEADS],
-    kinds: &[u8; Layout::MAX_BLOCKS],
+    kinds: &[Kind; Layout::MAX_BLOCKS],
     index: [u8; Placement::MAX],
     word: &[u8],
 ) -> bool
     requires { CompleteWord layout word.now × HeadsOf (figures_of layout) heads.now }
-    ensures { (ss : List ℕ) → KindsOf (figures_of layout) ss kinds.now → result
+    ensures { (ss : List ℕ) → KindsOf (figures_of layout) ss (kind_numbers kinds.now) → result
         ≡ Rattle.construction_a.specs.Reading.agrees (figures_of layout) word.now (take layout.m index) ss }
 {
     let blocks = layout.parts * layout.m;
     let mut met: usize = 0;
     for k in 0..blocks {
-        let kind = kinds[k];
-        if kind == FIXED {
-            let head = layout.block_head(heads, k);
-            if !looks_fixed(&word[head..]) {
-                return false;
+        match kinds[k] {
+            Kind::Fixed => {
+                let head = layout.block_head(heads, k);
+                if !looks_fixed(&word[head..]) {
+                    return false;
+                }
             }
-        }
-        if kind == INDEX {
-            if layout.m <= met {
-                return false;
+            Kind::Index => {
+                if layout.m <= met {
+                    return false;
+                }
+                if index[met] as usize != k {
+                    return false;
+                }
+                met += 1;
             }
-            if index[met] as usize != k {
-                return false;
-            }
-            met += 1;
+            Kind::Burst => {}
         }
     }
     met == layout.m

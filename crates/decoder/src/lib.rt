@@ -6,11 +6,13 @@ ghost use Rattle.cells.specs.Outcomes.{unread as unreadAs, decoded_from, decode_
 ghost use Rattle.construction_a.specs.Reading.{written, read_rank};
 ghost use Rattle.params.specs.Given.{figures_of, blocks_coding, BlocksServe, HeadsOf};
 ghost use Rattle.placements.specs.Bridge.{starts_in};
+ghost use Rattle.blocks.specs.Numbers.{kind_numbers};
 ghost use Rattle.stretches.specs.ByBlock.{Tables};
 ghost use Rattle.refusals.specs.Numbers.{number_of};
 ghost use Rattle.decoder.specs.Answer.{decoded_as};
 ghost use Rattle.decoder.specs.Reader.{read_message, WordLent, IndexShown, RankRead, Located};
 
+use blocks::Kind;
 use params::heads::put_heads;
 use params::{Layout, Spells};
 use placements::Placement;
@@ -122,14 +124,14 @@ fn decode_rank(
 fn decode_placed(
     layout: Layout,
     heads: &[u16; Layout::MAX_HEADS],
-    kinds: &[u8; Layout::MAX_BLOCKS],
+    kinds: &[Kind; Layout::MAX_BLOCKS],
     placement: Placement,
     rank: u64,
     whole: bool,
     word: &[u8],
     message: &mut [u8],
 ) -> Decoded
-    requires { Located layout placement rank whole word.now message.old × Tables layout placement heads.now kinds.now }
+    requires { Located layout placement rank whole word.now message.old × Tables layout placement heads.now (kind_numbers kinds.now) }
     ensures { decoded_as result message.new
         ≡ decoded_from layout.b message.old (read_message layout word.now (starts_in placement)) }
 {

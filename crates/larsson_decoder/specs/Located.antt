@@ -14,6 +14,7 @@ use Rattle.larsson.specs.Reading.{found, read}
 use Rattle.larsson.specs.Writing.{plan}
 use Rattle.placements.specs.declared.Placement.{Placement}
 use Rattle.placements.specs.Bridge.{held_as, starts_in}
+use Rattle.blocks.specs.Numbers.{kind_numbers}
 use Rattle.larsson_params.specs.declared.LarssonLayout.{LarssonLayout}
 use Rattle.larsson_params.specs.Given.{larsson_figures_of}
 use Rattle.sub_blocks.specs.Given.{BearersOf}
@@ -45,7 +46,7 @@ pub record LocatedAt (f : Params) (w : List ℕ) (v : ℕ) (at : Placement) (kin
 
 -- or the refusal of the word
 abbrev pub LocatedIn : Params → List ℕ → Result Located Refusal → Type 0
-LocatedIn f w (Ok found) = LocatedAt f w found.rank found.placement found.kinds
+LocatedIn f w (Ok found) = LocatedAt f w found.rank found.placement (kind_numbers found.kinds)
 LocatedIn f w (Err r) = read f w ≡ refused (number_of r)
 
 -- a complete word without values above q, of sub-blocks that have a symbol, and a buffer of k symbols

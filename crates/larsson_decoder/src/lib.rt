@@ -7,6 +7,7 @@ ghost use Rattle.cells.specs.Outcomes.{decoded_from, decode_under};
 ghost use Rattle.cells.specs.Figures.{placement_of};
 ghost use Rattle.larsson.specs.Outcomes.{coding};
 ghost use Rattle.larsson.specs.Reading.{read};
+ghost use Rattle.blocks.specs.Numbers.{kind_numbers};
 ghost use Rattle.decoder.specs.Answer.{decoded_as};
 ghost use Rattle.larsson_params.specs.Given.{larsson_figures_of, LarssonLayoutFits, SubStartsOf};
 ghost use Rattle.larsson_decoder.specs.Located.{LarssonWordLent, LocatedAt};
@@ -79,7 +80,7 @@ fn decode_placed(
     message: &mut [u8],
 ) -> Decoded
     requires { LarssonWordLent layout word.now message.old × SubStartsOf (larsson_figures_of layout) starts.now
-        × LocatedAt (larsson_figures_of layout) word.now located.rank located.placement located.kinds }
+        × LocatedAt (larsson_figures_of layout) word.now located.rank located.placement (kind_numbers located.kinds) }
     ensures { decoded_as result message.new ≡ decoded_from layout.b message.old (read (larsson_figures_of layout) word.now) }
 {
     let placement = located.placement;

@@ -4,6 +4,7 @@ ghost use Rattle.larsson_params.specs.Given.{larsson_figures_of, SubStartsOf};
 ghost use Rattle.sub_blocks.specs.Found.{FoundWord};
 ghost use Rattle.larsson_decoder.specs.Located.{MajorityValued, LocatedIn};
 
+use blocks::Kind;
 use larsson_params::LarssonLayout;
 use params::Layout;
 use placements::Placement;
@@ -17,7 +18,7 @@ use sub_blocks::majority::majority_block;
 pub struct Located {
     pub rank: u64,
     pub placement: Placement,
-    pub kinds: [u8; Layout::MAX_BLOCKS],
+    pub kinds: [Kind; Layout::MAX_BLOCKS],
 }
 
 // The placement that a found word shows, where sub-blocks have a symbol. Refusals: 21 8 9.

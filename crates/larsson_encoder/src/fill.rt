@@ -3,10 +3,12 @@ ghost use Rattle.std.specs.Prelude.{◌≡◌, ◌∷◌, ◌<◌};
 ghost use Rattle.larsson.specs.Writing;
 ghost use Rattle.larsson.specs.Writing.{rank_digits};
 ghost use Rattle.placements.specs.Bridge.{starts_in};
+ghost use Rattle.blocks.specs.Numbers.{kind_numbers};
 ghost use Rattle.larsson_params.specs.Given.{larsson_figures_of, SubStartsOf};
 ghost use Rattle.sub_blocks.specs.Given.{BearersOf};
 ghost use Rattle.larsson_encoder.specs.Writable.{LarssonWritable};
 
+use blocks::Kind;
 use encoder::digits::spelled;
 use larsson_params::LarssonLayout;
 use larsson_params::starts::starts_of;
@@ -51,13 +53,13 @@ fn fill_digits(
     layout: LarssonLayout,
     at: Placement,
     starts: &[u16; Layout::MAX_HEADS],
-    kinds: &[u8; Layout::MAX_BLOCKS],
+    kinds: &[Kind; Layout::MAX_BLOCKS],
     digits: &[u8],
     message: &[u8],
     word: &mut [u8],
 )
     requires { LarssonWritable layout at message.now word.old × (0 < layout.sub_len) × SubStartsOf (larsson_figures_of layout) starts.now
-        × BearersOf (larsson_figures_of layout) (starts_in at) kinds.now × (digits.now ≡ 1 ∷ rank_digits (larsson_figures_of layout) (starts_in at)) }
+        × BearersOf (larsson_figures_of layout) (starts_in at) (kind_numbers kinds.now) × (digits.now ≡ 1 ∷ rank_digits (larsson_figures_of layout) (starts_in at)) }
     ensures { word.new ≡ Rattle.larsson.specs.Writing.word (larsson_figures_of layout) (starts_in at) message.now }
 {
     let walk = larsson_words::walk_of(layout.n, layout.m, layout.b, layout.sub_len);

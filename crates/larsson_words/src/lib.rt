@@ -9,8 +9,10 @@ ghost use Rattle.cells.specs.Figures.{max_bursts};
 ghost use Rattle.larsson.specs.Writing;
 ghost use Rattle.larsson.specs.Writing.{plan};
 ghost use Rattle.placements.specs.Bridge.{starts_in};
+ghost use Rattle.blocks.specs.Numbers.{kind_numbers};
 ghost use Rattle.larsson_words.specs.Walked.{figures_walked, sub_blocks_of, WalkedMessage, WalkedWord};
 
+use blocks::Kind;
 use params::Layout;
 use placements::Placement;
 use stretches::Walk;
@@ -36,12 +38,12 @@ pub fn fill(
     q: u64,
     at: Placement,
     starts: &[u16; Layout::MAX_HEADS],
-    kinds: &[u8; Layout::MAX_BLOCKS],
+    kinds: &[Kind; Layout::MAX_BLOCKS],
     digits: &[u8],
     message: &[u8],
     word: &mut [u8],
 )
-    requires { WalkedMessage (figures_walked walk q) walk at starts.now kinds.now digits.now message.now word.old }
+    requires { WalkedMessage (figures_walked walk q) walk at starts.now (kind_numbers kinds.now) digits.now message.now word.old }
     ensures { word.new ≡ Rattle.larsson.specs.Writing.word (figures_walked walk q) (starts_in at) message.now }
 {
     stretches::fill::fill_cells(walk, at, starts, kinds, digits, message, word);
@@ -53,11 +55,11 @@ pub fn take_message(
     q: u64,
     at: Placement,
     starts: &[u16; Layout::MAX_HEADS],
-    kinds: &[u8; Layout::MAX_BLOCKS],
+    kinds: &[Kind; Layout::MAX_BLOCKS],
     word: &[u8],
     message: &mut [u8],
 )
-    requires { WalkedWord (figures_walked walk q) walk at starts.now kinds.now word.now message.old }
+    requires { WalkedWord (figures_walked walk q) walk at starts.now (kind_numbers kinds.now) word.now message.old }
     ensures { message.new ≡ pick Rattle.cells.specs.Cells.message (plan (figures_walked walk q) (starts_in at)) word.now }
 {
     stretches::taking::take_message(walk, at, starts, kinds, word, message);

@@ -1,6 +1,6 @@
 -- Laws of the walk block by block: what it passes, and of what kind the cells are. Assumes nothing.
 use mathlib.Core.Path.{◌≡◌, refl, sym, ap, ap₂, ◌∙◌}
-use mathlib.Core.Logic.{◌≢◌, ◌⊎◌, inl, inr, ⊎_elim}
+use mathlib.Core.Logic.{◌⊎◌, inl, inr, ⊎_elim}
 use mathlib.Core.Bool.{true, false, true≢false, cond}
 use mathlib.Core.List.{List, ◌∷◌}
 use Prim.Native.Nat.{ℕ, zero, suc, ◌+◌, ◌-◌, ◌≤◌, ◌<◌}
@@ -280,8 +280,8 @@ module _ {g : Frame} {b : ℕ} {ss : List ℕ} (w : Walkable g b ss) where
 pub kind-fixed : {kind : ℕ} → kind ≡ fixed_kind → (eqb kind index_kind ≡ false) × (eqb kind burst_kind ≡ false)
 kind-fixed {kind} e = (eqb-other kind index_kind (omega arith), eqb-other kind burst_kind (omega arith))
 
-pub kind-burst : {kind : ℕ} → kind ≢ fixed_kind → kind ≢ index_kind → kind ≤ index_kind → (eqb kind index_kind ≡ false) × (eqb kind burst_kind ≡ true)
-kind-burst {kind} a b l = (eqb-other kind index_kind b, eqb_same kind burst_kind (omega arith))
+pub kind-burst : {kind : ℕ} → kind ≡ burst_kind → (eqb kind index_kind ≡ false) × (eqb kind burst_kind ≡ true)
+kind-burst {kind} e = (eqb-other kind index_kind (omega arith), eqb_same kind burst_kind e)
 
 -- plans that are the same position by position
 same-plan : (n k : ℕ) (f h : ℕ → Cell) → ((x : ℕ) → k ≤ x → x < k + n → f x ≡ h x) → tabulate n k f ≡ tabulate n k h

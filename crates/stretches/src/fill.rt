@@ -3,11 +3,13 @@ ghost use Rattle.std.specs.Prelude.{◌≡◌, suc, ◌+◌, ◌-◌, ◌≤◌,
 ghost use Rattle.cells.specs.Cells.{weave};
 ghost use Rattle.cells.specs.Plan.{plan_in};
 ghost use Rattle.placements.specs.Bridge.{starts_in};
+ghost use Rattle.blocks.specs.Numbers.{kind_numbers};
 ghost use Rattle.stretches.specs.Walk.{frame_by, digits_by, next_start};
 ghost use Rattle.stretches.specs.ByBlock.{PlacedIn};
 ghost use Rattle.stretches.specs.Fill.{Fillable, FilledTo, ComesTo, Enters, HeadPassed, MessageFilled, BurstFilled};
 
 use crate::Walk;
+use blocks::Kind;
 use params::Layout;
 use placements::Placement;
 
@@ -16,14 +18,14 @@ pub fn fill_cells(
     walk: Walk,
     at: Placement,
     heads: &[u16; Layout::MAX_HEADS],
-    kinds: &[u8; Layout::MAX_BLOCKS],
+    kinds: &[Kind; Layout::MAX_BLOCKS],
     digits: &[u8],
     message: &[u8],
     word: &mut [u8],
 )
-    requires { Fillable walk at heads.now kinds.now digits.now message.now word.old }
-    ensures { word.new ≡ weave (plan_in (frame_by walk heads.now kinds.now (starts_in at)))
-        (digits_by walk kinds.now digits.now) message.now }
+    requires { Fillable walk at heads.now (kind_numbers kinds.now) digits.now message.now word.old }
+    ensures { word.new ≡ weave (plan_in (frame_by walk heads.now (kind_numbers kinds.now) (starts_in at)))
+        (digits_by walk (kind_numbers kinds.now) digits.now) message.now }
 {
     let mut here = Filling {
         at: 0,
@@ -54,16 +56,17 @@ fn fill_block(
     walk: Walk,
     at: Placement,
     heads: &[u16; Layout::MAX_HEADS],
-    kinds: &[u8; Layout::MAX_BLOCKS],
+    kinds: &[Kind; Layout::MAX_BLOCKS],
     digits: &[u8],
     message: &[u8],
     word: &mut [u8],
     block: usize,
     from: Filling,
 ) -> Filling
-    requires { FilledTo walk at heads.now kinds.now digits.now message.now word.old from × Enters walk at heads.now kinds.now block from }
-    ensures { FilledTo walk at heads.now kinds.now digits.now message.now word.new result
-        × ComesTo walk at heads.now kinds.now (suc block) result }
+    requires { FilledTo walk at heads.now (kind_numbers kinds.now) digits.now message.now word.old from
+        × Enters walk at heads.now (kind_numbers kinds.now) block from }
+    ensures { FilledTo walk at heads.now (kind_numbers kinds.now) digits.now message.now word.new result
+        × ComesTo walk at heads.now (kind_numbers kinds.now) (suc block) result }
 {
     let edge = heads[block + 1] as usize;
     let mut here = fill_head(walk, at, heads, kinds, digits, message, word, block, from);
@@ -82,37 +85,39 @@ fn fill_head(
     walk: Walk,
     at: Placement,
     heads: &[u16; Layout::MAX_HEADS],
-    kinds: &[u8; Layout::MAX_BLOCKS],
+    kinds: &[Kind; Layout::MAX_BLOCKS],
     digits: &[u8],
     message: &[u8],
     word: &mut [u8],
     block: usize,
     from: Filling,
 ) -> Filling
-    requires { FilledTo walk at heads.now kinds.now digits.now message.now word.old from × Enters walk at heads.now kinds.now block from }
-    ensures { FilledTo walk at heads.now kinds.now digits.now message.now word.new result
-        × HeadPassed walk at heads.now kinds.now block result }
+    requires { FilledTo walk at heads.now (kind_numbers kinds.now) digits.now message.now word.old from
+        × Enters walk at heads.now (kind_numbers kinds.now) block from }
+    ensures { FilledTo walk at heads.now (kind_numbers kinds.now) digits.now message.now word.new result
+        × HeadPassed walk at heads.now (kind_numbers kinds.now) block result }
 {
     let start = from.at;
-    let kind = kinds[block];
-    if kind == blocks::FIXED {
-        word[start] = 0;
-        return Filling {
-            at: start + 1,
-            ..from
-        };
+    match kinds[block] {
+        Kind::Fixed => {
+            word[start] = 0;
+            Filling {
+                at: start + 1,
+                ..from
+            }
+        }
+        Kind::Index => {
+            let len = walk.head_len;
+            let spelled = from.indexed * walk.digit_step;
+            symbols::copy_few(&mut word[start..], &digits[spelled..], len);
+            Filling {
+                at: start + len,
+                indexed: from.indexed + 1,
+                ..from
+            }
+        }
+        Kind::Burst => from,
     }
-    if kind == blocks::INDEX {
-        let len = walk.head_len;
-        let spelled = from.indexed * walk.digit_step;
-        symbols::copy_few(&mut word[start..], &digits[spelled..], len);
-        return Filling {
-            at: start + len,
-            indexed: from.indexed + 1,
-            ..from
-        };
-    }
-    from
 }
 
 // Cells of the message, up to a position.

@@ -7,11 +7,13 @@ ghost use Rattle.cells.specs.Cells.{pick};
 ghost use Rattle.cells.specs.Erasures.{erased_at};
 ghost use Rattle.cells.specs.Plan.{plan_in};
 ghost use Rattle.placements.specs.Bridge.{starts_in};
+ghost use Rattle.blocks.specs.Numbers.{kind_number, kind_numbers};
 ghost use Rattle.stretches.specs.Walk.{frame_by, head_len_of, next_start};
 ghost use Rattle.stretches.specs.ByBlock.{PlacedIn};
 ghost use Rattle.stretches.specs.Take.{Takeable, Scannable, TakenTo, ComesTo, Enters, CellsTaken};
 
 use crate::Walk;
+use blocks::Kind;
 use params::Layout;
 use placements::Placement;
 
@@ -20,12 +22,12 @@ pub fn take_message(
     walk: Walk,
     at: Placement,
     heads: &[u16; Layout::MAX_HEADS],
-    kinds: &[u8; Layout::MAX_BLOCKS],
+    kinds: &[Kind; Layout::MAX_BLOCKS],
     word: &[u8],
     message: &mut [u8],
 )
-    requires { Takeable walk at heads.now kinds.now word.now message.old }
-    ensures { message.new ≡ pick Rattle.cells.specs.Cells.message (plan_in (frame_by walk heads.now kinds.now (starts_in at)))
+    requires { Takeable walk at heads.now (kind_numbers kinds.now) word.now message.old }
+    ensures { message.new ≡ pick Rattle.cells.specs.Cells.message (plan_in (frame_by walk heads.now (kind_numbers kinds.now) (starts_in at)))
         word.now }
 {
     let mut here = Taking {
@@ -65,15 +67,16 @@ fn take_block(
     walk: Walk,
     at: Placement,
     heads: &[u16; Layout::MAX_HEADS],
-    kinds: &[u8; Layout::MAX_BLOCKS],
+    kinds: &[Kind; Layout::MAX_BLOCKS],
     word: &[u8],
     message: &mut [u8],
     block: usize,
     from: Taking,
 ) -> Taking
-    requires { TakenTo walk at heads.now kinds.now word.now message.old from × Enters walk at heads.now kinds.now block from }
-    ensures { TakenTo walk at heads.now kinds.now word.now message.new result
-        × ComesTo walk at heads.now kinds.now (suc block) result }
+    requires { TakenTo walk at heads.now (kind_numbers kinds.now) word.now message.old from
+        × Enters walk at heads.now (kind_numbers kinds.now) block from }
+    ensures { TakenTo walk at heads.now (kind_numbers kinds.now) word.now message.new result
+        × ComesTo walk at heads.now (kind_numbers kinds.now) (suc block) result }
 {
     let edge = heads[block + 1] as usize;
     let mut here = Taking {
@@ -91,16 +94,15 @@ fn take_block(
 }
 
 // How many cells at the head of a block of a kind are not the message's.
-fn head_cells(walk: Walk, kind: u8) -> usize
-    ensures { result ≡ head_len_of walk kind }
+#[tactic(auto, unfolding(crate::specs::Walk::head_len_of))]
+fn head_cells(walk: Walk, kind: Kind) -> usize
+    ensures { result ≡ head_len_of walk (kind_number kind) }
 {
-    if kind == blocks::FIXED {
-        return 1;
+    match kind {
+        Kind::Fixed => 1,
+        Kind::Index => walk.head_len,
+        Kind::Burst => 0,
     }
-    if kind == blocks::INDEX {
-        return walk.head_len;
-    }
-    0
 }
 
 // Cells of the message, up to a position.

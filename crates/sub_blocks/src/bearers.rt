@@ -5,11 +5,12 @@ ghost use Rattle.cells.specs.Figures.{max_word};
 ghost use Rattle.larsson.specs.Figures.{sub_blocks};
 ghost use Rattle.larsson.specs.Writing.{untouched as untouchedIn};
 ghost use Rattle.placements.specs.Bridge.{starts_in};
+ghost use Rattle.blocks.specs.Numbers.{kind_number, kind_numbers};
 ghost use Rattle.blocks.specs.Blocks.{burst_kind, index_kind};
 ghost use Rattle.larsson_params.specs.Given.{larsson_figures_of, SubStartsOf};
 ghost use Rattle.sub_blocks.specs.Given.{BurstsOfLayout, BearersOf};
 
-use blocks::{BURST, INDEX};
+use blocks::Kind;
 use larsson_params::LarssonLayout;
 use params::Layout;
 use placements::Placement;
@@ -19,12 +20,12 @@ pub fn bearers_of(
     layout: LarssonLayout,
     starts: &[u16; Layout::MAX_HEADS],
     at: Placement,
-) -> [u8; Layout::MAX_BLOCKS]
+) -> [Kind; Layout::MAX_BLOCKS]
     requires { BurstsOfLayout layout at × SubStartsOf (larsson_figures_of layout) starts.now }
-    ensures { BearersOf (larsson_figures_of layout) (starts_in at) result }
+    ensures { BearersOf (larsson_figures_of layout) (starts_in at) (kind_numbers result) }
 {
     let blocks = 2 * layout.m + 1;
-    let mut kinds = [BURST; Layout::MAX_BLOCKS];
+    let mut kinds = [Kind::Burst; Layout::MAX_BLOCKS];
     let mut met: usize = 0;
     for i in 0..blocks {
         let untouched = is_untouched(layout, starts, at, i);
@@ -37,10 +38,14 @@ pub fn bearers_of(
 }
 
 // The kind of a sub-block with so many untouched ones before it.
-fn kind_of(untouched: bool, met: usize, m: usize) -> u8
-    ensures { result ≡ cond (untouched && ltb met (suc m)) index_kind burst_kind }
+fn kind_of(untouched: bool, met: usize, m: usize) -> Kind
+    ensures { kind_number result ≡ cond (untouched && ltb met (suc m)) index_kind burst_kind }
 {
-    if untouched && met <= m { INDEX } else { BURST }
+    if untouched && met <= m {
+        Kind::Index
+    } else {
+        Kind::Burst
+    }
 }
 
 // Whether no burst touches sub-block i.

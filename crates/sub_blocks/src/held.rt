@@ -2,12 +2,13 @@
 ghost use Rattle.std.specs.Prelude.{◌≡◌, List, ℕ, ◌<◌, min};
 ghost use Rattle.larsson.specs.Figures.{sub_blocks};
 ghost use Rattle.larsson.specs.Reading;
+ghost use Rattle.blocks.specs.Numbers.{kind_numbers};
 ghost use Rattle.larsson_params.specs.Given.{larsson_figures_of, SubStartsOf};
 ghost use Rattle.sub_blocks.specs.Given.{BearersOf};
 ghost use Rattle.sub_blocks.specs.Found.{FoundWord, SubBlockValued, spelled_at};
 
 use crate::majority::same_symbols;
-use blocks::INDEX;
+use blocks::Kind;
 use heads::written::with_digits;
 use larsson_params::LarssonLayout;
 use params::Layout;
@@ -31,17 +32,17 @@ pub fn value_of(
 pub fn agrees(
     layout: LarssonLayout,
     starts: &[u16; Layout::MAX_HEADS],
-    kinds: &[u8; Layout::MAX_BLOCKS],
+    kinds: &[Kind; Layout::MAX_BLOCKS],
     word: &[u8],
     i: usize,
 ) -> bool
     requires { FoundWord layout word.now × SubStartsOf (larsson_figures_of layout) starts.now × SubBlockValued (larsson_figures_of layout) word.now i }
-    ensures { (ss : List ℕ) → BearersOf (larsson_figures_of layout) ss kinds.now → result
+    ensures { (ss : List ℕ) → BearersOf (larsson_figures_of layout) ss (kind_numbers kinds.now) → result
         ≡ Rattle.larsson.specs.Reading.agrees (larsson_figures_of layout) word.now (spelled_at (larsson_figures_of layout) word.now i) ss }
 {
     let blocks = 2 * layout.m + 1;
     for j in 0..blocks {
-        if kinds[j] == INDEX && !same_symbols(layout, starts, word, j, i) {
+        if kinds[j] == Kind::Index && !same_symbols(layout, starts, word, j, i) {
             return false;
         }
     }

@@ -10,6 +10,9 @@ use Rattle.cells.specs.Figures.{max_word}
 use Rattle.placements.specs.Bridge.{starts_in}
 use Rattle.params.specs.Given.{figures_of}
 use Rattle.params.specs.declared.Layout.{Layout}
+use Rattle.blocks.specs.declared.Kind.TheVariants.{Burst}
+use Rattle.blocks.specs.Numbers.{kind_numbers}
+use Rattle.blocks.proofs.Numbers.{length-kinds, kinds-set}
 use Rattle.blocks.proofs.Bursting.{Bursting, bursting-start, bursting-turn, bursting-done}
 use Rattle.params.proofs.Shape.{bound, blocks_is, blocks-fit, blocks-most, many}
 use Rattle.placements.proofs.Placing.{starts-count, start_is, start-in, start-grows}
@@ -74,7 +77,7 @@ burst_block-next-requires c =
 
 pub bounds-kinds-next : goal.bounds-kinds-next
 bounds-kinds-next c =
-    omega (arith, c.burst_block-next.ensures.1, blocks-fit (l (goal.at.bounds-kinds-next c).Start) c.requires.0.layout, c.loop-j.invariant.2.size)
+    omega (arith, c.burst_block-next.ensures.1, blocks-fit (l (goal.at.bounds-kinds-next c).Start) c.requires.0.layout, c.loop-j.invariant.2.size, length-kinds c.loop-j.kinds)
 
 pub loop-j-preserved : goal.loop-j-preserved
 loop-j-preserved c =
@@ -87,15 +90,18 @@ loop-j-preserved c =
     let top = end-block (goal.at.loop-j-preserved c).Start j h in (
       rw last.ensures top.below,
       λ i d k. rw last.ensures (omega (arith, top.reach, start-grows (l (goal.at.loop-j-preserved c).Start) at c.requires.0 j i (omega arith) k)),
-      rw (c.burst_block-next.ensures.0, p)
-          (bursting-turn (figures_of (l (goal.at.loop-j-preserved c).Start)) (starts_in at) j last.result c.loop-j.kinds c.loop-j.invariant.2
+      rw (kinds-set c.loop-j.kinds c.burst_block-next.result Burst, c.burst_block-next.ensures.0, p)
+          (bursting-turn (figures_of (l (goal.at.loop-j-preserved c).Start)) (starts_in at) j last.result (kind_numbers c.loop-j.kinds) c.loop-j.invariant.2
           (omega (arith, starts-count (l (goal.at.loop-j-preserved c).Start) at c.requires.0))
           (rw (start_is (l (goal.at.loop-j-preserved c).Start) at c.requires.0 j h, ← p) last.ensures)
           (rw (last.ensures, ← p) top.below)
           (omega (arith, many (l (goal.at.loop-j-preserved c).Start) g)) (blocks-most (l (goal.at.loop-j-preserved c).Start) g)),
     )
 
+pub returns-clause-size : goal.returns-clause-size
+returns-clause-size c = omega (arith, c.loop-j.invariant.2.size, length-kinds c.loop-j.kinds)
+
 pub returns-clause-bursts : goal.returns-clause-bursts
 returns-clause-bursts c =
     let ss = starts_in c.args.at in
-    let e : c.loop-j.j ≡ length ss = omega (arith, starts-count (l (goal.at.returns-clause-bursts c).Start) c.args.at c.requires.0) in bursting-done (figures_of (l (goal.at.returns-clause-bursts c).Start)) ss c.loop-j.kinds (subst (λ (y : ℕ). Bursting (figures_of (l (goal.at.returns-clause-bursts c).Start)) ss y c.loop-j.kinds) e c.loop-j.invariant.2)
+    let e : c.loop-j.j ≡ length ss = omega (arith, starts-count (l (goal.at.returns-clause-bursts c).Start) c.args.at c.requires.0) in bursting-done (figures_of (l (goal.at.returns-clause-bursts c).Start)) ss (kind_numbers c.loop-j.kinds) (subst (λ (y : ℕ). Bursting (figures_of (l (goal.at.returns-clause-bursts c).Start)) ss y (kind_numbers c.loop-j.kinds)) e c.loop-j.invariant.2)

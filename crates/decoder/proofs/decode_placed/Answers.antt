@@ -21,6 +21,7 @@ use Rattle.params.proofs.Shape.{bound, long}
 use Rattle.placements.specs.Bridge.{held_as, starts_in}
 use Rattle.stretches.specs.ByBlock.{PlacedIn, walk_of}
 use Rattle.stretches.proofs.ByLayout.{walks-of, plan-of, message-of}
+use Rattle.blocks.specs.Numbers.{kind_numbers}
 use Rattle.decoder.specs.Reader.{read_message}
 use Rattle.decoder.proofs.Covered.{erasures-covered}
 use Rattle.decoder.proofs.decode_placed.Goals as goal
@@ -49,7 +50,7 @@ reads_whole s e = rw (erasure-is (l s).q (taken s) (known s), e)
 
 -- its bursts
 placed : (s : Start) → PlacedIn (walk_of (l s)) s.args.placement
-placed s = (walks-of (l s) s.args.placement s.args.heads.now s.args.kinds.now s.requires.0.placing s.requires.1).bursts
+placed s = (walks-of (l s) s.args.placement s.args.heads.now (kind_numbers s.args.kinds.now) s.requires.0.placing s.requires.1).bursts
 
 -- whether its message could be read
 whole_is : (c : After-message_whole) → c.message_whole.result ≡ all_below (l (goal.at.After-message_whole c).Start).q
@@ -83,9 +84,9 @@ take_message-requires c =
     let p = c.requires.0.placing in
     rw c.walk_of-walk.ensures
     record {
-      walks = walks-of (l (goal.at.take_message-requires c).Start) a.placement a.heads.now a.kinds.now p c.requires.1;
+      walks = walks-of (l (goal.at.take_message-requires c).Start) a.placement a.heads.now (kind_numbers a.kinds.now) p c.requires.1;
       whole = c.requires.0.lent.finding.complete;
-      room = message-of (l (goal.at.take_message-requires c).Start) a.placement a.heads.now a.kinds.now p c.requires.1 a.message.now c.requires.0.lent.room;
+      room = message-of (l (goal.at.take_message-requires c).Start) a.placement a.heads.now (kind_numbers a.kinds.now) p c.requires.1 a.message.now c.requires.0.lent.room;
     }
 
 -- an accepted word
@@ -98,7 +99,7 @@ returns c =
     let a = c.args in
     let ss = starts_in a.placement in
     let call = c.take_message in
-    let plan = plan-of (l (goal.at.returns c).Start) a.placement a.heads.now a.kinds.now c.requires.0.placing c.requires.1 in
+    let plan = plan-of (l (goal.at.returns c).Start) a.placement a.heads.now (kind_numbers a.kinds.now) c.requires.0.placing c.requires.1 in
     let picked = rw (c.walk_of-walk.ensures, plan) at call.ensures in
     read_whole (l (goal.at.returns c).Start).b a.rank (held_as a.placement) ss call.new.message (taken (goal.at.returns c).Start) a.message.now
     (read_message (l (goal.at.returns c).Start) a.word.now ss) c.requires.0.ranked c.requires.0.is_held picked

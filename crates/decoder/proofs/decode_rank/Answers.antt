@@ -17,6 +17,7 @@ use Rattle.params.proofs.Fitting.{served}
 use Rattle.placements.specs.Bridge.{starts_in}
 use Rattle.placements.proofs.Calls.{room_of, starts-held}
 use Rattle.blocks.specs.Blocks.{KindsOf}
+use Rattle.blocks.specs.Numbers.{kind_numbers}
 use Rattle.decoder.specs.Reader.{read_message}
 use Rattle.decoder.proofs.Calls.{too_large, disagreeing, agreeing, ranked-read, placing}
 use Rattle.decoder.proofs.decode_rank.Goals as goal
@@ -74,9 +75,9 @@ kinds_of-kinds-requires c =
 
 -- the kinds are those of the rank's placement
 kinds-at : (c : After-kinds_of-kinds) → KindsOf (f (goal.at.After-kinds_of-kinds c).Start)
-    (ss (goal.at.After-kinds_of-kinds c).Start) c.kinds_of-kinds.result
+    (ss (goal.at.After-kinds_of-kinds c).Start) (kind_numbers c.kinds_of-kinds.result)
 kinds-at c =
-    subst (λ (r : List ℕ). KindsOf (f (goal.at.After-kinds_of-kinds c).Start) r c.kinds_of-kinds.result) (starts-held {p = c.unrank-placement.result} (ss (goal.at.After-kinds_of-kinds c).Start) c.unrank-placement.ensures)
+    subst (λ (r : List ℕ). KindsOf (f (goal.at.After-kinds_of-kinds c).Start) r (kind_numbers c.kinds_of-kinds.result)) (starts-held {p = c.unrank-placement.result} (ss (goal.at.After-kinds_of-kinds c).Start) c.unrank-placement.ensures)
     c.kinds_of-kinds.ensures
 
 pub returns-then-not-agrees : goal.returns-then-not-agrees

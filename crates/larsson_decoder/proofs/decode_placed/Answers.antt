@@ -16,6 +16,7 @@ use Rattle.larsson_words.specs.Walked as Words
 use Rattle.larsson_params.specs.declared.LarssonLayout.{LarssonLayout}
 use Rattle.larsson_params.specs.Given.{larsson_figures_of, LarssonLayoutFits}
 use Rattle.larsson_params.proofs.Shape.{bound, long}
+use Rattle.blocks.specs.Numbers.{kind_numbers}
 use Rattle.larsson_decoder.proofs.Reading.{whole_is, reads-erased, reads_whole, read_whole}
 use Rattle.larsson_decoder.proofs.decode_placed.Goals as goal
 use Rattle.larsson_decoder.proofs.decode_placed.Goals.{After-cover_erasures, Start}
@@ -43,7 +44,7 @@ counted s = ap (λ (h : Held). h.count) s.requires.2.is_held ∙ (placed-starts 
 told : (c : After-cover_erasures) → (c.cover_erasures.result ≡ all_below (l (goal.at.After-cover_erasures c).Start).q (taken (goal.at.After-cover_erasures c).Start))
 told c =
     let a = c.args in
-    let whole = whole_is (l (goal.at.After-cover_erasures c).Start) a.word.now c.requires.0.finding a.located.rank a.located.placement a.located.kinds c.requires.2 in
+    let whole = whole_is (l (goal.at.After-cover_erasures c).Start) a.word.now c.requires.0.finding a.located.rank a.located.placement (kind_numbers a.located.kinds) c.requires.2 in
     rw (c.requires.0.finding.complete, whole) at c.cover_erasures.ensures
 
 pub overflow_cast-layout : goal.overflow_cast-layout
@@ -63,7 +64,7 @@ returns-then-not-cover_erasures c =
     let a = c.args in
     c.unread.ensures a.message.now
     ∙ sym (ap (decoded_from (l (goal.at.returns-then-not-cover_erasures c).Start).b a.message.now)
-    (reads-erased (l (goal.at.returns-then-not-cover_erasures c).Start) a.word.now c.requires.0.finding a.located.rank a.located.placement a.located.kinds c.requires.2
+    (reads-erased (l (goal.at.returns-then-not-cover_erasures c).Start) a.word.now c.requires.0.finding a.located.rank a.located.placement (kind_numbers a.located.kinds) c.requires.2
     (sym (told (goal.at.returns-then-not-cover_erasures c).After-cover_erasures) ∙ c.if-not-cover_erasures.true)))
 
 pub walk_of-walk-requires : goal.walk_of-walk-requires
@@ -96,5 +97,5 @@ returns c =
     c.requires.2.ranked c.requires.2.is_held
     (rw c.walk_of-walk.ensures at c.take_message.ensures)
     ∙ sym (ap (decoded_from (l (goal.at.returns c).Start).b a.message.now)
-    (reads_whole (l (goal.at.returns c).Start) a.word.now c.requires.0.finding a.located.rank a.located.placement a.located.kinds c.requires.2
+    (reads_whole (l (goal.at.returns c).Start) a.word.now c.requires.0.finding a.located.rank a.located.placement (kind_numbers a.located.kinds) c.requires.2
     (sym (told (goal.at.returns c).After-cover_erasures) ∙ c.if-not-cover_erasures.false)))

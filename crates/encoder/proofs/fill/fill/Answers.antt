@@ -10,6 +10,7 @@ use Rattle.params.proofs.Shape.{bound}
 use Rattle.placements.specs.Bridge.{starts_in}
 use Rattle.stretches.specs.ByBlock.{Tables}
 use Rattle.stretches.proofs.ByLayout.{walks-of, plan-of, message-of, digits-lent, digits-of}
+use Rattle.blocks.specs.Numbers.{kind_numbers}
 use Rattle.encoder.proofs.Room.{count_most, spelled_count, spellable, word_of}
 use Rattle.encoder.proofs.fill.fill.Goals as goal
 use Rattle.encoder.proofs.fill.fill.Goals.{Start}
@@ -46,12 +47,12 @@ fill_cells-requires c =
     let count = spelled_count (l (goal.at.fill_cells-requires c).Start).q (l (goal.at.fill_cells-requires c).Start).m (l (goal.at.fill_cells-requires c).Start).index_tail _ spelled.result spelled.ensures in
     let heads = c.put_heads in
     let kinds = c.kinds_of-kinds in
-    let tables : Tables (l (goal.at.fill_cells-requires c).Start) c.args.at heads.new.heads kinds.result = (heads.ensures, kinds.ensures) in
+    let tables : Tables (l (goal.at.fill_cells-requires c).Start) c.args.at heads.new.heads (kind_numbers kinds.result) = (heads.ensures, kinds.ensures) in
     rw c.walk_of.ensures
     record {
-      walks = walks-of (l (goal.at.fill_cells-requires c).Start) c.args.at heads.new.heads kinds.result p tables;
-      digits-lent = digits-lent (l (goal.at.fill_cells-requires c).Start) c.args.at heads.new.heads kinds.result p tables ds count;
-      message-lent = message-of (l (goal.at.fill_cells-requires c).Start) c.args.at heads.new.heads kinds.result p tables c.args.message.now c.requires.1.sent;
+      walks = walks-of (l (goal.at.fill_cells-requires c).Start) c.args.at heads.new.heads (kind_numbers kinds.result) p tables;
+      digits-lent = digits-lent (l (goal.at.fill_cells-requires c).Start) c.args.at heads.new.heads (kind_numbers kinds.result) p tables ds count;
+      message-lent = message-of (l (goal.at.fill_cells-requires c).Start) c.args.at heads.new.heads (kind_numbers kinds.result) p tables c.args.message.now c.requires.1.sent;
       room = c.requires.1.room;
     }
 
@@ -65,10 +66,10 @@ returns c =
     let count = spelled_count (l (goal.at.returns c).Start).q (l (goal.at.returns c).Start).m (l (goal.at.returns c).Start).index_tail _ spelled.result spelled.ensures in
     let heads = c.put_heads in
     let kinds = c.kinds_of-kinds in
-    let tables : Tables (l (goal.at.returns c).Start) at heads.new.heads kinds.result = (heads.ensures, kinds.ensures) in
+    let tables : Tables (l (goal.at.returns c).Start) at heads.new.heads (kind_numbers kinds.result) = (heads.ensures, kinds.ensures) in
     let filled = rw (
       c.walk_of.ensures,
-      plan-of (l (goal.at.returns c).Start) at heads.new.heads kinds.result p tables,
-      digits-of (l (goal.at.returns c).Start) at heads.new.heads kinds.result p tables ds count,
+      plan-of (l (goal.at.returns c).Start) at heads.new.heads (kind_numbers kinds.result) p tables,
+      digits-of (l (goal.at.returns c).Start) at heads.new.heads (kind_numbers kinds.result) p tables ds count,
     ) at c.fill_cells.ensures in
     word_of (l (goal.at.returns c).Start) c.requires.0 (starts_in at) spelled.result c.args.message.now _ value.result p.placed value.ensures spelled.ensures filled

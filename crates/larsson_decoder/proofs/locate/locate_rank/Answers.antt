@@ -3,7 +3,6 @@ use mathlib.Core.Path.{◌≡◌, sym, subst, ◌∙◌}
 use mathlib.Core.List.{List}
 use Prim.Native.Nat.{ℕ}
 use native.Mathlib.Omega.{arith}
-use Rattle.refusals.specs.Refusals.{disagrees}
 use Rattle.cells.specs.Figures.{Params, placement_of}
 use Rattle.larsson.specs.Reading.{agrees}
 use Rattle.larsson_params.specs.declared.LarssonLayout.{LarssonLayout}
@@ -11,6 +10,7 @@ use Rattle.larsson_params.specs.Given.{larsson_figures_of, LarssonLayoutFits}
 use Rattle.larsson_params.proofs.Shape.{served, bound, long}
 use Rattle.sub_blocks.specs.Given.{BearersOf}
 use Rattle.sub_blocks.proofs.Room.{room_of}
+use Rattle.blocks.specs.Numbers.{kind_numbers}
 use Rattle.larsson_decoder.proofs.Locating.{disagreeing, agreeing, starts-are, bearing, located}
 use Rattle.larsson_decoder.proofs.locate.locate_rank.Goals as goal
 use Rattle.larsson_decoder.proofs.locate.locate_rank.Goals.{After-agrees, Start}
@@ -33,7 +33,7 @@ told : (c : After-agrees) → (c.agrees.result ≡ agrees (f (goal.at.After-agre
 told c =
     let b = c.bearers_of-kinds in
     let same = starts-are (l (goal.at.After-agrees c).Start) (fit (goal.at.After-agrees c).Start) c.args.rank c.requires.0.below c.unrank-placement.result c.unrank-placement.ensures in
-    rw (← c.requires.0.spelled) at (c.agrees.ensures (ss (goal.at.After-agrees c).Start) (subst (λ (r : List ℕ). BearersOf (f (goal.at.After-agrees c).Start) r b.result) same b.ensures))
+    rw (← c.requires.0.spelled) at (c.agrees.ensures (ss (goal.at.After-agrees c).Start) (subst (λ (r : List ℕ). BearersOf (f (goal.at.After-agrees c).Start) r (kind_numbers b.result)) same b.ensures))
 
 pub overflow_cast-layout-2 : goal.overflow_cast-layout-2
 overflow_cast-layout-2 c = omega (arith, bound (l (goal.at.overflow_cast-layout-2 c).Start) (fit (goal.at.overflow_cast-layout-2 c).Start))
@@ -57,5 +57,5 @@ returns-then-not-agrees c =
 pub returns : goal.returns
 returns c =
     let b = c.bearers_of-kinds in
-    located (l (goal.at.returns c).Start) (fit (goal.at.returns c).Start) c.args.rank c.requires.0.below c.unrank-placement.result c.unrank-placement.ensures c.args.word.now b.result b.ensures
+    located (l (goal.at.returns c).Start) (fit (goal.at.returns c).Start) c.args.rank c.requires.0.below c.unrank-placement.result c.unrank-placement.ensures c.args.word.now (kind_numbers b.result) b.ensures
     (agreeing (f (goal.at.returns c).Start) c.args.word.now c.args.rank c.requires.0.taken c.requires.0.below (sym (told (goal.at.returns c).After-agrees) ∙ c.if-not-agrees.false))

@@ -6,6 +6,7 @@ use lib.ListN.{get_or}
 use Rattle.cells.specs.Cells.{message}
 use Rattle.cells.specs.Plan.{Frame}
 use Rattle.placements.specs.Bridge.{starts_in}
+use Rattle.blocks.specs.Numbers.{kind_numbers}
 use Rattle.stretches.specs.declared.fill.Filling.{Filling}
 use Rattle.stretches.specs.Walk.{frame_by, next_start}
 use Rattle.stretches.specs.ByBlock.{Past, Cells}
@@ -17,7 +18,7 @@ use Rattle.stretches.proofs.fill.fill_block.Goals.{Start}
 -- ---- What the contract lends
 
 abbrev g : Start → Frame
-g s = frame_by s.args.walk s.args.heads.now s.args.kinds.now (starts_in s.args.at)
+g s = frame_by s.args.walk s.args.heads.now (kind_numbers s.args.kinds.now) (starts_in s.args.at)
 
 w : (s : Start) → Walkable (g s) s.args.walk.b (starts_in s.args.at)
 w s = walkable s.requires.0.walks

@@ -8,6 +8,7 @@ use Rattle.combinatorics.specs.Stretch.{sum}
 use Rattle.cells.specs.Cells.{Cell}
 use Rattle.cells.specs.Plan.{kind_in}
 use Rattle.placements.specs.Bridge.{starts_in}
+use Rattle.blocks.specs.Numbers.{kind_numbers}
 use Rattle.stretches.specs.Walk.{frame_by, digits_by}
 use Rattle.stretches.proofs.ByBlock.{walkable, entering-first}
 use Rattle.stretches.proofs.Filling.{filled-start}
@@ -17,10 +18,10 @@ use Rattle.stretches.proofs.fill.fill_cells.Goals.{Start}
 -- ---- What the contract lends
 
 abbrev kd : Start → ℕ → Cell
-kd s = kind_in (frame_by s.args.walk s.args.heads.now s.args.kinds.now (starts_in s.args.at))
+kd s = kind_in (frame_by s.args.walk s.args.heads.now (kind_numbers s.args.kinds.now) (starts_in s.args.at))
 
 abbrev ds : Start → List ℕ
-ds s = digits_by s.args.walk s.args.kinds.now s.args.digits.now
+ds s = digits_by s.args.walk (kind_numbers s.args.kinds.now) s.args.digits.now
 
 -- ---- What is left of the code
 

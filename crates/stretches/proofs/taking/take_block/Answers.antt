@@ -7,6 +7,9 @@ use lib.ListN.{get_or}
 use Rattle.cells.specs.Cells.{burst, message}
 use Rattle.cells.specs.Plan.{Frame}
 use Rattle.placements.specs.Bridge.{starts_in}
+use Rattle.blocks.specs.Numbers.{kind_number, kind_numbers}
+use Rattle.blocks.specs.declared.Kind.TheVariants.{Fixed}
+use Rattle.blocks.proofs.Numbers.{kind-at}
 use Rattle.stretches.specs.declared.taking.Taking.{Taking}
 use Rattle.stretches.specs.Walk.{frame_by, head_cells, head_len_of, next_start}
 use Rattle.stretches.specs.ByBlock.{Past, Cells}
@@ -18,7 +21,7 @@ use Rattle.stretches.proofs.taking.take_block.Goals.{Start}
 -- ---- What the contract lends
 
 abbrev g : Start → Frame
-g s = frame_by s.args.walk s.args.heads.now s.args.kinds.now (starts_in s.args.at)
+g s = frame_by s.args.walk s.args.heads.now (kind_numbers s.args.kinds.now) (starts_in s.args.at)
 
 w : (s : Start) → Walkable (g s) s.args.walk.b (starts_in s.args.at)
 w s = walkable s.requires.0.walks
@@ -32,7 +35,7 @@ edge-is s = ap (λ (k : ℕ). get_or s.args.heads.now k 0) (add-one s.args.block
 
 -- the block's head
 abbrev len : Start → ℕ
-len s = head_len_of s.args.walk (get_or s.args.kinds.now s.args.block 0)
+len s = head_len_of s.args.walk (get_or (kind_numbers s.args.kinds.now) s.args.block 0)
 
 len_is : (s : Start) → head_cells (g s) s.args.block ≡ len s
 len_is s = head-len s.requires.0.walks s.args.block s.requires.1.0
@@ -56,12 +59,15 @@ message-to s here = message-cells (w s) s.args.block here.at here.passed s.requi
 
 -- ---- What is left of the code
 
+len-by : (s : Start) → head_len_of s.args.walk (kind_number (get_or s.args.kinds.now s.args.block Fixed)) ≡ len s
+len-by s = ap (head_len_of s.args.walk) (sym (kind-at s.args.kinds.now s.args.block))
+
 pub overflow_add-here : goal.overflow_add-here
-overflow_add-here c = omega (arith, c.head_cells.ensures, (past (goal.at.overflow_add-here c).Start).between.within, c.requires.0.walks.n-most)
+overflow_add-here c = omega (arith, c.head_cells.ensures, len-by (goal.at.overflow_add-here c).Start, (past (goal.at.overflow_add-here c).Start).between.within, c.requires.0.walks.n-most)
 
 pub loop-here-init : goal.loop-here-init
 loop-here-init c =
-    let cells = c.head_cells.ensures in
+    let cells = c.head_cells.ensures ∙ len-by (goal.at.loop-here-init c).Start in
     let passed = rw (len_is (goal.at.loop-here-init c).Start) at (passes-head c.requires.0 c.args.block c.args.from.passed c.requires.1.0 c.requires.1.1.0) in
     (edge-is (goal.at.loop-here-init c).Start, c.requires.1.1.1, rw cells (past (goal.at.loop-here-init c).Start), rw cells passed)
 

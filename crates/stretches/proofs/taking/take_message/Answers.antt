@@ -3,6 +3,7 @@ use Prim.Native.Nat.{ℕ}
 use Rattle.cells.specs.Cells.{Cell}
 use Rattle.cells.specs.Plan.{kind_in}
 use Rattle.placements.specs.Bridge.{starts_in}
+use Rattle.blocks.specs.Numbers.{kind_numbers}
 use Rattle.stretches.specs.Walk.{frame_by}
 use Rattle.stretches.proofs.ByBlock.{walkable, entering-first}
 use Rattle.stretches.proofs.Picking.{taken_start}
@@ -12,7 +13,7 @@ use Rattle.stretches.proofs.taking.take_message.Goals.{Start}
 -- ---- What the contract lends
 
 abbrev kd : Start → ℕ → Cell
-kd s = kind_in (frame_by s.args.walk s.args.heads.now s.args.kinds.now (starts_in s.args.at))
+kd s = kind_in (frame_by s.args.walk s.args.heads.now (kind_numbers s.args.kinds.now) (starts_in s.args.at))
 
 -- ---- What is left of the code
 

@@ -11,6 +11,8 @@ use Rattle.combinatorics.proofs.Stretch.{count-le}
 use Rattle.cells.proofs.Figures.{Ranged}
 use Rattle.larsson.specs.Writing.{untouched, bears}
 use Rattle.placements.specs.Bridge.{starts_in}
+use Rattle.blocks.specs.Numbers.{kind_number, kind_numbers}
+use Rattle.blocks.proofs.Numbers.{length-kinds, kinds-set}
 use Rattle.blocks.specs.Blocks.{burst_kind, index_kind}
 use Rattle.larsson_params.specs.Given.{larsson_figures_of}
 use Rattle.larsson_params.proofs.Shape.{bound}
@@ -37,14 +39,15 @@ overflow_add-met c =
     omega (arith, limits (goal.at.overflow_add-met c).Start, c.loop-i.invariant.1, count-le c.loop-i.i 0 (Free (goal.at.overflow_add-met c).Start))
 
 -- the kinds with that of sub-block i
-kinds-on : (c : After-kind_of) → ((x : ℕ) → x < c.loop-i.i + 1 → get_or (set c.loop-i.kinds c.loop-i.i c.kind_of.result) x 0
+kinds-on : (c : After-kind_of) → ((x : ℕ) → x < c.loop-i.i + 1 → get_or (kind_numbers (set c.loop-i.kinds c.loop-i.i c.kind_of.result)) x 0
     ≡ cond (bears (larsson_figures_of c.args.layout) (starts_in c.args.at) x) index_kind burst_kind)
 kinds-on c =
     let f = larsson_figures_of c.args.layout in
     let ss = starts_in c.args.at in
-    filled_on (λ x v. v ≡ cond (bears f ss x) index_kind burst_kind) c.loop-i.kinds c.loop-i.i c.kind_of.result
-    (omega (arith, limits (goal.at.After-kind_of c).Start, c.loop-i.invariant.0, c.loop-i-test.true)) c.loop-i.invariant.2
-    (c.kind_of.ensures ∙ bears-now f ss c.loop-i.i c.loop-i.met c.is_untouched-untouched.result c.is_untouched-untouched.ensures c.loop-i.invariant.1)
+    rw (kinds-set c.loop-i.kinds c.loop-i.i c.kind_of.result)
+    (filled_on (λ x v. v ≡ cond (bears f ss x) index_kind burst_kind) (kind_numbers c.loop-i.kinds) c.loop-i.i (kind_number c.kind_of.result)
+    (omega (arith, limits (goal.at.After-kind_of c).Start, c.loop-i.invariant.0, length-kinds c.loop-i.kinds, c.loop-i-test.true)) c.loop-i.invariant.2
+    (c.kind_of.ensures ∙ bears-now f ss c.loop-i.i c.loop-i.met c.is_untouched-untouched.result c.is_untouched-untouched.ensures c.loop-i.invariant.1))
 
 pub loop-i-preserved : goal.loop-i-preserved
 loop-i-preserved c =

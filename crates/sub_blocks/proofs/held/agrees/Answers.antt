@@ -4,25 +4,25 @@ use mathlib.Core.Bool.{Bool, true, false, not}
 use Prim.Native.Nat.{ℕ, ◌+◌, ◌*◌, ◌-◌}
 use native.Mathlib.Numerals.{add-one}
 use native.Mathlib.Omega.{arith}
-use lib.ListN.{get_or}
 use Rattle.combinatorics.specs.Stretch.{has}
-use Rattle.combinatorics.proofs.Cases.{eqb_same, eqb-other}
 use Rattle.combinatorics.proofs.StretchLoops.{has_here, has_on, has-over}
 use Rattle.cells.proofs.Figures.{Ranged}
 use Rattle.larsson.specs.Figures.{sub_blocks}
-use Rattle.blocks.specs.Blocks.{index_kind}
+use Rattle.blocks.specs.declared.Kind.TheVariants.{Index}
+use Rattle.blocks.specs.Numbers.{kind_numbers}
+use Rattle.blocks.proofs.Numbers.{kind-tested}
 use Rattle.larsson_params.specs.Given.{larsson_figures_of}
 use Rattle.larsson_params.proofs.Shape.{bound}
 use Rattle.sub_blocks.proofs.Holding.{Other, agrees-by}
 use Rattle.sub_blocks.proofs.held.agrees.Goals as goal
-use Rattle.sub_blocks.proofs.held.agrees.Goals.{Start, else-kinds-j-eq-INDEX-via-else-kinds-j-eq-INDEX, else-kinds-j-eq-INDEX-via-then-kinds-j-eq-INDEX+else-not-same_symbols}
+use Rattle.sub_blocks.proofs.held.agrees.Goals.{Start, else-eq-via-else-eq, else-eq-via-then-eq+else-not-same_symbols}
 
 limits : (s : Start) → Ranged (larsson_figures_of s.args.layout)
 limits s = bound s.args.layout s.requires.0.layout
 
 -- the bearers with other symbols
 abbrev Off : Start → ℕ → Bool
-Off s = Other s.args.layout s.args.word.now s.args.i s.args.kinds.now
+Off s = Other s.args.layout s.args.word.now s.args.i (kind_numbers s.args.kinds.now)
 
 -- the loop's number of sub-blocks is the definition's
 by-blocks : (s : Start) → has (2 * s.args.layout.m + 1) 0 (Off s) ≡ has (sub_blocks (larsson_figures_of s.args.layout)) 0 (Off s)
@@ -42,10 +42,10 @@ returns-then-not-same_symbols c =
     let a = c.args in
     let j = c.loop-j.j in
     let off : Off (goal.at.returns-then-not-same_symbols c).Start j ≡ true =
-    rw (eqb_same (get_or a.kinds.now j 0) index_kind c.if-kinds-j-eq-INDEX.true, ← c.same_symbols.ensures) (ap not c.if-not-same_symbols.true) in
+    rw (kind-tested a.kinds.now j Index ∙ sym c.if-eq.ensures, ← c.same_symbols.ensures) (ap not c.if-not-same_symbols.true) in
     let told = ap not (sym (has_here (2 * a.layout.m + 1) j (Off (goal.at.returns-then-not-same_symbols c).Start) (omega (arith, c.loop-j-test.true)) off)
     ∙ c.loop-j.invariant ∙ by-blocks (goal.at.returns-then-not-same_symbols c).Start) in
-    λ ss is. told ∙ agrees-by a.layout a.word.now a.i c.requires.0 c.requires.2 ss a.kinds.now is
+    λ ss is. told ∙ agrees-by a.layout a.word.now a.i c.requires.0 c.requires.2 ss (kind_numbers a.kinds.now) is
 
 pub loop-j-preserved : goal.loop-j-preserved
 loop-j-preserved c =
@@ -54,14 +54,14 @@ loop-j-preserved c =
     let n = 2 * a.layout.m + 1 in
     let on : Off (goal.at.loop-j-preserved c).Start j ≡ false → has (n - (j + 1)) (j + 1) (Off (goal.at.loop-j-preserved c).Start) ≡ has n 0 (Off (goal.at.loop-j-preserved c).Start) =
     λ e. sym (has_on n j (Off (goal.at.loop-j-preserved c).Start) (omega (arith, c.loop-j-test.true)) e) ∙ c.loop-j.invariant in
-    elim c.else-kinds-j-eq-INDEX.branch [
-      | else-kinds-j-eq-INDEX-via-then-kinds-j-eq-INDEX+else-not-same_symbols u ↦
-          on (rw (eqb_same (get_or a.kinds.now j 0) index_kind u.if-kinds-j-eq-INDEX.true, ← u.same_symbols.ensures) (ap not u.if-not-same_symbols.false))
-      | else-kinds-j-eq-INDEX-via-else-kinds-j-eq-INDEX u ↦ on (rw (eqb-other (get_or a.kinds.now j 0) index_kind u.if-kinds-j-eq-INDEX.false))
+    elim c.else-eq.branch [
+      | else-eq-via-then-eq+else-not-same_symbols u ↦
+          on (rw (kind-tested a.kinds.now j Index ∙ sym u.if-eq.ensures, ← u.same_symbols.ensures) (ap not u.if-not-same_symbols.false))
+      | else-eq-via-else-eq u ↦ on (rw (kind-tested a.kinds.now j Index ∙ sym u.if-eq.ensures))
     ]
 
 pub returns : goal.returns
 returns c =
     let a = c.args in
     let told = ap not (sym (has-over (2 * a.layout.m + 1) c.loop-j.j (Off (goal.at.returns c).Start) (omega (arith, c.loop-j-test.false))) ∙ c.loop-j.invariant ∙ by-blocks (goal.at.returns c).Start) in
-    λ ss is. told ∙ agrees-by a.layout a.word.now a.i c.requires.0 c.requires.2 ss a.kinds.now is
+    λ ss is. told ∙ agrees-by a.layout a.word.now a.i c.requires.0 c.requires.2 ss (kind_numbers a.kinds.now) is
