@@ -56,25 +56,32 @@ fn write_laid(
     let at = records::placement_in(received, m);
     let from = HEAD_LEN + 2 * m;
     if n <= SHORT_WORD {
-        let mut short = [0u8; SHORT_WORD];
-        return write_word(
-            table,
-            layout,
-            twice,
-            at,
-            &received[from..],
-            &mut short[..n],
-            line,
-        );
+        return write_in::<SHORT_WORD>(table, layout, twice, at, &received[from..], line);
     }
-    let mut word = [0u8; MAX_WORD];
+    write_in::<MAX_WORD>(table, layout, twice, at, &received[from..], line)
+}
+
+// W, with a word in an array that has room for it: an array is cleared as a whole, and a short word should not pay for a long one.
+fn write_in<const ROOM: usize>(
+    table: JobTable,
+    layout: WordLayout,
+    twice: bool,
+    at: Placement,
+    payload: &[u8],
+    line: &mut [u8],
+) -> usize
+    requires { (max_line ≤ length line.old) × (layout.n ≤ ROOM) × (ROOM ≤ max_word) × ServesTold layout twice (entries table) }
+    ensures { Put result line.old line.new
+        (λ s. write_step s (job_write_under (coding_in layout) (entries table) (held_as at) payload.now (replicate layout.n 0))) }
+{
+    let mut word = [0u8; ROOM];
     write_word(
         table,
         layout,
         twice,
         at,
-        &received[from..],
-        &mut word[..n],
+        payload,
+        &mut word[..layout.n],
         line,
     )
 }
@@ -146,25 +153,26 @@ fn read_laid(
     let layout = laid.layout;
     let count = bytes::payload_len(layout.q, layout.message_len);
     if count <= SHORT_WORD {
-        let mut short = [0u8; SHORT_WORD];
-        return read_payload(
-            table,
-            layout,
-            twice,
-            &received[HEAD_LEN..],
-            &mut short[..count],
-            line,
-        );
+        return read_in::<SHORT_WORD>(table, layout, twice, count, &received[HEAD_LEN..], line);
     }
-    let mut payload = [0u8; MAX_WORD];
-    read_payload(
-        table,
-        layout,
-        twice,
-        &received[HEAD_LEN..],
-        &mut payload[..count],
-        line,
-    )
+    read_in::<MAX_WORD>(table, layout, twice, count, &received[HEAD_LEN..], line)
+}
+
+// R, with a payload of so many bytes in an array that has room for it.
+fn read_in<const ROOM: usize>(
+    table: JobTable,
+    layout: WordLayout,
+    twice: bool,
+    count: usize,
+    word: &[u8],
+    line: &mut [u8],
+) -> usize
+    requires { (max_line ≤ length line.old) × (count ≤ ROOM) × (ROOM ≤ max_word) × ServesTold layout twice (entries table) }
+    ensures { Put result line.old line.new
+        (λ s. read_step s (job_read_under (coding_in layout) (entries table) word.now (replicate count 0))) }
+{
+    let mut payload = [0u8; ROOM];
+    read_payload(table, layout, twice, word, &mut payload[..count], line)
 }
 
 // R, with a lent payload that holds 0.

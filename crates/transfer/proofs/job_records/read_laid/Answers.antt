@@ -33,18 +33,15 @@ longest c =
       c.requires.small.word-most,
     )
 
--- what was shown is the record's line, whatever array the payload is lent in
-lent_is : (c : After-payload_len-count) (room : ℕ) (le : c.payload_len-count.result ≤ room) → length (take {A = ℕ} c.payload_len-count.result (replicate room 0)) ≡ c.payload_len-count.result
-lent_is c room le = length-take-le {A = ℕ} c.payload_len-count.result (replicate room 0) (omega (arith, length-replicate {A = ℕ} room 0))
-
-line-is : (c : After-payload_len-count) (room : ℕ) (le : c.payload_len-count.result ≤ room) → (r : ℕ) (line : List ℕ)
+-- what was shown is the record's line, whatever array the payload stood in
+line-is : (c : After-payload_len-count) (r : ℕ) (line : List ℕ)
     → (let a = c.args in let bytes = a.received.now in let es = entries a.table in
     Put r a.line.now line
     (λ s. read_step s (job_read_under (coding_in a.laid.layout) es (take (length bytes - record_head_len) (drop record_head_len bytes))
-    (take {A = ℕ} c.payload_len-count.result (replicate room 0))))
+    (replicate {A = ℕ} c.payload_len-count.result 0)))
     → Put r a.line.now line
     (λ s. read_step s (job_read_under (coding_of a.laid.figures) es (drop record_head_len bytes) (replicate {A = ℕ} (payload_len_of a.laid.figures) 0))))
-line-is c room le r line =
+line-is c r line =
     let a = c.args in
     let l = a.laid.layout in
     let bytes = a.received.now in
@@ -52,22 +49,18 @@ line-is c room le r line =
     let is = c.requires.numbers in
     put-read r a.line.now line (entries a.table) (coding_in l) (coding_of a.laid.figures) (take (length bytes - record_head_len) (drop record_head_len bytes))
     (drop record_head_len bytes)
-    (take {A = ℕ} count.result (replicate room 0)) (replicate {A = ℕ} (payload_len_of a.laid.figures) 0) c.requires.same (rest_all record_head_len bytes)
-    (zeros count.result room le ∙ ap (λ (k : ℕ). replicate {A = ℕ} k 0) (count.ensures ∙ ap₂ payload_len is.alphabet-is is.len_is))
+    (replicate {A = ℕ} count.result 0) (replicate {A = ℕ} (payload_len_of a.laid.figures) 0) c.requires.same (rest_all record_head_len bytes)
+    (ap (λ (k : ℕ). replicate {A = ℕ} k 0) (count.ensures ∙ ap₂ payload_len is.alphabet-is is.len_is))
 
 pub returns-then-count-le-SHORT_WORD : goal.returns-then-count-le-SHORT_WORD
 returns-then-count-le-SHORT_WORD c =
-    let read = c.read_payload in
-    line-is (goal.at.returns-then-count-le-SHORT_WORD c).After-payload_len-count short_word
-    (omega (arith, c.if-count-le-SHORT_WORD.true)) read.result read.new.line read.ensures
+    let read = c.read_in in
+    line-is (goal.at.returns-then-count-le-SHORT_WORD c).After-payload_len-count read.result read.new.line read.ensures
 
-pub slice_bounds-payload-end : goal.slice_bounds-payload-end
-slice_bounds-payload-end c = longest (goal.at.slice_bounds-payload-end c).After-payload_len-count
-
-pub slice_bounds-read_payload-end-3 : goal.slice_bounds-read_payload-end-3
-slice_bounds-read_payload-end-3 c = sym (lent_is (goal.at.slice_bounds-read_payload-end-3 c).After-payload_len-count max_word (longest (goal.at.slice_bounds-read_payload-end-3 c).After-payload_len-count))
+pub read_in-requires-2 : goal.read_in-requires-2
+read_in-requires-2 c = (c.requires.room, longest (goal.at.read_in-requires-2 c).After-payload_len-count, omega arith, c.requires.table)
 
 pub returns : goal.returns
 returns c =
-    let read = c.read_payload-2 in
-    line-is (goal.at.returns c).After-payload_len-count max_word (longest (goal.at.returns c).After-payload_len-count) read.result read.new.line read.ensures
+    let read = c.read_in-2 in
+    line-is (goal.at.returns c).After-payload_len-count read.result read.new.line read.ensures
