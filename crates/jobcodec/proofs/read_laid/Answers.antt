@@ -1,15 +1,14 @@
 -- `read_laid` meets its contract: too few bytes, a buffer of another length, or what the message gives. Assumes nothing.
 use mathlib.Core.Path.{sym, ◌∙◌}
+use Rattle.codes.proofs.Layouts.{numbers-in}
 use Prim.Native.Nat.{ℕ, ◌≤◌}
 use native.Mathlib.Omega.{arith}
-use lib.ListN.{take, replicate}
-use lib.Seq.{length-take-le}
+use lib.ListN.{replicate, length-replicate}
 use Rattle.cells.specs.Figures.{max_word}
-use Rattle.params.specs.Given.{short_word}
 use Rattle.codes.specs.Given.{coding_in}
 use Rattle.jobs.specs.Slots.{entries}
 use Rattle.jobcodec.specs.Given.{ReadableJob}
-use Rattle.jobcodec.proofs.Calls.{alphabet-few, bytes-are, message-short, room-is, ready, read-few, read_length}
+use Rattle.jobcodec.proofs.Calls.{alphabet-few, bytes-are, message-short, ready, read-few, read_length}
 use Rattle.jobcodec.proofs.read_laid.Goals as goal
 use Rattle.jobcodec.proofs.read_laid.Goals.{Else-payload-count, Start}
 
@@ -31,10 +30,10 @@ returns-then-payload-count c =
     sym (read_length (coding_in l) es c.args.word.now c.args.payload.now (ready l es c.requires count e (omega (arith, c.if-count-lt-MIN_PAYLOAD.false)))
     (λ d. c.if-payload-count.true (d ∙ sym (bytes-are l es c.requires count e))))
 
--- a message that is lent in an array with room for it
-readable : (c : Else-payload-count) (room : ℕ) → (let a = c.args in a.layout.message_len ≤ room
-    → ReadableJob a.layout (entries a.table) (take {A = ℕ} a.layout.message_len (replicate room 0)) a.payload.now)
-readable c room le =
+-- what a message in any array may count on
+readable : (c : Else-payload-count)
+    → (let a = c.args in ReadableJob a.layout (entries a.table) (replicate {A = ℕ} a.layout.message_len 0) a.payload.now)
+readable c =
     let l = c.args.layout in
     let es = entries c.args.table in
     let count = c.payload_len-count.result in
@@ -42,22 +41,13 @@ readable c room le =
     record {
       serves = c.requires.serves;
       ready = ready l es c.requires count e (omega (arith, c.if-count-lt-MIN_PAYLOAD.false));
-      room = room-is l es c.requires room le;
+      room = length-replicate {A = ℕ} l.message_len 0 ∙ (numbers-in l c.requires.serves).len_is;
       lent = c.if-payload-count.false ∙ bytes-are l es c.requires count e;
     }
 
-longest : (s : Start) → s.args.layout.message_len ≤ max_word
-longest s = message-short s.args.layout (entries s.args.table) s.requires
+pub read_in-requires : goal.read_in-requires
+read_in-requires c = (omega arith, omega arith, readable (goal.at.read_in-requires c).Else-payload-count)
 
-pub read_message-requires : goal.read_message-requires
-read_message-requires c = readable (goal.at.read_message-requires c).Else-payload-count short_word (omega (arith, c.if-k-le-SHORT_MESSAGE.true))
-
-pub slice_bounds-message-end : goal.slice_bounds-message-end
-slice_bounds-message-end c = longest (goal.at.slice_bounds-message-end c).Start
-
-pub slice_bounds-read_message-end-2 : goal.slice_bounds-read_message-end-2
-slice_bounds-read_message-end-2 c =
-    sym (length-take-le c.args.layout.message_len (replicate max_word 0) (longest (goal.at.slice_bounds-read_message-end-2 c).Start))
-
-pub read_message-requires-2 : goal.read_message-requires-2
-read_message-requires-2 c = readable (goal.at.read_message-requires-2 c).Else-payload-count max_word (longest (goal.at.read_message-requires-2 c).Start)
+pub read_in-requires-2 : goal.read_in-requires-2
+read_in-requires-2 c =
+    (message-short c.args.layout (entries c.args.table) c.requires, omega arith, readable (goal.at.read_in-requires-2 c).Else-payload-count)
