@@ -3,6 +3,7 @@
 #![tactic(auto)]
 
 ghost use Rattle.std.specs.Prelude.{◌≡◌};
+ghost use Rattle.refusals.specs.Numbers.{number_of, answer_of};
 ghost use Rattle.cells.specs.Outcomes.{unwritten};
 ghost use Rattle.codes.specs.Bridge.{coding_of};
 ghost use Rattle.params.specs.Bridge.{given};
@@ -11,7 +12,7 @@ ghost use Rattle.lent_moving.specs.Given.{move_without_table};
 
 use codes::Figures;
 use lent_jobs::table;
-use moving::both::{BothAnswer, both_fit};
+use moving::both::both_fit;
 use params::Params;
 use refusals::Refusal;
 
@@ -21,39 +22,61 @@ pub fn move_strip(from: Figures, to: Figures, table: &[u8], strip: &[u8], moved:
     ensures { unwritten moved.new result
         ≡ move_bytes_under (coding_of from) (coding_of to) table.now strip.now moved.old }
 {
+    refusals::answer(try_move(from, to, table, strip, moved))
+}
+
+// The same as a Result.
+fn try_move(
+    from: Figures,
+    to: Figures,
+    table: &[u8],
+    strip: &[u8],
+    moved: &mut [u8],
+) -> Result<(), Refusal>
+    ensures { unwritten moved.new (answer_of result)
+        ≡ move_bytes_under (coding_of from) (coding_of to) table.now strip.now moved.old }
+{
     if table.len() != table::TABLE_LEN {
-        return without_table(from, to, strip.len(), moved.len());
+        return Err(without_table(from, to, strip.len(), moved.len()));
     }
     if !table::states_known(table) {
-        return Refusal::INVALID;
+        return Err(Refusal::Invalid);
     }
-    let held = table::table_in(table);
-    moving::move_strip(from, to, held, strip, moved)
+    moving::move_strip(from, to, table::table_in(table), strip, moved)
 }
 
 // To Construction A. Refusals: 1 2 10 3 4 21 8 9 19 10, 12 23 14, 22, 17.
 pub fn move_to_a(figures: Params, table: &[u8], strip: &[u8], moved: &mut [u8]) -> u8
     ensures { unwritten moved.new result ≡ to_construction_a_bytes (given figures) table.now strip.now moved.old }
 {
-    let from = Figures::Larsson(figures);
-    move_strip(from, Figures::Ranked(figures), table, strip, moved)
+    move_strip(
+        Figures::Larsson(figures),
+        Figures::Ranked(figures),
+        table,
+        strip,
+        moved,
+    )
 }
 
 // Back to the Larsson code. Refusals: 1 2 10 3 4 7 19 8 9 19 10, 12 23 14, 22, 17.
 pub fn move_to_larsson(figures: Params, table: &[u8], strip: &[u8], moved: &mut [u8]) -> u8
     ensures { unwritten moved.new result ≡ to_larsson_bytes (given figures) table.now strip.now moved.old }
 {
-    let from = Figures::Ranked(figures);
-    move_strip(from, Figures::Larsson(figures), table, strip, moved)
+    move_strip(
+        Figures::Ranked(figures),
+        Figures::Larsson(figures),
+        table,
+        strip,
+        moved,
+    )
 }
 
 // What a move is refused with where the table has another length, so that no slot is looked at: 1 2 10, or else 3.
-fn without_table(from: Figures, to: Figures, strip: usize, moved: usize) -> u8
-    ensures { result ≡ move_without_table (coding_of from) (coding_of to) }
+fn without_table(from: Figures, to: Figures, strip: usize, moved: usize) -> Refusal
+    ensures { number_of result ≡ move_without_table (coding_of from) (coding_of to) }
 {
-    let answer = both_fit(from, to, strip, moved);
-    match answer {
-        BothAnswer::Refused(number) => number,
-        BothAnswer::Fit(_, _) => Refusal::LENGTH,
+    match both_fit(from, to, strip, moved) {
+        Err(refusal) => refusal,
+        Ok(_) => Refusal::Length,
     }
 }

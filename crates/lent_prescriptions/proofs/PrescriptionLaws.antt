@@ -9,7 +9,10 @@ use lib.Dec.{eqb}
 use lib.Ieee.{Float}
 use lib.ListN.{length, take, drop, set, replicate, length-append, length-drop}
 use lib.Seq.{take_at, length-take-le}
+use Rattle.std.specs.Prelude.{Err}
 use Rattle.refusals.specs.Refusals.{invalid}
+use Rattle.refusals.specs.Numbers.{number_of}
+use Rattle.refusals.specs.declared.Refusal.{Refusal}
 use Rattle.combinatorics.proofs.Cases.{by_bool, eqb_same, eqb-other}
 use Rattle.cells.specs.Bytes.{byte_values}
 use Rattle.cells.specs.Digits.{plain, spell}
@@ -27,13 +30,13 @@ use Rattle.prescription.specs.Outcomes.{Answered}
 use Rattle.prescriptioncodec.specs.PrescriptionWrite.{number_len, number_bytes, prescription_write_under}
 use Rattle.prescriptioncodec.specs.PrescriptionRead.{HandedOut, prescription_reading, prescription_read_under}
 use Rattle.lent_prescriptions.specs.Eyes.{eye_kind, eye_axis, eye_sphere, eye_cylinder, powers_lent, answer_lent}
-use Rattle.lent_jobs.specs.Jobs.{without_table}
+use Rattle.lent_jobs.specs.Jobs.{without_table, LentAs}
 use Rattle.lent_prescriptions.specs.Prescriptions.{prescription_write_bytes_under, handed_marks, handed_powers, have_room, prescription_read_lent}
 use Rattle.lent_prescriptions.specs.Prescriptions.{prescription_read_bytes_under, without_room}
 use Rattle.lent.specs.Starts.{placement_from}
 use Rattle.lent_jobs.specs.Table.{table_len, states_known, table_in}
 use Rattle.lent_prescriptions.proofs.Filling.{stored-all}
-use Rattle.lent_jobs.proofs.WithTable.{other-table, unknown-state, whole-table, whole-write}
+use Rattle.lent_jobs.proofs.WithTable.{refused-table, whole-table, whole-write}
 
 -- ---- Marks
 
@@ -116,15 +119,12 @@ module _ (marks : List ℕ) (powers : List Float) where
 -- ---- With a table in bytes
 
 module _ (f : Figures) (table starts : List ℕ) (n : ℕ) (p : Prescription) (out : List ℕ) where
-  pub write-other : length table ≢ table_len → unwritten out (without_table (coding_of f)) ≡ prescription_write_bytes_under (coding_of f) table starts n p out
+  pub write-refused : (r : Refusal) → LentAs (coding_of f) table (Err r)
+      → unwritten out (number_of r) ≡ prescription_write_bytes_under (coding_of f) table starts n p out
   unfolding prescription_write_bytes_under
-  write-other = other-table (coding_of f) table (unwritten out) _ _
+  write-refused = refused-table (coding_of f) table (unwritten out) _ _
 
   module _ (size : length table ≡ table_len) where
-    pub write-state : states_known table ≡ false → unwritten out invalid ≡ prescription_write_bytes_under (coding_of f) table starts n p out
-    unfolding prescription_write_bytes_under
-    write-state = unknown-state (coding_of f) table (unwritten out) _ size _
-
     pub write-whole : states_known table ≡ true
         → prescription_write_under (coding_of f) (table_in table) (placement_from (coding_of f).bursts starts) n p out ≡ prescription_write_bytes_under
         (coding_of f) table starts n p out
@@ -134,15 +134,12 @@ module _ (f : Figures) (table starts : List ℕ) (n : ℕ) (p : Prescription) (o
         (λ at h. rw (eqb-other at.count (coding_of f).bursts h))
 
 module _ (d : Coding) (table w marks : List ℕ) (powers : List Float) where
-  pub read-other : length table ≢ table_len → powers_lent marks powers (without_table d) ≡ prescription_read_bytes_under d table w marks powers
+  pub read-refused : (r : Refusal) → LentAs d table (Err r)
+      → powers_lent marks powers (number_of r) ≡ prescription_read_bytes_under d table w marks powers
   unfolding prescription_read_bytes_under
-  read-other = other-table d table (powers_lent marks powers) _ _
+  read-refused = refused-table d table (powers_lent marks powers) _ _
 
   module _ (size : length table ≡ table_len) where
-    pub read-state : states_known table ≡ false → powers_lent marks powers invalid ≡ prescription_read_bytes_under d table w marks powers
-    unfolding prescription_read_bytes_under
-    read-state = unknown-state d table (powers_lent marks powers) _ size _
-
     pub read_whole : states_known table ≡ true → prescription_read_lent d (table_in table) w marks powers ≡ prescription_read_bytes_under d table w marks powers
     unfolding prescription_read_lent prescription_read_bytes_under
     read_whole s = whole-table d table (powers_lent marks powers) true size s _ _ (λ _. refl)

@@ -1,6 +1,7 @@
 // Prescriptions written and read for other languages: the job table and starts as bytes, what is read as marks and powers. Inner functions.
 // Assumes nothing.
 ghost use Rattle.std.specs.Prelude.{◌≡◌, length};
+ghost use Rattle.refusals.specs.Numbers.{number_of, answer_of};
 ghost use Rattle.cells.specs.Outcomes.{unwritten};
 ghost use Rattle.jobs.specs.Slots.{entries};
 ghost use Rattle.codes.specs.Bridge.{coding_of};
@@ -15,7 +16,6 @@ use lent::starts;
 use lent_jobs::table;
 use prescription::eyes::Eye;
 use prescription::texts::Prescription;
-use prescriptioncodec::ReadAnswer;
 use refusals::Refusal;
 use symbols::numbers::{BYTE_VALUES, NUMBER_BYTES};
 
@@ -51,7 +51,7 @@ pub fn write_values(
     let right = eyes::eye_from(right_kind, right_sphere, right_cylinder, right_axis);
     let left = eyes::eye_from(left_kind, left_sphere, left_cylinder, left_axis);
     let prescription = of_eyes(right, left, distance);
-    write(figures, table, starts, number, prescription, word)
+    refusals::answer(write(figures, table, starts, number, prescription, word))
 }
 
 // The prescription of both eyes and the pupil distance.
@@ -73,18 +73,12 @@ fn write(
     number: u32,
     prescription: Prescription,
     word: &mut [u8],
-) -> u8
-    ensures { unwritten word.new result
+) -> Result<(), Refusal>
+    ensures { unwritten word.new (answer_of result)
         ≡ prescription_write_bytes_under (coding_of figures) table.now starts.now number prescription word.old }
 {
-    if table.len() != table::TABLE_LEN {
-        return table::without_table(figures);
-    }
-    if !table::states_known(table) {
-        return Refusal::INVALID;
-    }
+    let held = table::lent_table(figures, table)?;
     let at = starts::placement_under(figures, starts);
-    let held = table::table_in(table);
     prescriptioncodec::prescription_write(figures, held, at, number, prescription, word)
 }
 
@@ -94,13 +88,21 @@ pub fn read(figures: Figures, table: &[u8], word: &[u8], marks: &mut [u8], power
     ensures { powers_lent marks.new powers.new result
         ≡ prescription_read_bytes_under (coding_of figures) table.now word.now marks.old powers.old }
 {
-    if table.len() != table::TABLE_LEN {
-        return table::without_table(figures);
-    }
-    if !table::states_known(table) {
-        return Refusal::INVALID;
-    }
-    let held = table::table_in(table);
+    refusals::answer(try_read(figures, table, word, marks, powers))
+}
+
+// The same as a Result.
+fn try_read(
+    figures: Figures,
+    table: &[u8],
+    word: &[u8],
+    marks: &mut [u8],
+    powers: &mut [f64],
+) -> Result<(), Refusal>
+    ensures { powers_lent marks.new powers.new (answer_of result)
+        ≡ prescription_read_bytes_under (coding_of figures) table.now word.now marks.old powers.old }
+{
+    let held = table::lent_table(figures, table)?;
     read_held(figures, held, word, marks, powers)
 }
 
@@ -111,33 +113,28 @@ fn read_held(
     word: &[u8],
     marks: &mut [u8],
     powers: &mut [f64],
-) -> u8
-    ensures { powers_lent marks.new powers.new result
+) -> Result<(), Refusal>
+    ensures { powers_lent marks.new powers.new (answer_of result)
         ≡ prescription_read_lent (coding_of figures) (entries table) word.now marks.old powers.old }
 {
     if marks.len() != MARKS_LEN {
-        return without_room(figures, table);
+        return Err(without_room(figures, table));
     }
     if powers.len() != POWERS_LEN {
-        return without_room(figures, table);
+        return Err(without_room(figures, table));
     }
-    let answer = prescriptioncodec::prescription_read(figures, table, word);
-    match answer {
-        ReadAnswer::Refused(number) => number,
-        ReadAnswer::Handed(number, prescription) => {
-            put_marks(number, prescription, marks);
-            put_powers(prescription, powers);
-            Refusal::NONE
-        }
-    }
+    let (number, prescription) = prescriptioncodec::prescription_read(figures, table, word)?;
+    put_marks(number, prescription, marks);
+    put_powers(prescription, powers);
+    Ok(())
 }
 
 // What is refused where a buffer has another length: 1 2 10, or else 3.
-fn without_room(figures: Figures, table: JobTable) -> u8
-    ensures { result ≡ without_room (coding_of figures) (entries table) }
+fn without_room(figures: Figures, table: JobTable) -> Refusal
+    ensures { number_of result ≡ without_room (coding_of figures) (entries table) }
 {
     if table.twice() {
-        return Refusal::INVALID;
+        return Refusal::Invalid;
     }
     table::without_table(figures)
 }

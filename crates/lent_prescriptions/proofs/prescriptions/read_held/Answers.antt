@@ -1,12 +1,12 @@
 -- `read_held` meets its contract: the refusals before 3 where a buffer has no room, or what prescription read answers. Assumes nothing.
-use mathlib.Core.Path.{sym, ap, ap₂, ◌∙◌}
+use mathlib.Core.Path.{ap, ap₂, ◌∙◌}
 use mathlib.Core.List.{List}
 use Prim.Native.Nat.{ℕ}
 use lib.Ieee.{Float}
+use Rattle.std.proofs.lemmas.Result.{err_from_is_err_and}
 use Rattle.refusals.specs.Refusals.{served}
 use Rattle.codes.specs.Bridge.{coding_of}
 use Rattle.jobs.specs.Slots.{entries}
-use Rattle.prescriptioncodec.specs.PrescriptionRead.{read_answered}
 use Rattle.lent_prescriptions.specs.Eyes.{powers_lent}
 use Rattle.lent_prescriptions.proofs.PrescriptionLaws.{no-marks, no-powers, have-room, read-without-room, read-with-room}
 use Rattle.lent_prescriptions.proofs.prescriptions.read_held.Goals as goal
@@ -25,21 +25,19 @@ returns-then-powers-ne-POWERS_LEN c =
     ∙ read-without-room a.marks.now a.powers.now (coding_of a.figures) (entries a.table) a.word.now
     (no-powers a.marks.now a.powers.now c.if-powers-ne-POWERS_LEN.true)
 
-pub returns-in-Refused : goal.returns-in-Refused
-returns-in-Refused c =
+pub returns-in_err-number : goal.returns-in_err-number
+returns-in_err-number c =
     let a = c.args in
-    read-with-room a.marks.now a.powers.now (coding_of a.figures) (entries a.table) a.word.now
+    let p = err_from_is_err_and c.from_residual.result c.from_residual.ensures.1 in
+    rw (p.1, p.2)
+    (read-with-room a.marks.now a.powers.now (coding_of a.figures) (entries a.table) a.word.now
     (have-room a.marks.now a.powers.now c.if-marks-ne-MARKS_LEN.false c.if-powers-ne-POWERS_LEN.false)
-    (sym (ap read_answered c.in-Refused.is) ∙ c.prescription_read-answer.ensures)
+    c.in_err-number.ensures)
 
-pub returns-in-Handed : goal.returns-in-Handed
-returns-in-Handed c =
+pub returns : goal.returns
+returns c =
     let a = c.args in
-    ap₂ (λ (ms : List ℕ) (ps : List Float). powers_lent ms ps served) c.put_marks.ensures
-    c.put_powers.ensures
+    ap₂ (λ (ms : List ℕ) (ps : List Float). powers_lent ms ps served) c.put_marks.ensures c.put_powers.ensures
     ∙ read-with-room a.marks.now a.powers.now (coding_of a.figures) (entries a.table) a.word.now
-    (have-room a.marks.now a.powers.now
-    c.if-marks-ne-MARKS_LEN.false
-    c.if-powers-ne-POWERS_LEN.false)
-    (sym (ap read_answered c.in-Handed.is)
-    ∙ c.prescription_read-answer.ensures)
+    (have-room a.marks.now a.powers.now c.if-marks-ne-MARKS_LEN.false c.if-powers-ne-POWERS_LEN.false)
+    c.in_ok-number.ensures

@@ -1,9 +1,9 @@
--- `move_strip` meets its contract: what a move without a table is refused with, 1, or what the move answers. Assumes nothing.
+-- `try_move` meets its contract: what a move without a table is refused with, 1, or what the move answers. Assumes nothing.
 use mathlib.Core.Path.{sym, ap, ◌∙◌}
 use Rattle.cells.specs.Outcomes.{unwritten}
 use Rattle.codes.specs.Bridge.{coding_of}
 use Rattle.lent_moving.proofs.MoveLaws.{bytes-other, bytes-state, bytes_whole}
-use Rattle.lent_moving.proofs.move_strip.Goals as goal
+use Rattle.lent_moving.proofs.try_move.Goals as goal
 
 pub returns-then-table-ne-TABLE_LEN : goal.returns-then-table-ne-TABLE_LEN
 returns-then-table-ne-TABLE_LEN c =
@@ -24,4 +24,4 @@ returns c =
     let e = coding_of a.to in
     let whole = bytes_whole d e a.table.now a.strip.now a.moved.now c.if-table-ne-TABLE_LEN.false
     (sym c.states_known.ensures ∙ c.if-not-states_known.false) in
-    rw (c.table_in-held.ensures, whole) at c.move_strip.ensures
+    rw (c.table_in.ensures, whole) at c.move_strip.ensures
