@@ -40,7 +40,7 @@ pub fn write_lanes(layout: WordLayout, depth: usize, messages: &[u8], words: &mu
     }
 }
 
-// `word` holds its map, and then the word of the message on the map's cover.
+// `word` holds its map, and then the word of the message on the map's cover. What is refused leaves the map.
 fn write_lane(layout: WordLayout, message: &[u8], word: &mut [u8])
     requires { Serves layout }
     ensures word { word.new ≡ cover_word (coding_in layout) message.now word.old }

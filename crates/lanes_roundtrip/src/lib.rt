@@ -114,7 +114,7 @@ fn in_alphabet(layout: WordLayout, map: &[u8], sent: &[u8], damage: &[u8]) -> bo
         && symbols::all_below(damage, found_bound(layout.q))
 }
 
-// The calls of the law, one after another. Refusal: 6.
+// The calls of the law, one after another. Refusal: 6; the laying and taking apart is refused nothing, since all was tested before.
 fn run_lanes(
     layout: WordLayout,
     depth: u32,
