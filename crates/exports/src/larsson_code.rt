@@ -23,7 +23,13 @@ use params::Params;
 
 // Figures alone: T, R, k and K, four numbers. Refusals: 1 2 3.
 #[unsafe(no_mangle)]
-pub extern "C" fn burgzemi_larsson_figures(n: u32, q: u32, m: u32, b: u32, figures: &mut [u64]) -> u8
+pub extern "C" fn burgzemi_larsson_figures(
+    n: u32,
+    q: u32,
+    m: u32,
+    b: u32,
+    figures: &mut [u64],
+) -> u8
     ensures { figures_lent result figures.new ≡ figures_lent_under (coding (params n q m b)) figures.old }
 {
     figures::figures(Figures::Larsson(Params { n, q, m, b }), figures)
@@ -96,7 +102,14 @@ pub extern "C" fn burgzemi_larsson_verify(
 
 // Covering: the starts of the placement of least rank that covers the defect map. Refusals: 1 2 3 4 6.
 #[unsafe(no_mangle)]
-pub extern "C" fn burgzemi_larsson_cover(n: u32, q: u32, m: u32, b: u32, map: &[u8], starts: &mut [u8]) -> u8
+pub extern "C" fn burgzemi_larsson_cover(
+    n: u32,
+    q: u32,
+    m: u32,
+    b: u32,
+    map: &[u8],
+    starts: &mut [u8],
+) -> u8
     ensures { cover_lent result starts.new ≡ cover_bytes_under (coding (params n q m b)) map.now starts.old }
 {
     starts::cover_bytes(Figures::Larsson(Params { n, q, m, b }), map, starts)
@@ -161,7 +174,8 @@ pub extern "C" fn burgzemi_larsson_interleave(
 ) -> u8
     ensures { unfilled strip.new result ≡ interleave_under (coding (params n q m b)) depth words.now strip.old }
 {
-    lanes::interleave(Figures::Larsson(Params { n, q, m, b }), depth, words, strip)
+    let laid = lanes::interleave(Figures::Larsson(Params { n, q, m, b }), depth, words, strip);
+    refusals::answer(laid)
 }
 
 // The strip to words, one after another. Refusals: 1 2 18 3 4.
@@ -177,7 +191,8 @@ pub extern "C" fn burgzemi_larsson_deinterleave(
 ) -> u8
     ensures { unfilled words.new result ≡ deinterleave_under (coding (params n q m b)) depth strip.now words.old }
 {
-    lanes::deinterleave(Figures::Larsson(Params { n, q, m, b }), depth, strip, words)
+    let taken = lanes::deinterleave(Figures::Larsson(Params { n, q, m, b }), depth, strip, words);
+    refusals::answer(taken)
 }
 
 // Prescription write: the word of a placement, a job number that the table has open and the prescription of both eyes and the pupil distance.

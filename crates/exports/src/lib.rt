@@ -100,7 +100,14 @@ pub extern "C" fn burgzemi_verify(
 
 // Covering: the starts of the placement of least rank that covers the defect map. Refusals: 1 2 3 4 6.
 #[unsafe(no_mangle)]
-pub extern "C" fn burgzemi_cover(n: u32, q: u32, m: u32, b: u32, map: &[u8], starts: &mut [u8]) -> u8
+pub extern "C" fn burgzemi_cover(
+    n: u32,
+    q: u32,
+    m: u32,
+    b: u32,
+    map: &[u8],
+    starts: &mut [u8],
+) -> u8
     ensures { cover_lent result starts.new ≡ cover_bytes_out (params n q m b) map.now starts.old }
 {
     starts::cover_bytes(Figures::Ranked(Params { n, q, m, b }), map, starts)
@@ -159,7 +166,8 @@ pub extern "C" fn burgzemi_interleave(
 ) -> u8
     ensures { unfilled strip.new result ≡ interleave_out (params n q m b) depth words.now strip.old }
 {
-    lanes::interleave(Figures::Ranked(Params { n, q, m, b }), depth, words, strip)
+    let laid = lanes::interleave(Figures::Ranked(Params { n, q, m, b }), depth, words, strip);
+    refusals::answer(laid)
 }
 
 // The strip to words, one after another. Refusals: 1 2 18 3 4.
@@ -175,5 +183,6 @@ pub extern "C" fn burgzemi_deinterleave(
 ) -> u8
     ensures { unfilled words.new result ≡ deinterleave_out (params n q m b) depth strip.now words.old }
 {
-    lanes::deinterleave(Figures::Ranked(Params { n, q, m, b }), depth, strip, words)
+    let taken = lanes::deinterleave(Figures::Ranked(Params { n, q, m, b }), depth, strip, words);
+    refusals::answer(taken)
 }

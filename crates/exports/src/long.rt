@@ -63,7 +63,14 @@ pub extern "C" fn burgzemi_long_decode(
 
 // The check of a word against a placement and a message: 0 where it agrees, 255 where it doesn't. Refusals: 1 2 3 5 4.
 #[unsafe(no_mangle)]
-pub extern "C" fn burgzemi_long_verify(n: u32, q: u32, b: u32, start: &[u8], message: &[u8], word: &[u8]) -> u8
+pub extern "C" fn burgzemi_long_verify(
+    n: u32,
+    q: u32,
+    b: u32,
+    start: &[u8],
+    message: &[u8],
+    word: &[u8],
+) -> u8
     ensures { result ≡ verdict_number (verify_bytes_under (coding (long_params n q b)) start.now message.now word.now) }
 {
     check::verify(Figures::Long(LongParams { n, q, b }), start, message, word)
@@ -128,7 +135,8 @@ pub extern "C" fn burgzemi_long_interleave(
 ) -> u8
     ensures { unfilled strip.new result ≡ interleave_under (coding (long_params n q b)) depth words.now strip.old }
 {
-    lanes::interleave(Figures::Long(LongParams { n, q, b }), depth, words, strip)
+    let laid = lanes::interleave(Figures::Long(LongParams { n, q, b }), depth, words, strip);
+    refusals::answer(laid)
 }
 
 // The strip to words, one after another. Refusals: 1 2 18 3 4.
@@ -143,7 +151,8 @@ pub extern "C" fn burgzemi_long_deinterleave(
 ) -> u8
     ensures { unfilled words.new result ≡ deinterleave_under (coding (long_params n q b)) depth strip.now words.old }
 {
-    lanes::deinterleave(Figures::Long(LongParams { n, q, b }), depth, strip, words)
+    let taken = lanes::deinterleave(Figures::Long(LongParams { n, q, b }), depth, strip, words);
+    refusals::answer(taken)
 }
 
 // Prescription write: the word of a placement, a job number that the table has open and the prescription of both eyes and the pupil distance.

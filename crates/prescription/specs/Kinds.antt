@@ -13,10 +13,10 @@ byte_of Plano = 0
 byte_of Sphere = 1
 byte_of Toric = 2
 
-abbrev pub kind_of : Eye → Kind
-kind_of PlanoEye = Plano
-kind_of (SphereEye p) = Sphere
-kind_of (ToricEye s c a) = Toric
+abbrev pub kind_of_eye : Eye → Kind
+kind_of_eye PlanoEye = Plano
+kind_of_eye (SphereEye p) = Sphere
+kind_of_eye (ToricEye s c a) = Toric
 
 -- the kind of a byte, or 16 of a byte that is none's
 abbrev pub NamesKind : ℕ → Result Kind Refusal → Type 0

@@ -1,8 +1,8 @@
 // An eye in memory: transposing and the spherical equivalent. Assumes nothing.
 ghost use Rattle.std.specs.Prelude.{◌≡◌, ◌≤◌};
-ghost use Rattle.prescription.specs.Kinds.{byte_of, kind_of, NamesKind};
+ghost use Rattle.prescription.specs.Kinds.{byte_of, kind_of_eye, NamesKind};
 ghost use Rattle.prescription.specs.Laws.{RestoresBits};
-ghost use Rattle.prescription.specs.Lens.{turned as turnedAs};
+ghost use Rattle.prescription.specs.Lens.{turned as turned_of};
 ghost use Rattle.prescription.specs.Outcomes.{eye_answered, power_answered, transpose_out, equivalent_out};
 
 use crate::fields;
@@ -58,7 +58,7 @@ impl TryFrom<u8> for Kind {
 
 impl Eye {
     pub fn kind(self) -> Kind
-        ensures { result ≡ kind_of self }
+        ensures { result ≡ kind_of_eye self }
     {
         match self {
             Eye::Plano => Kind::Plano,
@@ -110,7 +110,7 @@ impl Eye {
 // An axis turned by a quarter.
 fn turned(axis: u8) -> u8
     requires { axis ≤ 180 }
-    ensures { result ≡ turnedAs axis }
+    ensures { result ≡ turned_of axis }
 {
     if 90 < axis { axis - 90 } else { axis + 90 }
 }

@@ -1,7 +1,8 @@
 // Writing and reading prescriptions: a job's number and its prescription in a word, where the table has the job open. Assumes nothing.
 #![tactic(auto)]
 
-ghost use Rattle.std.specs.Prelude.{◌≡◌, ◌≤◌, length};
+ghost use Rattle.std.specs.Prelude.{◌≡◌, ◌≤◌, length, replicate};
+ghost use Rattle.cells.specs.Figures.{max_word};
 ghost use Rattle.refusals.specs.Numbers.{answer_of};
 ghost use Rattle.cells.specs.Outcomes.{unwritten};
 ghost use Rattle.codes.specs.Bridge.{coding_of};
@@ -79,18 +80,27 @@ fn write_laid(
         return Err(Refusal::Prescription);
     }
     if count <= SHORT_LEN {
-        let mut short = [0u8; SHORT_LEN];
-        return write_payload(
-            layout,
-            table,
-            at,
-            number,
-            prescription,
-            &mut short[..count],
-            word,
-        );
+        return write_in::<SHORT_LEN>(layout, table, at, number, prescription, count, word);
     }
-    let mut payload = [0u8; MAX_LEN];
+    write_in::<MAX_LEN>(layout, table, at, number, prescription, count, word)
+}
+
+// The same by way of a payload of so many bytes in an array that has room for it: an array is cleared as a whole, and a short one should not pay for a long
+// one.
+fn write_in<const ROOM: usize>(
+    layout: WordLayout,
+    table: JobTable,
+    at: Placement,
+    number: u32,
+    prescription: Prescription,
+    count: usize,
+    word: &mut [u8],
+) -> Result<(), Refusal>
+    requires { ServesTable layout (entries table) × (17 ≤ count) × (count ≤ ROOM) × (ROOM ≤ max_word) }
+    ensures { unwritten word.new (answer_of result)
+        ≡ as_job (coding_in layout) (entries table) (held_as at) number count word.old (prescribed_of prescription) }
+{
+    let mut payload = [0u8; ROOM];
     write_payload(
         layout,
         table,
@@ -145,23 +155,34 @@ fn read_laid(
     requires { ServesTable layout (entries table) }
     ensures { read_answered result ≡ prescription_read_under (coding_in layout) (entries table) word.now }
 {
-    let k = layout.message_len;
-    let count = bytes::payload_len(layout.q, k);
+    let count = bytes::payload_len(layout.q, layout.message_len);
     if count < jobcodec::MIN_PAYLOAD {
         return Err(Refusal::Payload);
     }
-    if k <= SHORT_LEN {
-        let mut short = [0u8; SHORT_LEN];
-        let mut bytes = [0u8; SHORT_LEN];
-        return read_message(layout, table, word, &mut short[..k], &mut bytes[..count]);
+    if layout.message_len <= SHORT_LEN {
+        return read_in::<SHORT_LEN>(layout, table, count, word);
     }
-    let mut message = [0u8; MAX_LEN];
-    let mut payload = [0u8; MAX_LEN];
+    read_in::<MAX_LEN>(layout, table, count, word)
+}
+
+// The same with the message, and a payload of so many bytes, in arrays that have room for them.
+fn read_in<const ROOM: usize>(
+    layout: WordLayout,
+    table: JobTable,
+    count: usize,
+    word: &[u8],
+) -> Result<(u32, Prescription), Refusal>
+    requires { (layout.message_len ≤ ROOM) × (count ≤ ROOM) × (ROOM ≤ max_word)
+        × ReadableJob layout (entries table) (replicate layout.message_len 0) (replicate count 0) }
+    ensures { read_answered result ≡ prescription_read_under (coding_in layout) (entries table) word.now }
+{
+    let mut message = [0u8; ROOM];
+    let mut payload = [0u8; ROOM];
     read_message(
         layout,
         table,
         word,
-        &mut message[..k],
+        &mut message[..layout.message_len],
         &mut payload[..count],
     )
 }

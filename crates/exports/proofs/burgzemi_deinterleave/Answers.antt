@@ -4,4 +4,4 @@ use Rattle.exports.proofs.burgzemi_deinterleave.Goals as goal
 
 pub returns : goal.returns
 unfolding deinterleave_out
-returns c = c.deinterleave.ensures
+returns c = rw c.answer.ensures c.deinterleave-taken.ensures

@@ -4,4 +4,4 @@ use Rattle.exports.proofs.burgzemi_interleave.Goals as goal
 
 pub returns : goal.returns
 unfolding interleave_out
-returns c = c.interleave.ensures
+returns c = rw c.answer.ensures c.interleave-laid.ensures

@@ -1,7 +1,6 @@
 -- `decode_found` meets its contract: what the sub-blocks refuse, or what the placement gives. Assumes nothing.
 use mathlib.Core.Path.{sym, ap, ◌∙◌}
 use Rattle.cells.specs.Outcomes.{decoded_from}
-use Rattle.larsson_params.specs.Given.{larsson_figures_of}
 use Rattle.larsson_decoder.proofs.decode_found.Goals as goal
 
 pub returns-in-Err : goal.returns-in-Err

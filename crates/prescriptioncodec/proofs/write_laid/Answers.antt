@@ -45,18 +45,17 @@ count_most c =
     let len = c.payload_len-count in
     omega (arith, payload-within (l (goal.at.Else-count-lt-MIN_PRESCRIBED c).Start) len.result len.ensures, message-short (l (goal.at.Else-count-lt-MIN_PRESCRIBED c).Start) (entries c.args.table) c.requires)
 
-written_is : (c : Else-count-lt-MIN_PRESCRIBED) (room : ℕ) (fits : c.payload_len-count.result ≤ room) → (as_job (d (goal.at.Else-count-lt-MIN_PRESCRIBED c).Start) (entries c.args.table) (held_as c.args.at) c.args.number
-    (length (take {A = ℕ} c.payload_len-count.result
-    (replicate room 0))) c.args.word.now (prescribed_of c.args.prescription)
-    ≡ prescription_write_under (d (goal.at.Else-count-lt-MIN_PRESCRIBED c).Start) (entries c.args.table) (held_as c.args.at) c.args.number c.args.prescription c.args.word.now)
-written_is c room fits =
-    ap (λ (K : ℕ). as_job (d (goal.at.Else-count-lt-MIN_PRESCRIBED c).Start) (entries c.args.table) (held_as c.args.at) c.args.number K c.args.word.now
-    (prescribed_of c.args.prescription))
-    (lent_is c.payload_len-count.result room fits ∙ as_many (goal.at.Else-count-lt-MIN_PRESCRIBED c).Else-count-lt-MIN_PAYLOAD)
-    ∙ sym (write-as-job (d (goal.at.Else-count-lt-MIN_PRESCRIBED c).Start) (entries c.args.table) (held_as c.args.at) c.args.number c.args.prescription c.args.word.now
-    (goes-on (goal.at.Else-count-lt-MIN_PRESCRIBED c).Else-count-lt-MIN_PAYLOAD) (c.if-at-layout.false ∙ (is (goal.at.Else-count-lt-MIN_PRESCRIBED c).Start).bursts-is)
-    (c.if-word-layout.false ∙ (is (goal.at.Else-count-lt-MIN_PRESCRIBED c).Start).word-is)
-    (apart_in (l (goal.at.Else-count-lt-MIN_PRESCRIBED c).Start) c.requires.serves (starts_in c.args.at) ∙ sym c.apart.ensures ∙ c.if-not-apart.false)
+written_is : (c : Else-count-lt-MIN_PRESCRIBED) → (let a = c.args in let s = (goal.at.Else-count-lt-MIN_PRESCRIBED c).Start in
+    as_job (d s) (entries a.table) (held_as a.at) a.number c.payload_len-count.result a.word.now (prescribed_of a.prescription)
+    ≡ prescription_write_under (d s) (entries a.table) (held_as a.at) a.number a.prescription a.word.now)
+written_is c =
+    let a = c.args in
+    let s = (goal.at.Else-count-lt-MIN_PRESCRIBED c).Start in
+    ap (λ (K : ℕ). as_job (d s) (entries a.table) (held_as a.at) a.number K a.word.now (prescribed_of a.prescription))
+    (as_many (goal.at.Else-count-lt-MIN_PRESCRIBED c).Else-count-lt-MIN_PAYLOAD)
+    ∙ sym (write-as-job (d s) (entries a.table) (held_as a.at) a.number a.prescription a.word.now (goes-on (goal.at.Else-count-lt-MIN_PRESCRIBED c).Else-count-lt-MIN_PAYLOAD)
+    (c.if-at-layout.false ∙ (is s).bursts-is) (c.if-word-layout.false ∙ (is s).word-is)
+    (apart_in (l s) c.requires.serves (starts_in a.at) ∙ sym c.apart.ensures ∙ c.if-not-apart.false)
     (omega (arith, as_many (goal.at.Else-count-lt-MIN_PRESCRIBED c).Else-count-lt-MIN_PAYLOAD, c.if-count-lt-MIN_PRESCRIBED.false)))
 
 pub payload_len-count-requires : goal.payload_len-count-requires
@@ -104,17 +103,11 @@ returns-then-count-lt-MIN_PRESCRIBED c =
     (omega (arith, as_many (goal.at.returns-then-count-lt-MIN_PRESCRIBED c).Else-count-lt-MIN_PAYLOAD, c.if-count-lt-MIN_PRESCRIBED.true)))
 
 pub returns-then-count-le-SHORT_LEN : goal.returns-then-count-le-SHORT_LEN
-returns-then-count-le-SHORT_LEN c = c.write_payload.ensures ∙ written_is (goal.at.returns-then-count-le-SHORT_LEN c).Else-count-lt-MIN_PRESCRIBED short_word
-    (omega (arith, c.if-count-le-SHORT_LEN.true))
+returns-then-count-le-SHORT_LEN c = c.write_in.ensures ∙ written_is (goal.at.returns-then-count-le-SHORT_LEN c).Else-count-lt-MIN_PRESCRIBED
 
-pub slice_bounds-payload-end : goal.slice_bounds-payload-end
-slice_bounds-payload-end c = count_most (goal.at.slice_bounds-payload-end c).Else-count-lt-MIN_PRESCRIBED
-
-pub slice_bounds-write_payload-end-2 : goal.slice_bounds-write_payload-end-2
-slice_bounds-write_payload-end-2 c =
-    sym (lent_is c.payload_len-count.result max_word
-    (count_most (goal.at.slice_bounds-write_payload-end-2 c).Else-count-lt-MIN_PRESCRIBED))
+pub write_in-requires-2 : goal.write_in-requires-2
+write_in-requires-2 c =
+    (c.requires, omega arith, count_most (goal.at.write_in-requires-2 c).Else-count-lt-MIN_PRESCRIBED, omega arith)
 
 pub returns : goal.returns
-returns c = c.write_payload-2.ensures ∙ written_is (goal.at.returns c).Else-count-lt-MIN_PRESCRIBED max_word
-    (count_most (goal.at.returns c).Else-count-lt-MIN_PRESCRIBED)
+returns c = c.write_in-2.ensures ∙ written_is (goal.at.returns c).Else-count-lt-MIN_PRESCRIBED

@@ -1,6 +1,6 @@
 -- `put_starts` meets its contract: the first j starts are stored. Assumes nothing.
 use mathlib.Core.Path.{◌≡◌}
-use Prim.Native.Nat.{◌*◌, ◌-◌, ◌≤◌}
+use Prim.Native.Nat.{◌*◌}
 use lib.ListN.{length, take}
 use Rattle.placements.specs.Bridge.{starts_in}
 use Rattle.decoder.specs.Exported.{start_bytes}

@@ -1,6 +1,6 @@
 -- `spelled` meets its contract: the digits of the blocks from `block` on are made. Assumes nothing.
 use mathlib.Core.Path.{◌≡◌}
-use Prim.Native.Nat.{◌+◌, ◌*◌, ◌≤◌}
+use Prim.Native.Nat.{◌+◌, ◌*◌}
 use lib.ListN.{length}
 use Rattle.cells.specs.Digits.{places}
 use Rattle.encoder.specs.Digits.{max_digits, SpelledFrom}

@@ -1,7 +1,6 @@
 -- `locate` meets its contract: 21, 8, or what the majority's rank gives. Assumes nothing.
 use Prim.Native.Nat.{◌<◌}
 use native.Mathlib.Omega.{arith}
-use Rattle.refusals.specs.Refusals.{no_majority, value_too_large}
 use Rattle.larsson.specs.Figures.{sub_blocks}
 use Rattle.larsson_params.specs.Given.{larsson_figures_of}
 use Rattle.larsson_params.proofs.Shape.{bound}
