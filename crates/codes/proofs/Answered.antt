@@ -1,7 +1,6 @@
 -- What a caller learns of its figures from their layout. Assumes nothing.
 use mathlib.Core.Path.{◌≡◌, refl, sym, ap, subst, ◌∙◌}
 use mathlib.Core.Bool.{true}
-use Prim.Native.Nat.{ℕ}
 use Rattle.cells.specs.Outcomes.{Coding, unserved, figures_under}
 use Rattle.cells.specs.Figures.{Params}
 use Rattle.construction_a.specs.Outcomes.{coding as coding_a}
@@ -10,7 +9,7 @@ use Rattle.construction_b.specs.Outcomes.{coding as coding_b}
 use Rattle.larsson.specs.Outcomes.{coding as coding_larsson}
 use Rattle.params.specs.Answer.{blocks_figured, LaidIn, LongLaidIn, Small}
 use Rattle.params.specs.declared.Layout.{Layout}
-use Rattle.params.proofs.Either.{BlocksServeAs, ranked-serves, long-serves}
+use Rattle.params.proofs.Either.{ranked-serves, long-serves}
 use Rattle.larsson_params.specs.Answer.{larsson_figured_as, LarssonLaidIn}
 use Rattle.larsson_params.specs.declared.LarssonLayout.{LarssonLayout}
 use Rattle.larsson_params.proofs.Answered.{fit-learnt}

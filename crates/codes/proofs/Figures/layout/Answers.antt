@@ -1,8 +1,7 @@
 -- `Figures::layout` meets its contract: each code's own figures answer for it. Assumes nothing.
 use mathlib.Core.Path.{◌≡◌, sym, ap, subst, ◌∙◌}
-use Rattle.std.specs.Prelude.{Result, Ok}
+use Rattle.std.specs.Prelude.{Ok}
 use Rattle.std.proofs.lemmas.Result.{err_from_is_err_and}
-use Rattle.refusals.specs.declared.Refusal.{Refusal}
 use Rattle.cells.specs.Outcomes.{figures_under}
 use Rattle.construction_a.specs.Outcomes.{figures_out}
 use Rattle.params.specs.Bridge.{given}
