@@ -84,10 +84,13 @@ class Module:
             return self.constant(words, i, owner)
         if word in ("struct", "enum"):
             return self.type(words, i)
-        if word == "impl" and words[i + 2] == "{":
-            end = group_end(words, i + 2)
-            self.read(words[i + 3 : end], words[i + 1])
+        if word == "impl":
+            at = words.index("{", i)
+            end = group_end(words, at)
+            self.read(words[at + 1 : end], words[at - 1])
             return end + 1
+        if word == "type":
+            return words.index(";", i) + 1
         if word == "fn":
             return self.function(words, i, owner)
         raise Unknown(f"{'::'.join(self.path)}: an item that begins with '{word}'")
@@ -124,8 +127,9 @@ class Module:
         return end + 1 + (words[end + 1 : end + 2] == [";"])
 
     def function(self, words, i, owner):
-        """A function is the words of its signature and of its body, without the contract between them."""
-        name, at = words[i + 1], group_end(words, i + 2) + 1
+        """A function is the words of its signature and of its body, without the contract between them; those of a trait's functions that a type has
+        more than once, as `from`, are put together."""
+        name, at = words[i + 1], group_end(words, words.index("(", i)) + 1
         start = at
         while words[at] not in ("{", "requires", "ensures"):
             at = group_end(words, at) + 1 if words[at] in CLOSING else at + 1
@@ -135,7 +139,8 @@ class Module:
         if words[at] != "{":
             raise Unknown(f"{'::'.join(self.path)}::{name}: '{words[at]}' before its body")
         end = group_end(words, at)
-        self.functions[(owner, name)] = (signature, words[at + 1 : end])
+        before = self.functions.get((owner, name), ([], []))
+        self.functions[(owner, name)] = ([*before[0], *signature], [*before[1], *words[at + 1 : end]])
         return end + 1
 
 
