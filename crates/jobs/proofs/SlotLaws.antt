@@ -27,7 +27,8 @@ unfolding any
 any-listed t [] = refl
 any-listed t (e ∷ es) = rw (any-listed t es)
 
-any-is : (t : Entry → Bool) (es : List Entry) → any t es ≡ ltb (position_or_len t es) (length es)
+-- one passes where the first place that does lies before the end
+pub any-is : (t : Entry → Bool) (es : List Entry) → any t es ≡ ltb (position_or_len t es) (length es)
 unfolding any
 any-is t [] = refl
 any-is t (e ∷ es) =

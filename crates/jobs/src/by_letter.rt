@@ -15,7 +15,7 @@ impl JobTable {
             b'O' => self.open(number),
             b'C' => self.cancel(number),
             b'F' => self.finish(number),
-            _ => self.refuse(Refusal::Record),
+            _ => self.refuse(Err(Refusal::Record)),
         }
     }
 

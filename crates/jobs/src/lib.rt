@@ -1,12 +1,11 @@
 // The job table (document 01's book), by value. Assumes nothing.
 #![tactic(auto)]
 
-ghost use Rattle.std.specs.Prelude.{Bool, ◌≡◌, ◌<◌, IfSome, position};
-ghost use Rattle.refusals.specs.Numbers.{number_of};
+ghost use Rattle.std.specs.Prelude.{Bool, ◌≡◌, ℕ, ◌<◌, IfSome, position};
 ghost use Rattle.jobs.specs.declared.Entry.{Entry};
 ghost use Rattle.jobs.specs.Jobs.{slot_count, is_job};
 ghost use Rattle.jobs.specs.Table.{is_free, empty_table, open_out, cancel_out, finish_out, reinstate_out, hold_out, release_out, decide, turn_open_at};
-ghost use Rattle.jobs.specs.Slots.{entries, outcome};
+ghost use Rattle.jobs.specs.Slots.{entries, outcome_by, outcome};
 
 use refusals::Refusal;
 
@@ -38,8 +37,8 @@ pub struct JobTable {
 
 // The answer to a call, and the table that holds afterwards.
 #[derive(Clone, Copy)]
-pub struct TableAnswer {
-    pub answer: Result<(), Refusal>,
+pub struct TableAnswer<A = Result<(), Refusal>> {
+    pub answer: A,
     pub table: JobTable,
 }
 
@@ -61,16 +60,16 @@ impl JobTable {
         ensures { outcome result ≡ open_out (entries self) number }
     {
         if self.twice() {
-            return self.refuse(Refusal::Invalid);
+            return self.refuse(Err(Refusal::Invalid));
         }
         if !is_job(number) {
-            return self.refuse(Refusal::NumberZero);
+            return self.refuse(Err(Refusal::NumberZero));
         }
         let entry = self.lookup(number);
         match entry {
-            Entry::Cancelled(_, _) => self.refuse(Refusal::Cancelled),
-            Entry::Open(_) => self.refuse(Refusal::AlreadyOpen),
-            Entry::OnHold(_) => self.refuse(Refusal::AlreadyOpen),
+            Entry::Cancelled(_, _) => self.refuse(Err(Refusal::Cancelled)),
+            Entry::Open(_) => self.refuse(Err(Refusal::AlreadyOpen)),
+            Entry::OnHold(_) => self.refuse(Err(Refusal::AlreadyOpen)),
             Entry::Free => self.put(self.free_slot(), Entry::Open(number)),
         }
     }
@@ -80,11 +79,11 @@ impl JobTable {
         ensures { outcome result ≡ cancel_out (entries self) number }
     {
         if self.twice() {
-            return self.refuse(Refusal::Invalid);
+            return self.refuse(Err(Refusal::Invalid));
         }
         let entry = self.lookup(number);
         match entry {
-            Entry::Cancelled(_, _) => self.refuse(Refusal::Cancelled),
+            Entry::Cancelled(_, _) => self.refuse(Err(Refusal::Cancelled)),
             Entry::Open(_) => self.put(
                 self.slot_of(number),
                 Entry::Cancelled(number, Before::WasOpen),
@@ -95,7 +94,7 @@ impl JobTable {
             ),
             Entry::Free => {
                 if !is_job(number) {
-                    return self.refuse(Refusal::NumberZero);
+                    return self.refuse(Err(Refusal::NumberZero));
                 }
                 self.put(
                     self.free_slot(),
@@ -117,16 +116,16 @@ impl JobTable {
         ensures { outcome result ≡ reinstate_out (entries self) number }
     {
         if self.twice() {
-            return self.refuse(Refusal::Invalid);
+            return self.refuse(Err(Refusal::Invalid));
         }
         let entry = self.lookup(number);
         match entry {
             Entry::Cancelled(_, before) => {
                 self.put(self.slot_of(number), restored(before, number))
             }
-            Entry::Open(_) => self.refuse(Refusal::NotCancelled),
-            Entry::OnHold(_) => self.refuse(Refusal::NotCancelled),
-            Entry::Free => self.refuse(Refusal::NotCancelled),
+            Entry::Open(_) => self.refuse(Err(Refusal::NotCancelled)),
+            Entry::OnHold(_) => self.refuse(Err(Refusal::NotCancelled)),
+            Entry::Free => self.refuse(Err(Refusal::NotCancelled)),
         }
     }
 
@@ -142,14 +141,14 @@ impl JobTable {
         ensures { outcome result ≡ release_out (entries self) number }
     {
         if self.twice() {
-            return self.refuse(Refusal::Invalid);
+            return self.refuse(Err(Refusal::Invalid));
         }
         let entry = self.lookup(number);
         match entry {
-            Entry::Cancelled(_, _) => self.refuse(Refusal::Cancelled),
+            Entry::Cancelled(_, _) => self.refuse(Err(Refusal::Cancelled)),
             Entry::OnHold(_) => self.put(self.slot_of(number), Entry::Open(number)),
-            Entry::Open(_) => self.refuse(Refusal::NotHeld),
-            Entry::Free => self.refuse(Refusal::NotHeld),
+            Entry::Open(_) => self.refuse(Err(Refusal::NotHeld)),
+            Entry::Free => self.refuse(Err(Refusal::NotHeld)),
         }
     }
 
@@ -158,14 +157,14 @@ impl JobTable {
         ensures { outcome result ≡ decide (turn_open_at next) (entries self) number }
     {
         if self.twice() {
-            return self.refuse(Refusal::Invalid);
+            return self.refuse(Err(Refusal::Invalid));
         }
         let entry = self.lookup(number);
         match entry {
-            Entry::Cancelled(_, _) => self.refuse(Refusal::Cancelled),
-            Entry::OnHold(_) => self.refuse(Refusal::Held),
+            Entry::Cancelled(_, _) => self.refuse(Err(Refusal::Cancelled)),
+            Entry::OnHold(_) => self.refuse(Err(Refusal::Held)),
             Entry::Open(_) => self.put(self.slot_of(number), next),
-            Entry::Free => self.refuse(Refusal::NotOpen),
+            Entry::Free => self.refuse(Err(Refusal::NotOpen)),
         }
     }
 
@@ -179,12 +178,12 @@ impl JobTable {
         }
     }
 
-    // The table as it was, beside a refusal.
-    pub fn refuse(self, refusal: Refusal) -> TableAnswer
-        ensures { outcome result ≡ Rattle.jobs.specs.Table.refuse (entries self) (number_of refusal) }
+    // The table as it was, beside an answer, by whatever numbers that has.
+    pub fn refuse<A: Copy>(self, answer: A) -> TableAnswer<A>
+        ensures { (number : A → ℕ) → outcome_by number result ≡ Rattle.jobs.specs.Table.refuse (entries self) (number answer) }
     {
         TableAnswer {
-            answer: Err(refusal),
+            answer,
             table: self,
         }
     }
@@ -195,7 +194,7 @@ impl JobTable {
         ensures { (t : Entry → Bool) → slot ≡ position t (entries self) → outcome result ≡ Rattle.jobs.specs.Table.put t entry (entries self) }
     {
         let Some(i) = slot else {
-            return self.refuse(Refusal::Full);
+            return self.refuse(Err(Refusal::Full));
         };
         let mut next = self;
         next.slots[i] = entry;

@@ -1,7 +1,6 @@
 // Whether the job table holds one number twice. Assumes nothing.
-ghost use Rattle.std.specs.Prelude.{◌≡◌, ◌≤◌, length, drop};
+ghost use Rattle.std.specs.Prelude.{◌≡◌, length};
 ghost use Rattle.std.specs.List.{list_any};
-ghost use Rattle.jobs.specs.Jobs.{slot_count};
 ghost use Rattle.jobs.specs.Slots.{entries, mark_count, mark_of};
 ghost use Rattle.jobs.specs.Table;
 
@@ -28,25 +27,22 @@ impl JobTable {
         for i in (0..JobTable::SLOTS).rev() {
             let entry = self.slots[i];
             let mark = mark_of(entry);
-            if marks[mark] && self.again(i + 1, entry) {
+            if marks[mark] && again(&self.slots[i + 1..], entry) {
                 return true;
             }
             marks[mark] = true;
         }
         false
     }
+}
 
-    // Whether a slot from `start` on holds the entry's number too.
-    fn again(self, start: usize, entry: Entry) -> bool
-        requires { start ≤ slot_count }
-        ensures { result ≡ Table.again (drop start (entries self)) entry }
-    {
-        match entry {
-            Entry::Free => false,
-            Entry::Open(x) | Entry::OnHold(x) | Entry::Cancelled(x, _) => {
-                one_holds(&self.slots[start..], x)
-            }
-        }
+// Whether one of the slots holds the entry's number too. Lent slots: a table by value would be copied at each look.
+fn again(slots: &[Entry], entry: Entry) -> bool
+    ensures { result ≡ Table.again slots.now entry }
+{
+    match entry {
+        Entry::Free => false,
+        Entry::Open(x) | Entry::OnHold(x) | Entry::Cancelled(x, _) => one_holds(slots, x),
     }
 }
 

@@ -11,17 +11,16 @@ use Rattle.refusals.specs.Numbers.{answer_of}
 use Rattle.combinatorics.specs.Lists.{all}
 use Rattle.combinatorics.proofs.Cases.{eqb_same, eqb-other}
 use Rattle.jobs.specs.declared.Entry.{Entry}
-use Rattle.jobs.specs.declared.TableAnswer.{TableAnswer}
 use Rattle.jobs.specs.Jobs.{Call}
 use Rattle.jobs.specs.Table.{TableOut, refuse}
 use Rattle.ledger.specs.Simulation.{Agrees, Follows}
-use Rattle.jobs.specs.Slots.{entries, outcome}
+use Rattle.jobs.specs.Slots.{CallAnswer, entries, outcome}
 use Rattle.jobs.specs.Letters.{is_list_letter}
 use Rattle.ledger.specs.Replay.{calls_of, lengths_fit, ReplayOut, replayed, turn_away, made, replay_out, AreCalls}
 use Rattle.ledger.proofs.Simulates.{simulation}
 
 -- what a table's refusal is for the whole list
-pub turned-away : (r : TableAnswer) (es : List Entry) (a : ℕ) (answers : List ℕ) → outcome r ≡ refuse es a → replayed r answers ≡ turn_away es answers a
+pub turned-away : (r : CallAnswer) (es : List Entry) (a : ℕ) (answers : List ℕ) → outcome r ≡ refuse es a → replayed r answers ≡ turn_away es answers a
 turned-away r es a answers out = ap (λ (o : TableOut). record { answer = o.answer; table = o.table; answers = answers }) out
 
 module _ (start : List Entry) (letters numbers answers : List ℕ) where
@@ -65,7 +64,7 @@ module _ (start : List Entry) (letters numbers answers : List ℕ) where
       go true false p = absurd (let z : bad_record ≡ served = p in omega arith)
       go false k p = absurd (let z : wrong_length ≡ served = p in omega arith)
 
-  pub meets : (r : TableAnswer) (after : List ℕ) → replayed r after ≡ replay_out start letters numbers answers
+  pub meets : (r : CallAnswer) (after : List ℕ) → replayed r after ≡ replay_out start letters numbers answers
       → (replayed r after ≡ replay_out start letters numbers answers)
       × ((before : List Call) → Agrees start before → answer_of r.answer ≡ served → Follows before (calls_of letters numbers) after (entries r.table))
   meets r after e = (

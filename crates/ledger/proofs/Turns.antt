@@ -15,11 +15,10 @@ use Rattle.combinatorics.specs.Lists.{all}
 use Rattle.combinatorics.proofs.Lists.{both}
 use Rattle.jobs.specs.declared.Entry.{Entry}
 use Rattle.jobs.specs.declared.JobTable.{JobTable}
-use Rattle.jobs.specs.declared.TableAnswer.{TableAnswer}
 use Rattle.jobs.specs.Jobs.{Kind, Call}
 use Rattle.jobs.specs.Table.{TableOut}
 use Rattle.ledger.specs.Calls.{table_from, answers_from}
-use Rattle.jobs.specs.Slots.{entries, outcome}
+use Rattle.jobs.specs.Slots.{CallAnswer, entries, outcome}
 use Rattle.jobs.specs.Letters.{list_kind, known, is_list_letter, call_by}
 use Rattle.ledger.specs.Replay.{call_before, calls_of, replayed, made}
 
@@ -69,7 +68,7 @@ pub record Replaying (start : List Entry) (letters numbers answers : List ℕ) (
 
 module _ (start : List Entry) (letters numbers answers : List ℕ) (es : List Entry) (i : ℕ) (s : Replaying start letters numbers answers es i) where
   pub call-made : i < length letters → length numbers ≡ length letters
-      → (r : TableAnswer) → outcome r ≡ call_by (list_kind (get_or letters i 0)) es (get_or numbers i 0)
+      → (r : CallAnswer) → outcome r ≡ call_by (list_kind (get_or letters i 0)) es (get_or numbers i 0)
       → Replaying start letters numbers (set answers i (answer_of r.answer)) (entries r.table) (i + 1)
   call-made h fit r out =
       let o = list_kind (get_or letters i 0) in

@@ -5,10 +5,9 @@ use Rattle.refusals.specs.Refusals.{served, wrong_length, bad_record, must}
 use Rattle.refusals.specs.Numbers.{answer_of}
 use Rattle.combinatorics.specs.Lists.{all}
 use Rattle.jobs.specs.declared.Entry.{Entry}
-use Rattle.jobs.specs.declared.TableAnswer.{TableAnswer}
 use Rattle.jobs.specs.Jobs.{Kind, Call, on}
 use Rattle.ledger.specs.Calls.{answers_from, table_from}
-use Rattle.jobs.specs.Slots.{entries}
+use Rattle.jobs.specs.Slots.{CallAnswer, entries}
 use Rattle.jobs.specs.Letters.{list_kind, is_list_letter}
 
 abbrev pub call_before : Option Kind → ℕ → List Call → List Call
@@ -31,7 +30,7 @@ pub record ReplayOut : Type 0 where
   pub table : List Entry
   pub answers : List ℕ
 
-abbrev pub replayed : TableAnswer → List ℕ → ReplayOut
+abbrev pub replayed : CallAnswer → List ℕ → ReplayOut
 replayed r answers = record { answer = answer_of r.answer; table = entries r.table; answers = answers }
 
 -- no call is made: "output buffers and book keep their contents"

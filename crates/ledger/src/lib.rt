@@ -24,13 +24,13 @@ pub fn replay(table: JobTable, letters: &[u8], numbers: &[u32], answers: &mut [u
         → Follows before (calls_of letters.now numbers.now) answers.new (entries result.table) }
 {
     if numbers.len() != letters.len() {
-        return table.refuse(Refusal::Length);
+        return table.refuse(Err(Refusal::Length));
     }
     if answers.len() != letters.len() {
-        return table.refuse(Refusal::Length);
+        return table.refuse(Err(Refusal::Length));
     }
     if !all_letters(letters) {
-        return table.refuse(Refusal::Record);
+        return table.refuse(Err(Refusal::Record));
     }
     make_calls(table, letters, numbers, answers)
 }

@@ -1,4 +1,5 @@
 -- `JobTable::call` meets its contract. Assumes nothing.
+use Rattle.refusals.specs.Numbers.{answer_of}
 use Rattle.std.proofs.Common.{◌≡◌, arith}
 use Rattle.std.proofs.Math.Option.{none}
 use Rattle.std.proofs.lemmas.Bool.Decides.{nat_tests}
@@ -19,4 +20,4 @@ returns-in-70 c = rw c.in-70.is c.finish.ensures
 
 pub returns-in_default : goal.returns-in_default
 unfolding kind_of
-returns-in_default c = let other : kind_of c.args.letter ≡ none = grind (arith, nat_tests) in rw other c.refuse.ensures
+returns-in_default c = let other : kind_of c.args.letter ≡ none = grind (arith, nat_tests) in rw other (c.refuse.ensures answer_of)

@@ -1,4 +1,5 @@
 -- `JobTable::cancel` meets its contract. Assumes nothing.
+use Rattle.refusals.specs.Numbers.{answer_of}
 use mathlib.Core.Path.{refl, ◌∙◌}
 use Rattle.jobs.specs.declared.Entry.TheVariants.{Cancelled}
 use Rattle.jobs.specs.declared.Before.TheVariants.{WasAbsent, WasOpen, WasOnHold}
@@ -17,19 +18,19 @@ decided l =
 pub returns-then-twice : goal.returns-then-twice
 returns-then-twice c =
     let a = c.args in
-    c.refuse.ensures ∙ twice-refused cancel_at (entries a.self) a.number c.twice.ensures c.if-twice.true
+    c.refuse.ensures answer_of ∙ twice-refused cancel_at (entries a.self) a.number c.twice.ensures c.if-twice.true
 
 pub returns-then-not-is_job : goal.returns-then-not-is_job
 returns-then-not-is_job c =
     let l = (goal.at.returns-then-not-is_job c).After-lookup-entry in
     let a = l.args in
-    c.refuse-then-not-is_job.ensures
+    c.refuse-then-not-is_job.ensures answer_of
     ∙ zero-refused (entries a.self) a.number (add (Cancelled a.number WasAbsent) (entries a.self)) c.is_job.ensures
     c.if-not-is_job.true
     ∙ (decided l).gives _ c.in-Free.is
 
 pub returns-in-Cancelled : goal.returns-in-Cancelled
-returns-in-Cancelled c = c.refuse-in-Cancelled.ensures ∙ (decided (goal.at.returns-in-Cancelled c).After-lookup-entry).gives _ c.in-Cancelled.is
+returns-in-Cancelled c = c.refuse-in-Cancelled.ensures answer_of ∙ (decided (goal.at.returns-in-Cancelled c).After-lookup-entry).gives _ c.in-Cancelled.is
 
 pub returns-in-Open : goal.returns-in-Open
 returns-in-Open c =

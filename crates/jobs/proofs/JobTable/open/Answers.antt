@@ -1,4 +1,5 @@
 -- `JobTable::open` meets its contract. Assumes nothing.
+use Rattle.refusals.specs.Numbers.{answer_of}
 use mathlib.Core.Path.{◌≡◌, refl, ◌∙◌}
 use Rattle.jobs.specs.declared.Entry.{Entry}
 use Rattle.jobs.specs.Table.{is_free, lookup, open_job, open_at, decide}
@@ -21,7 +22,7 @@ decided l f g =
 pub returns-then-twice : goal.returns-then-twice
 returns-then-twice c =
     let a = c.args in
-    c.refuse.ensures ∙ twice-refused open_at (entries a.self) a.number c.twice.ensures c.if-twice.true
+    c.refuse.ensures answer_of ∙ twice-refused open_at (entries a.self) a.number c.twice.ensures c.if-twice.true
 
 pub returns-then-not-is_job : goal.returns-then-not-is_job
 returns-then-not-is_job c =
@@ -29,18 +30,18 @@ returns-then-not-is_job c =
     let a = t.args in
     let es = entries a.self in
     let e = lookup es a.number in
-    c.refuse-then-not-is_job.ensures
+    c.refuse-then-not-is_job.ensures answer_of
     ∙ zero-refused es a.number (open_job e a.number es) c.is_job.ensures c.if-not-is_job.true
     ∙ (entry-decides open_at es a.number t.twice.ensures t.if-twice.false refl).gives e refl
 
 pub returns-in-Cancelled : goal.returns-in-Cancelled
-returns-in-Cancelled c = c.refuse-in-Cancelled.ensures ∙ decided (goal.at.returns-in-Cancelled c).After-lookup-entry _ c.in-Cancelled.is
+returns-in-Cancelled c = c.refuse-in-Cancelled.ensures answer_of ∙ decided (goal.at.returns-in-Cancelled c).After-lookup-entry _ c.in-Cancelled.is
 
 pub returns-in-Open : goal.returns-in-Open
-returns-in-Open c = c.refuse-in-Open.ensures ∙ decided (goal.at.returns-in-Open c).After-lookup-entry _ c.in-Open.is
+returns-in-Open c = c.refuse-in-Open.ensures answer_of ∙ decided (goal.at.returns-in-Open c).After-lookup-entry _ c.in-Open.is
 
 pub returns-in-OnHold : goal.returns-in-OnHold
-returns-in-OnHold c = c.refuse-in-OnHold.ensures ∙ decided (goal.at.returns-in-OnHold c).After-lookup-entry _ c.in-OnHold.is
+returns-in-OnHold c = c.refuse-in-OnHold.ensures answer_of ∙ decided (goal.at.returns-in-OnHold c).After-lookup-entry _ c.in-OnHold.is
 
 pub returns-in-Free : goal.returns-in-Free
 returns-in-Free c = c.put.ensures is_free c.free_slot.ensures.slot ∙ decided (goal.at.returns-in-Free c).After-lookup-entry _ c.in-Free.is

@@ -1,4 +1,5 @@
 -- `JobTable::reinstate` meets its contract. Assumes nothing.
+use Rattle.refusals.specs.Numbers.{answer_of}
 use mathlib.Core.Path.{refl, ◌∙◌}
 use Rattle.jobs.specs.Table.{holds, reinstate_at}
 use Rattle.jobs.specs.Slots.{entries}
@@ -15,7 +16,7 @@ decided l =
 pub returns-then-twice : goal.returns-then-twice
 returns-then-twice c =
     let a = c.args in
-    c.refuse.ensures ∙ twice-refused reinstate_at (entries a.self) a.number c.twice.ensures c.if-twice.true
+    c.refuse.ensures answer_of ∙ twice-refused reinstate_at (entries a.self) a.number c.twice.ensures c.if-twice.true
 
 pub returns-in-Cancelled : goal.returns-in-Cancelled
 returns-in-Cancelled c =
@@ -24,10 +25,10 @@ returns-in-Cancelled c =
     (rw c.restored.ensures)
 
 pub returns-in-Open : goal.returns-in-Open
-returns-in-Open c = c.refuse-in-Open.ensures ∙ (decided (goal.at.returns-in-Open c).After-lookup-entry).gives _ c.in-Open.is
+returns-in-Open c = c.refuse-in-Open.ensures answer_of ∙ (decided (goal.at.returns-in-Open c).After-lookup-entry).gives _ c.in-Open.is
 
 pub returns-in-OnHold : goal.returns-in-OnHold
-returns-in-OnHold c = c.refuse-in-OnHold.ensures ∙ (decided (goal.at.returns-in-OnHold c).After-lookup-entry).gives _ c.in-OnHold.is
+returns-in-OnHold c = c.refuse-in-OnHold.ensures answer_of ∙ (decided (goal.at.returns-in-OnHold c).After-lookup-entry).gives _ c.in-OnHold.is
 
 pub returns-in-Free : goal.returns-in-Free
-returns-in-Free c = c.refuse-in-Free.ensures ∙ (decided (goal.at.returns-in-Free c).After-lookup-entry).gives _ c.in-Free.is
+returns-in-Free c = c.refuse-in-Free.ensures answer_of ∙ (decided (goal.at.returns-in-Free c).After-lookup-entry).gives _ c.in-Free.is

@@ -1,4 +1,5 @@
 -- `JobTable::release` meets its contract. Assumes nothing.
+use Rattle.refusals.specs.Numbers.{answer_of}
 use mathlib.Core.Path.{refl, ◌∙◌}
 use Rattle.jobs.specs.declared.Entry.TheVariants.{Open}
 use Rattle.jobs.specs.Table.{holds, release_at}
@@ -16,10 +17,10 @@ decided l =
 pub returns-then-twice : goal.returns-then-twice
 returns-then-twice c =
     let a = c.args in
-    c.refuse.ensures ∙ twice-refused release_at (entries a.self) a.number c.twice.ensures c.if-twice.true
+    c.refuse.ensures answer_of ∙ twice-refused release_at (entries a.self) a.number c.twice.ensures c.if-twice.true
 
 pub returns-in-Cancelled : goal.returns-in-Cancelled
-returns-in-Cancelled c = c.refuse-in-Cancelled.ensures ∙ (decided (goal.at.returns-in-Cancelled c).After-lookup-entry).gives _ c.in-Cancelled.is
+returns-in-Cancelled c = c.refuse-in-Cancelled.ensures answer_of ∙ (decided (goal.at.returns-in-Cancelled c).After-lookup-entry).gives _ c.in-Cancelled.is
 
 pub returns-in-OnHold : goal.returns-in-OnHold
 returns-in-OnHold c =
@@ -27,7 +28,7 @@ returns-in-OnHold c =
     c.put.ensures (holds c.args.number) c.slot_of.ensures.slot ∙ (decided l).stores (Open l.args.number) _ c.in-OnHold.is refl refl
 
 pub returns-in-Open : goal.returns-in-Open
-returns-in-Open c = c.refuse-in-Open.ensures ∙ (decided (goal.at.returns-in-Open c).After-lookup-entry).gives _ c.in-Open.is
+returns-in-Open c = c.refuse-in-Open.ensures answer_of ∙ (decided (goal.at.returns-in-Open c).After-lookup-entry).gives _ c.in-Open.is
 
 pub returns-in-Free : goal.returns-in-Free
-returns-in-Free c = c.refuse-in-Free.ensures ∙ (decided (goal.at.returns-in-Free c).After-lookup-entry).gives _ c.in-Free.is
+returns-in-Free c = c.refuse-in-Free.ensures answer_of ∙ (decided (goal.at.returns-in-Free c).After-lookup-entry).gives _ c.in-Free.is

@@ -1,4 +1,5 @@
 -- `JobTable::turn_open` meets its contract. Assumes nothing.
+use Rattle.refusals.specs.Numbers.{answer_of}
 use mathlib.Core.Path.{refl, ◌∙◌}
 use Rattle.jobs.specs.Table.{holds, turn_open_at}
 use Rattle.jobs.specs.Slots.{entries}
@@ -16,13 +17,13 @@ decided l =
 pub returns-then-twice : goal.returns-then-twice
 returns-then-twice c =
     let a = c.args in
-    c.refuse.ensures ∙ twice-refused (turn_open_at a.next) (entries a.self) a.number c.twice.ensures c.if-twice.true
+    c.refuse.ensures answer_of ∙ twice-refused (turn_open_at a.next) (entries a.self) a.number c.twice.ensures c.if-twice.true
 
 pub returns-in-Cancelled : goal.returns-in-Cancelled
-returns-in-Cancelled c = c.refuse-in-Cancelled.ensures ∙ (decided (goal.at.returns-in-Cancelled c).After-lookup-entry).gives _ c.in-Cancelled.is
+returns-in-Cancelled c = c.refuse-in-Cancelled.ensures answer_of ∙ (decided (goal.at.returns-in-Cancelled c).After-lookup-entry).gives _ c.in-Cancelled.is
 
 pub returns-in-OnHold : goal.returns-in-OnHold
-returns-in-OnHold c = c.refuse-in-OnHold.ensures ∙ (decided (goal.at.returns-in-OnHold c).After-lookup-entry).gives _ c.in-OnHold.is
+returns-in-OnHold c = c.refuse-in-OnHold.ensures answer_of ∙ (decided (goal.at.returns-in-OnHold c).After-lookup-entry).gives _ c.in-OnHold.is
 
 pub returns-in-Open : goal.returns-in-Open
 returns-in-Open c =
@@ -30,4 +31,4 @@ returns-in-Open c =
     c.put.ensures (holds c.args.number) c.slot_of.ensures.slot ∙ (decided l).stores l.args.next _ c.in-Open.is refl refl
 
 pub returns-in-Free : goal.returns-in-Free
-returns-in-Free c = c.refuse-in-Free.ensures ∙ (decided (goal.at.returns-in-Free c).After-lookup-entry).gives _ c.in-Free.is
+returns-in-Free c = c.refuse-in-Free.ensures answer_of ∙ (decided (goal.at.returns-in-Free c).After-lookup-entry).gives _ c.in-Free.is

@@ -1,5 +1,7 @@
 -- `JobTable::twice_by` meets its contract. The invariant: from slot `i` on no number is held twice, and each has its mark. Assumes nothing.
-use Rattle.std.proofs.Common.{◌≡◌, ◌+◌, ◌-◌, drop, false, get_or, sym, ◌∙◌, rules, arith}
+use Rattle.std.proofs.Common.{◌≡◌, ◌+◌, ◌-◌, drop, false, get_or, sym, ap, ◌∙◌, rules, arith, List}
+use Rattle.jobs.specs.declared.Entry.{Entry}
+use Rattle.jobs.proofs.SlotLaws.{rest-is}
 use Rattle.jobs.specs.Slots.{entries}
 use Rattle.jobs.specs.Table.{again}
 use Rattle.jobs.specs.declared.Entry.TheVariants.{Free}
@@ -15,7 +17,7 @@ returns-then-again c =
     let t = c.args.self in
     let l = c.loop-i in
     sym (marks-found t (search rules) l.marks (l.i - 1) _ (omega arith) (step_back t (search rules) l.marks l.i (omega arith) l.invariant)
-    (sym c.again.ensures ∙ c.if-again.true))
+    (sym (c.again.ensures ∙ ap (λ (es : List Entry). again es (get_or t.slots (l.i - 1) Free)) (rest-is (l.i - 1 + 1) (entries t))) ∙ c.if-again.true))
 
 pub loop-i-preserved : goal.loop-i-preserved
 loop-i-preserved c =
@@ -25,7 +27,7 @@ loop-i-preserved c =
     let marked = step_back t (search rules) l.marks l.i (omega arith) l.invariant in
     let once : again (drop (l.i - 1 + 1) (entries t)) (get_or t.slots (l.i - 1) Free) ≡ false =
     elim c.else-marks-mark.branch [
-      | else-marks-mark-via-then-marks-mark+else-again w ↦ sym w.again.ensures ∙ w.if-again.false
+      | else-marks-mark-via-then-marks-mark+else-again w ↦ sym (w.again.ensures ∙ ap (λ (es : List Entry). again es (get_or t.slots (l.i - 1) Free)) (rest-is (l.i - 1 + 1) (entries t))) ∙ w.if-again.false
       | else-marks-mark-via-else-marks-mark w ↦ unmarked (entries t) l.marks (l.i - 1 + 1) marked _ m.result m.ensures w.if-marks-mark.false
     ] in
     marks-next t (search rules) l.marks (l.i - 1) _ (omega arith) marked m.result m.ensures once
