@@ -2,7 +2,7 @@
 // nothing to walk. Assumes nothing.
 #![tactic(auto)]
 
-ghost use Rattle.std.specs.Prelude.{◌≡◌, ◌≤◌};
+ghost use Rattle.std.specs.Prelude.{◌≡◌, ◌≤◌, length};
 ghost use Rattle.cells.specs.Cells;
 ghost use Rattle.cells.specs.Cells.{pick};
 ghost use Rattle.cells.specs.Figures.{max_bursts};
@@ -38,12 +38,13 @@ pub fn fill(
     q: u64,
     at: Placement,
     starts: &[u16; Layout::MAX_HEADS],
-    kinds: &[Kind; Layout::MAX_BLOCKS],
+    kinds: &[Kind],
     digits: &[u8],
     message: &[u8],
     word: &mut [u8],
 )
-    requires { WalkedMessage (figures_walked walk q) walk at starts.now (kind_numbers kinds.now) digits.now message.now word.old }
+    requires tables { WalkedMessage (figures_walked walk q) walk at starts.now (kind_numbers kinds.now) digits.now message.now word.old }
+    requires known { walk.blocks ≤ length kinds.now }
     ensures { word.new ≡ Rattle.larsson.specs.Writing.word (figures_walked walk q) (starts_in at) message.now }
 {
     stretches::fill::fill_cells(walk, at, starts, kinds, digits, message, word);
@@ -55,11 +56,12 @@ pub fn take_message(
     q: u64,
     at: Placement,
     starts: &[u16; Layout::MAX_HEADS],
-    kinds: &[Kind; Layout::MAX_BLOCKS],
+    kinds: &[Kind],
     word: &[u8],
     message: &mut [u8],
 )
-    requires { WalkedWord (figures_walked walk q) walk at starts.now (kind_numbers kinds.now) word.now message.old }
+    requires tables { WalkedWord (figures_walked walk q) walk at starts.now (kind_numbers kinds.now) word.now message.old }
+    requires known { walk.blocks ≤ length kinds.now }
     ensures { message.new ≡ pick Rattle.cells.specs.Cells.message (plan (figures_walked walk q) (starts_in at)) word.now }
 {
     stretches::taking::take_message(walk, at, starts, kinds, word, message);

@@ -13,17 +13,18 @@ use blocks::Kind;
 use params::Layout;
 use placements::Placement;
 
-// The cells of the word from left to right.
+// The cells of the word from left to right, by the kinds of its blocks; what may stand behind these is not looked at.
 pub fn fill_cells(
     walk: Walk,
     at: Placement,
     heads: &[u16; Layout::MAX_HEADS],
-    kinds: &[Kind; Layout::MAX_BLOCKS],
+    kinds: &[Kind],
     digits: &[u8],
     message: &[u8],
     word: &mut [u8],
 )
-    requires { Fillable walk at heads.now (kind_numbers kinds.now) digits.now message.now word.old }
+    requires tables { Fillable walk at heads.now (kind_numbers kinds.now) digits.now message.now word.old }
+    requires known { walk.blocks ≤ length kinds.now }
     ensures { word.new ≡ weave (plan_in (frame_by walk heads.now (kind_numbers kinds.now) (starts_in at)))
         (digits_by walk (kind_numbers kinds.now) digits.now) message.now }
 {
@@ -56,15 +57,16 @@ fn fill_block(
     walk: Walk,
     at: Placement,
     heads: &[u16; Layout::MAX_HEADS],
-    kinds: &[Kind; Layout::MAX_BLOCKS],
+    kinds: &[Kind],
     digits: &[u8],
     message: &[u8],
     word: &mut [u8],
     block: usize,
     from: Filling,
 ) -> Filling
-    requires { FilledTo walk at heads.now (kind_numbers kinds.now) digits.now message.now word.old from
+    requires tables { FilledTo walk at heads.now (kind_numbers kinds.now) digits.now message.now word.old from
         × Enters walk at heads.now (kind_numbers kinds.now) block from }
+    requires known { walk.blocks ≤ length kinds.now }
     ensures { FilledTo walk at heads.now (kind_numbers kinds.now) digits.now message.now word.new result
         × ComesTo walk at heads.now (kind_numbers kinds.now) (suc block) result }
 {
@@ -85,15 +87,16 @@ fn fill_head(
     walk: Walk,
     at: Placement,
     heads: &[u16; Layout::MAX_HEADS],
-    kinds: &[Kind; Layout::MAX_BLOCKS],
+    kinds: &[Kind],
     digits: &[u8],
     message: &[u8],
     word: &mut [u8],
     block: usize,
     from: Filling,
 ) -> Filling
-    requires { FilledTo walk at heads.now (kind_numbers kinds.now) digits.now message.now word.old from
+    requires tables { FilledTo walk at heads.now (kind_numbers kinds.now) digits.now message.now word.old from
         × Enters walk at heads.now (kind_numbers kinds.now) block from }
+    requires known { walk.blocks ≤ length kinds.now }
     ensures { FilledTo walk at heads.now (kind_numbers kinds.now) digits.now message.now word.new result
         × HeadPassed walk at heads.now (kind_numbers kinds.now) block result }
 {

@@ -17,16 +17,17 @@ use blocks::Kind;
 use params::Layout;
 use placements::Placement;
 
-// The message of a placement's word, cell by cell from left to right.
+// The message of a placement's word, cell by cell from left to right, by the kinds of its blocks.
 pub fn take_message(
     walk: Walk,
     at: Placement,
     heads: &[u16; Layout::MAX_HEADS],
-    kinds: &[Kind; Layout::MAX_BLOCKS],
+    kinds: &[Kind],
     word: &[u8],
     message: &mut [u8],
 )
-    requires { Takeable walk at heads.now (kind_numbers kinds.now) word.now message.old }
+    requires tables { Takeable walk at heads.now (kind_numbers kinds.now) word.now message.old }
+    requires known { walk.blocks ≤ length kinds.now }
     ensures { message.new ≡ pick Rattle.cells.specs.Cells.message (plan_in (frame_by walk heads.now (kind_numbers kinds.now) (starts_in at)))
         word.now }
 {
@@ -67,14 +68,15 @@ fn take_block(
     walk: Walk,
     at: Placement,
     heads: &[u16; Layout::MAX_HEADS],
-    kinds: &[Kind; Layout::MAX_BLOCKS],
+    kinds: &[Kind],
     word: &[u8],
     message: &mut [u8],
     block: usize,
     from: Taking,
 ) -> Taking
-    requires { TakenTo walk at heads.now (kind_numbers kinds.now) word.now message.old from
+    requires tables { TakenTo walk at heads.now (kind_numbers kinds.now) word.now message.old from
         × Enters walk at heads.now (kind_numbers kinds.now) block from }
+    requires known { walk.blocks ≤ length kinds.now }
     ensures { TakenTo walk at heads.now (kind_numbers kinds.now) word.now message.new result
         × ComesTo walk at heads.now (kind_numbers kinds.now) (suc block) result }
 {

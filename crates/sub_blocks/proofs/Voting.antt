@@ -1,5 +1,6 @@
 -- Laws for the search of the majority: stretch by stretch, and sub-block by sub-block. Assumes nothing.
 use mathlib.Core.Path.{◌≡◌, refl, sym, ap, ◌∙◌}
+use mathlib.Core.Logic.{◌≢◌}
 use mathlib.Core.Bool.{Bool, ◌&&◌, true, false, true≢false}
 use mathlib.Core.List.{List, [], ◌∷◌}
 use mathlib.Core.Option.{none, some}
@@ -13,8 +14,8 @@ use Rattle.combinatorics.specs.Lists.{all_below, same_list}
 use Rattle.combinatorics.specs.Majority.{is_value, common, has_common}
 use Rattle.combinatorics.specs.Stretch.{count, tabulate}
 use Rattle.combinatorics.proofs.Cases.{by_bool}
-use Rattle.combinatorics.proofs.Lists.{below_at}
-use Rattle.combinatorics.proofs.Members.{take-is}
+use Rattle.combinatorics.proofs.Lists.{same-list, list_same, below_at}
+use Rattle.combinatorics.proofs.Members.{length-tabulate, take-is, tabulate-at}
 use Rattle.combinatorics.proofs.Stretch.{count-ext}
 use Rattle.cells.specs.Erasures.{found_bound, has_erasure}
 use Rattle.cells.proofs.Erasures.{found-least, below-whole, whole_below}
@@ -28,6 +29,26 @@ use Rattle.larsson_params.proofs.Shape.{bound, sub-room}
 use Rattle.sub_blocks.specs.Found.{FoundWord, spelled_at, MajorityAt}
 
 -- ---- Two stretches
+
+module _ (f : ℕ → ℕ) (a b : ℕ) where
+  -- stretches whose symbols are alike are the same list
+  tabulate-alike : (n : ℕ) → ((j : ℕ) → j < n → f (a + j) ≡ f (b + j)) → tabulate n a f ≡ tabulate n b f
+  tabulate-alike n h =
+      let xs = tabulate n a f in
+      let l : n ≤ length xs = omega (arith, length-tabulate n a f) in
+      sym (take-is n a xs f l (λ j g. tabulate-at n a j f g)) ∙ take-is n b xs f l (λ j g. tabulate-at n a j f g ∙ h j g)
+
+  -- all their symbols are alike
+  pub stretches-same : (n : ℕ) → ((j : ℕ) → j < n → f (a + j) ≡ f (b + j)) → same_list (tabulate n a f) (tabulate n b f) ≡ true
+  stretches-same n h = rw (tabulate-alike n h) (same-list (tabulate n b f))
+
+  -- or two are not
+  pub stretches-differ : (n j : ℕ) → j < n → f (a + j) ≢ f (b + j) → same_list (tabulate n a f) (tabulate n b f) ≡ false
+  stretches-differ n j l d =
+      by_bool (same_list (tabulate n a f) (tabulate n b f))
+      (λ t. absurd (d (sym (tabulate-at n a j f l) ∙ ap (λ (xs : List ℕ). get_or xs j 0) (list_same (tabulate n a f) (tabulate n b f) t)
+      ∙ tabulate-at n b j f l)))
+      (λ t. t)
 
 -- their symbols are the same by the library's test where they are by the definition
 alike : (xs ys : List ℕ) → pointwise eqb xs ys ≡ same_list xs ys

@@ -1,5 +1,5 @@
 // What a sub-block of a found word holds: its value, and whether those that bear the rank hold it too. Assumes nothing.
-ghost use Rattle.std.specs.Prelude.{◌≡◌, List, ℕ, ◌<◌, min};
+ghost use Rattle.std.specs.Prelude.{◌≡◌, List, ℕ, ◌≤◌, ◌<◌, min, length};
 ghost use Rattle.larsson.specs.Figures.{sub_blocks};
 ghost use Rattle.larsson.specs.Reading;
 ghost use Rattle.blocks.specs.Numbers.{kind_numbers};
@@ -32,11 +32,12 @@ pub fn value_of(
 pub fn agrees(
     layout: LarssonLayout,
     starts: &[u16; Layout::MAX_HEADS],
-    kinds: &[Kind; Layout::MAX_BLOCKS],
+    kinds: &[Kind],
     word: &[u8],
     i: usize,
 ) -> bool
-    requires { FoundWord layout word.now × SubStartsOf (larsson_figures_of layout) starts.now × SubBlockValued (larsson_figures_of layout) word.now i }
+    requires found { FoundWord layout word.now × SubStartsOf (larsson_figures_of layout) starts.now × SubBlockValued (larsson_figures_of layout) word.now i }
+    requires known { sub_blocks (larsson_figures_of layout) ≤ length kinds.now }
     ensures { (ss : List ℕ) → BearersOf (larsson_figures_of layout) ss (kind_numbers kinds.now) → result
         ≡ Rattle.larsson.specs.Reading.agrees (larsson_figures_of layout) word.now (spelled_at (larsson_figures_of layout) word.now i) ss }
 {

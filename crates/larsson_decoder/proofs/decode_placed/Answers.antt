@@ -1,8 +1,12 @@
 -- `decode_placed` meets its contract: 19, or the placement with its message. Assumes nothing.
+use Rattle.refusals.specs.Numbers.{number_of}
 use mathlib.Core.Path.{◌≡◌, sym, ap, ◌∙◌}
 use mathlib.Core.List.{List}
 use Prim.Native.Nat.{ℕ}
 use native.Mathlib.Omega.{arith}
+use borrow.Author.Rules.{rules}
+use lib.ListN.{length}
+use Rattle.params.specs.Given.{max_blocks}
 use Rattle.combinatorics.specs.Bursts.{apart}
 use Rattle.combinatorics.specs.Lists.{all_below}
 use Rattle.combinatorics.proofs.Bursts.{of-placed}
@@ -62,7 +66,7 @@ cover_erasures-requires c =
 pub returns-then-not-cover_erasures : goal.returns-then-not-cover_erasures
 returns-then-not-cover_erasures c =
     let a = c.args in
-    c.unread.ensures a.message.now
+    c.unread.ensures number_of a.message.now
     ∙ sym (ap (decoded_from (l (goal.at.returns-then-not-cover_erasures c).Start).b a.message.now)
     (reads-erased (l (goal.at.returns-then-not-cover_erasures c).Start) a.word.now c.requires.0.finding a.located.rank a.located.placement (kind_numbers a.located.kinds) c.requires.2
     (sym (told (goal.at.returns-then-not-cover_erasures c).After-cover_erasures) ∙ c.if-not-cover_erasures.true)))
@@ -74,20 +78,24 @@ walk_of-walk-requires c =
 pub take_message-requires : goal.take_message-requires
 take_message-requires c =
     let laid = (fit (goal.at.take_message-requires c).Start).laid in
+    let all : length c.args.located.kinds ≡ max_blocks = search rules in
     rw c.walk_of-walk.ensures
     record {
-      walked = record {
-        range = (fit (goal.at.take_message-requires c).Start).range;
-        fit = (fit (goal.at.take_message-requires c).Start).fit;
-        some = omega (arith, laid.sub_is, c.requires.0.some-symbol);
-        walk_is = ap (Words.sub_blocks_of (l (goal.at.take_message-requires c).Start).n (l (goal.at.take_message-requires c).Start).m (l (goal.at.take_message-requires c).Start).b) laid.sub_is;
-        held = counted (goal.at.take_message-requires c).Start;
-        placed = c.requires.2.placed;
-        starts-are = c.requires.1;
-        kinds-are = c.requires.2.bearers;
+      tables = record {
+        walked = record {
+          range = (fit (goal.at.take_message-requires c).Start).range;
+          fit = (fit (goal.at.take_message-requires c).Start).fit;
+          some = omega (arith, laid.sub_is, c.requires.0.some-symbol);
+          walk_is = ap (Words.sub_blocks_of (l (goal.at.take_message-requires c).Start).n (l (goal.at.take_message-requires c).Start).m (l (goal.at.take_message-requires c).Start).b) laid.sub_is;
+          held = counted (goal.at.take_message-requires c).Start;
+          placed = c.requires.2.placed;
+          starts-are = c.requires.1;
+          kinds-are = c.requires.2.bearers;
+        };
+        complete = c.requires.0.finding.complete;
+        room = c.requires.0.room ∙ laid.len_is;
       };
-      complete = c.requires.0.finding.complete;
-      room = c.requires.0.room ∙ laid.len_is;
+      known = omega (arith, (bound (l (goal.at.take_message-requires c).Start) (fit (goal.at.take_message-requires c).Start)).m-most, all);
     }
 
 pub returns : goal.returns

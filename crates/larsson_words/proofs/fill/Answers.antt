@@ -5,16 +5,19 @@ use Rattle.larsson_words.proofs.fill.Goals as goal
 
 pub fill_cells-requires : goal.fill_cells-requires
 fill_cells-requires c =
-    let W = c.requires.walked in
+    let W = c.requires.tables.walked in
     record {
-      walks = walks-of W;
-      digits-lent = rw c.requires.digits_are (digits-lent W);
-      message-lent = message-of W c.args.message.now c.requires.sent;
-      room = c.requires.room;
+      tables = record {
+        walks = walks-of W;
+        digits-lent = rw c.requires.tables.digits_are (digits-lent W);
+        message-lent = message-of W c.args.message.now c.requires.tables.sent;
+        room = c.requires.tables.room;
+      };
+      known = c.requires.known;
     }
 
 pub returns : goal.returns
 unfolding word
 returns c =
-    let W = c.requires.walked in
-    rw (c.requires.digits_are, plan-of W, digits-of W) at c.fill_cells.ensures
+    let W = c.requires.tables.walked in
+    rw (c.requires.tables.digits_are, plan-of W, digits-of W) at c.fill_cells.ensures

@@ -4,9 +4,12 @@ use Rattle.larsson_words.proofs.take_message.Goals as goal
 
 pub take_message-requires : goal.take_message-requires
 take_message-requires c =
-    let W = c.requires.walked in
-    record { walks = walks-of W; whole = c.requires.complete; room = message-of W c.args.message.now c.requires.room }
+    let W = c.requires.tables.walked in
+    record {
+      tables = record { walks = walks-of W; whole = c.requires.tables.complete; room = message-of W c.args.message.now c.requires.tables.room };
+      known = c.requires.known;
+    }
 
 pub returns : goal.returns
 returns c =
-    rw (plan-of c.requires.walked) at c.take_message.ensures
+    rw (plan-of c.requires.tables.walked) at c.take_message.ensures

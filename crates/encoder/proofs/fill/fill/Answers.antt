@@ -1,9 +1,11 @@
 -- `fill` meets its contract: what the blocks' kinds and the digits of the index blocks give is the word. Assumes nothing.
-use mathlib.Core.Path.{ap}
+use mathlib.Core.Path.{◌≡◌, ap}
 use Prim.Native.Nat.{ℕ, ◌+◌, ◌*◌}
 use native.Mathlib.Numerals.{add-one}
 use native.Mathlib.Omega.{arith}
-use lib.ListN.{take}
+use borrow.Author.Rules.{rules}
+use lib.ListN.{length, take}
+use Rattle.params.specs.Given.{max_blocks}
 use Rattle.params.specs.declared.Layout.{Layout}
 use Rattle.params.proofs.Either.{in-shape}
 use Rattle.params.proofs.Shape.{bound}
@@ -39,6 +41,12 @@ slice_bounds-fill_cells-end c =
     let count = spelled_count (l (goal.at.slice_bounds-fill_cells-end c).Start).q (l (goal.at.slice_bounds-fill_cells-end c).Start).m (l (goal.at.slice_bounds-fill_cells-end c).Start).index_tail _ spelled.result spelled.ensures in
     omega (arith, count, ap (λ (y : ℕ). (l (goal.at.slice_bounds-fill_cells-end c).Start).m * y) (add-one (l (goal.at.slice_bounds-fill_cells-end c).Start).index_tail))
 
+pub slice_bounds-fill_cells-end-2 : goal.slice_bounds-fill_cells-end-2
+slice_bounds-fill_cells-end-2 c =
+    let spelled = c.spelled-digits in
+    let count = spelled_count (l (goal.at.slice_bounds-fill_cells-end-2 c).Start).q (l (goal.at.slice_bounds-fill_cells-end-2 c).Start).m (l (goal.at.slice_bounds-fill_cells-end-2 c).Start).index_tail _ spelled.result spelled.ensures in
+    omega (arith, count, ap (λ (y : ℕ). (l (goal.at.slice_bounds-fill_cells-end-2 c).Start).m * y) (add-one (l (goal.at.slice_bounds-fill_cells-end-2 c).Start).index_tail))
+
 pub fill_cells-requires : goal.fill_cells-requires
 fill_cells-requires c =
     let p = c.requires.1.placing in
@@ -48,12 +56,17 @@ fill_cells-requires c =
     let heads = c.put_heads in
     let kinds = c.kinds_of-kinds in
     let tables : Tables (l (goal.at.fill_cells-requires c).Start) c.args.at heads.new.heads (kind_numbers kinds.result) = (heads.ensures, kinds.ensures) in
+    let walks = walks-of (l (goal.at.fill_cells-requires c).Start) c.args.at heads.new.heads (kind_numbers kinds.result) p tables in
+    let all : length kinds.result ≡ max_blocks = search rules in
     rw c.walk_of.ensures
     record {
-      walks = walks-of (l (goal.at.fill_cells-requires c).Start) c.args.at heads.new.heads (kind_numbers kinds.result) p tables;
-      digits-lent = digits-lent (l (goal.at.fill_cells-requires c).Start) c.args.at heads.new.heads (kind_numbers kinds.result) p tables ds count;
-      message-lent = message-of (l (goal.at.fill_cells-requires c).Start) c.args.at heads.new.heads (kind_numbers kinds.result) p tables c.args.message.now c.requires.1.sent;
-      room = c.requires.1.room;
+      tables = record {
+        walks = walks;
+        digits-lent = digits-lent (l (goal.at.fill_cells-requires c).Start) c.args.at heads.new.heads (kind_numbers kinds.result) p tables ds count;
+        message-lent = message-of (l (goal.at.fill_cells-requires c).Start) c.args.at heads.new.heads (kind_numbers kinds.result) p tables c.args.message.now c.requires.1.sent;
+        room = c.requires.1.room;
+      };
+      known = omega (arith, walks.blocks-most, all);
     }
 
 pub returns : goal.returns

@@ -3,6 +3,9 @@ use mathlib.Core.Path.{◌≡◌, sym, subst, ◌∙◌}
 use mathlib.Core.List.{List}
 use Prim.Native.Nat.{ℕ}
 use native.Mathlib.Omega.{arith}
+use borrow.Author.Rules.{rules}
+use lib.ListN.{length}
+use Rattle.params.specs.Given.{max_blocks}
 use Rattle.cells.specs.Figures.{Params, placement_of}
 use Rattle.larsson.specs.Reading.{agrees}
 use Rattle.larsson_params.specs.declared.LarssonLayout.{LarssonLayout}
@@ -49,6 +52,11 @@ unrank-placement-requires c =
 pub bearers_of-kinds-requires : goal.bearers_of-kinds-requires
 bearers_of-kinds-requires c =
     (bearing (l (goal.at.bearers_of-kinds-requires c).Start) (fit (goal.at.bearers_of-kinds-requires c).Start) c.args.rank c.requires.0.below c.unrank-placement.result c.unrank-placement.ensures c.requires.0.some-symbol, c.requires.1)
+
+pub agrees-requires-clause-known : goal.agrees-requires-clause-known
+agrees-requires-clause-known c =
+    let all : length c.bearers_of-kinds.result ≡ max_blocks = search rules in
+    omega (arith, (bound (l (goal.at.agrees-requires-clause-known c).Start) (fit (goal.at.agrees-requires-clause-known c).Start)).m-most, all)
 
 pub returns-then-not-agrees : goal.returns-then-not-agrees
 returns-then-not-agrees c =

@@ -21,7 +21,7 @@ abbrev g : Start → Frame
 g s = frame_by s.args.walk s.args.heads.now (kind_numbers s.args.kinds.now) (starts_in s.args.at)
 
 w : (s : Start) → Walkable (g s) s.args.walk.b (starts_in s.args.at)
-w s = walkable s.requires.0.walks
+w s = walkable s.requires.tables.0.walks
 
 -- where the block ends
 abbrev edge : Start → ℕ
@@ -35,11 +35,11 @@ abbrev PastAt : Start → Filling → Type 0
 PastAt s here = Past (g s) s.args.walk.b (starts_in s.args.at) s.args.block here.at here.passed
 
 hop : (s : Start) (here : Filling) → PastAt s here → next s here.passed < edge s
-    → Hopped (w s) s.args.block here.at here.passed s.requires.1.0 (next s here.passed)
-hop s here = burst-hop (w s) s.args.block here.at here.passed s.requires.1.0
+    → Hopped (w s) s.args.block here.at here.passed s.requires.tables.1.0 (next s here.passed)
+hop s here = burst-hop (w s) s.args.block here.at here.passed s.requires.tables.1.0
 
 message-to : (s : Start) (here : Filling) → PastAt s here → (to : ℕ) → to ≤ next s here.passed → to ≤ edge s → Cells (g s) message here.at to
-message-to s here = message-cells (w s) s.args.block here.at here.passed s.requires.1.0
+message-to s here = message-cells (w s) s.args.block here.at here.passed s.requires.tables.1.0
 
 -- ---- What is left of the code
 
@@ -61,9 +61,9 @@ fill_burst-here-requires c =
     let stop = t.invariant.1.2 in
     let h = hop (goal.at.fill_burst-here-requires c).Start t.here t.invariant.1.0 (omega (arith, t.invariant.0, stop, c.loop-here-test.true)) in
     let m = c.fill_message-here.ensures in (
-      c.requires.0.walks.bursts,
+      c.requires.tables.0.walks.bursts,
       omega (arith, m.at-is, stop, h.ends, m.size, t.invariant.2.filled.size),
-      omega (arith, m.passed_is, h.number, c.requires.0.walks.bursts.count),
+      omega (arith, m.passed_is, h.number, c.requires.tables.0.walks.bursts.count),
     )
 
 pub loop-here-smaller : goal.loop-here-smaller
@@ -76,7 +76,7 @@ loop-here-smaller c =
       c.fill_message-here.ensures.passed_is,
       c.fill_burst-here.ensures.filled.passed_is,
       h.number,
-      c.requires.0.walks.bursts.count,
+      c.requires.tables.0.walks.bursts.count,
     )
 
 pub loop-here-preserved : goal.loop-here-preserved
@@ -103,7 +103,7 @@ returns-then-edge-here c =
     let t = c.loop-here in (
       t.invariant.2,
       (
-        rest-none (w (goal.at.returns-then-edge-here c).Start) c.args.block t.here.at t.here.passed c.requires.1.0 t.invariant.1.0
+        rest-none (w (goal.at.returns-then-edge-here c).Start) c.args.block t.here.at t.here.passed c.requires.tables.1.0 t.invariant.1.0
             (omega (arith, t.invariant.0, c.if-edge-here.true)),
         t.invariant.1.1,
         t.invariant.1.2,
@@ -113,7 +113,7 @@ returns-then-edge-here c =
 pub fill_message-requires : goal.fill_message-requires
 fill_message-requires c =
     let t = c.loop-here in
-    let within = edge_in (w (goal.at.fill_message-requires c).Start) c.args.block c.requires.1.0 in
+    let within = edge_in (w (goal.at.fill_message-requires c).Start) c.args.block c.requires.tables.1.0 in
     let cells = message-to (goal.at.fill_message-requires c).Start t.here t.invariant.1.0 (edge (goal.at.fill_message-requires c).Start) (omega (arith, t.invariant.0, t.invariant.1.2, c.loop-here-test.false))
     (omega arith) in
     let up : t.here.at ≤ edge (goal.at.fill_message-requires c).Start = omega (arith, t.invariant.0, c.if-edge-here.false) in (
@@ -130,9 +130,9 @@ returns c =
     let inside : t.here.at < edge (goal.at.returns c).Start = omega (arith, t.invariant.0, c.if-edge-here.false) in
     let m = rw t.invariant.0 at c.fill_message.ensures in
     let cells = message-to (goal.at.returns c).Start t.here p (edge (goal.at.returns c).Start) before (omega arith) in (
-      message-filled t.invariant.2 (edge (goal.at.returns c).Start) (omega arith) (edge_in (w (goal.at.returns c).Start) c.args.block c.requires.1.0) cells m,
+      message-filled t.invariant.2 (edge (goal.at.returns c).Start) (omega arith) (edge_in (w (goal.at.returns c).Start) c.args.block c.requires.tables.1.0) cells m,
       (
-        rw (m.at-is, m.passed_is) (rest-hop (w (goal.at.returns c).Start) c.args.block t.here.at t.here.passed c.requires.1.0 p inside before),
+        rw (m.at-is, m.passed_is) (rest-hop (w (goal.at.returns c).Start) c.args.block t.here.at t.here.passed c.requires.tables.1.0 p inside before),
         m.indexed-is
             ∙ t.invariant.1.1,
         m.stop_is ∙ t.invariant.1.2 ∙ ap (next (goal.at.returns c).Start) (sym m.passed_is),

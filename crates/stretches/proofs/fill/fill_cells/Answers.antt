@@ -28,7 +28,7 @@ ds s = digits_by s.args.walk (kind_numbers s.args.kinds.now) s.args.digits.now
 pub loop-block-init : goal.loop-block-init
 unfolding sum
 loop-block-init c =
-    let R = c.requires in
+    let R = c.requires.tables in
     let none : 0 * c.args.walk.head_len ≡ 0 = omega arith in (
       (entering-first (walkable R.walks), omega arith, c.next_start.ensures),
       record {

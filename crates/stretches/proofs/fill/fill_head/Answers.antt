@@ -38,7 +38,7 @@ abbrev x : Start → ℕ
 x s = s.args.from.at
 
 w : (s : Start) → Walkable (g s) s.args.walk.b (starts_in s.args.at)
-w s = walkable s.requires.0.walks
+w s = walkable s.requires.tables.0.walks
 
 abbrev PastTo : Start → ℕ → Type 0
 PastTo s y = Past (g s) s.args.walk.b (starts_in s.args.at) s.args.block y s.args.from.passed
@@ -46,7 +46,7 @@ PastTo s y = Past (g s) s.args.walk.b (starts_in s.args.at) s.args.block y s.arg
 -- ---- A fixed block
 
 fixed-past : (s : Start) → kind s ≡ fixed_kind → PastTo s (x s + 1)
-fixed-past s e = (head_fixed (w s) s.args.block (x s) s.args.from.passed s.requires.1.0 s.requires.1.1.0 (kind-fixed e).0 (kind-fixed e).1).past
+fixed-past s e = (head_fixed (w s) s.args.block (x s) s.args.from.passed s.requires.tables.1.0 s.requires.tables.1.1.0 (kind-fixed e).0 (kind-fixed e).1).past
 
 -- ---- An index block
 
@@ -58,33 +58,33 @@ abbrev to : Start → ℕ
 to s = x s + s.args.walk.head_len
 
 to_is : (s : Start) → x s + suc (s.args.walk.head_len - 1) ≡ to s
-to_is s = omega (arith, len_is s.requires.0.walks)
+to_is s = omega (arith, len_is s.requires.tables.0.walks)
 
 index-past : (s : Start) → kind s ≡ index_kind → PastTo s (to s)
 index-past s e =
-    subst (PastTo s) (to_is s) (head-index (w s) s.args.block (x s) s.args.from.passed s.requires.1.0 s.requires.1.1.0 (is-index s e)).past
+    subst (PastTo s) (to_is s) (head-index (w s) s.args.block (x s) s.args.from.passed s.requires.tables.1.0 s.requires.tables.1.1.0 (is-index s e)).past
 
 digit-cells : (s : Start) → kind s ≡ index_kind → Cells (g s) digit (x s) (to s)
-digit-cells s e y u v = index-cells (w s) s.args.block (x s) s.args.from.passed s.requires.1.0 s.requires.1.1.0 (is-index s e) y u
+digit-cells s e y u v = index-cells (w s) s.args.block (x s) s.args.from.passed s.requires.tables.1.0 s.requires.tables.1.1.0 (is-index s e) y u
     (omega (arith, to_is s))
 
 room : (s : Start) → kind s ≡ index_kind → to s ≤ length s.args.word.now
-room s e = omega (arith, (index-past s e).between.within, s.requires.0.filled.size)
+room s e = omega (arith, (index-past s e).between.within, s.requires.tables.0.filled.size)
 
 among : (s : Start) → kind s ≡ index_kind → s.args.from.indexed < index_before (kind_numbers s.args.kinds.now) s.args.walk.blocks
-among s e = rw s.requires.1.1.1 (index-among (kind_numbers s.args.kinds.now) s.args.block s.args.walk.blocks s.requires.1.0 (is-index s e))
+among s e = rw s.requires.tables.1.1.1 (index-among (kind_numbers s.args.kinds.now) s.args.block s.args.walk.blocks s.requires.tables.1.0 (is-index s e))
 
 lent : (s : Start) → kind s ≡ index_kind → s.args.from.indexed * s.args.walk.digit_step + s.args.walk.head_len ≤ length s.args.digits.now
-lent s e = s.requires.0.digits-lent s.args.from.indexed (among s e)
+lent s e = s.requires.tables.0.digits-lent s.args.from.indexed (among s e)
 
 few : (s : Start) → kind s ≡ index_kind → s.args.from.indexed < 64
 few s e =
-    omega (arith, among s e, s.requires.0.walks.blocks-most, count-le s.args.walk.blocks 0 (λ i. eqb (get_or (kind_numbers s.args.kinds.now) i 0) index_kind))
+    omega (arith, among s e, s.requires.tables.0.walks.blocks-most, count-le s.args.walk.blocks 0 (λ i. eqb (get_or (kind_numbers s.args.kinds.now) i 0) index_kind))
 
 -- ---- What is left of the code
 
 pub bounds-word-start : goal.bounds-word-start
-bounds-word-start c = omega (arith, (fixed-past (goal.at.bounds-word-start c).Start (kind-is-at c.args.kinds.now c.args.block Fixed c.in-Fixed.is)).between.within, c.requires.0.filled.size)
+bounds-word-start c = omega (arith, (fixed-past (goal.at.bounds-word-start c).Start (kind-is-at c.args.kinds.now c.args.block Fixed c.in-Fixed.is)).between.within, c.requires.tables.0.filled.size)
 
 pub returns-in-Fixed : goal.returns-in-Fixed
 returns-in-Fixed c =
@@ -92,10 +92,10 @@ returns-in-Fixed c =
     let word = c.args.word.now in
     let past = fixed-past (goal.at.returns-in-Fixed c).Start e in
     let one : x (goal.at.returns-in-Fixed c).Start + 1 - x (goal.at.returns-in-Fixed c).Start ≡ 1 = omega arith in
-    let cells = fixed-cells (w (goal.at.returns-in-Fixed c).Start) c.args.block (x (goal.at.returns-in-Fixed c).Start) c.args.from.passed c.requires.1.0 c.requires.1.1.0 (kind-fixed e).0 (kind-fixed e).1 in
-    let made = take-suc-set word (x (goal.at.returns-in-Fixed c).Start) 0 (omega (arith, past.between.within, c.requires.0.filled.size)) in (
-      fixed_on c.requires.0 (x (goal.at.returns-in-Fixed c).Start + 1) (omega arith) past.between.within (set word (x (goal.at.returns-in-Fixed c).Start) 0) cells (rw (one, add-one (x (goal.at.returns-in-Fixed c).Start)) made) (length-set word (x (goal.at.returns-in-Fixed c).Start) 0),
-      (past, omega (arith, c.requires.1.1.1, index-next (kind_numbers c.args.kinds.now) c.args.block false (kind-fixed e).0), c.requires.1.1.2),
+    let cells = fixed-cells (w (goal.at.returns-in-Fixed c).Start) c.args.block (x (goal.at.returns-in-Fixed c).Start) c.args.from.passed c.requires.tables.1.0 c.requires.tables.1.1.0 (kind-fixed e).0 (kind-fixed e).1 in
+    let made = take-suc-set word (x (goal.at.returns-in-Fixed c).Start) 0 (omega (arith, past.between.within, c.requires.tables.0.filled.size)) in (
+      fixed_on c.requires.tables.0 (x (goal.at.returns-in-Fixed c).Start + 1) (omega arith) past.between.within (set word (x (goal.at.returns-in-Fixed c).Start) 0) cells (rw (one, add-one (x (goal.at.returns-in-Fixed c).Start)) made) (length-set word (x (goal.at.returns-in-Fixed c).Start) 0),
+      (past, omega (arith, c.requires.tables.1.1.1, index-next (kind_numbers c.args.kinds.now) c.args.block false (kind-fixed e).0), c.requires.tables.1.1.2),
     )
 
 pub overflow_mul-spelled : goal.overflow_mul-spelled
@@ -142,17 +142,17 @@ returns-in-Index c =
     let spelled = c.args.from.indexed * c.args.walk.digit_step in
     let put = part-put (x (goal.at.returns-in-Index c).Start) (to (goal.at.returns-in-Index c).Start) c.args.word.now part.new.to (take len (drop spelled digits)) (omega arith) (room (goal.at.returns-in-Index c).Start e) (search rules)
     (rw long (part.ensures ∙ ap (take len) (rest-is spelled digits))) in (
-      digits-on c.requires.0 (to (goal.at.returns-in-Index c).Start) (omega arith) past.between.within _ (digit-cells (goal.at.returns-in-Index c).Start e) long (among (goal.at.returns-in-Index c).Start e) put.0 put.1,
-      (past, omega (arith, c.requires.1.1.1, index-next (kind_numbers c.args.kinds.now) c.args.block true (is-index (goal.at.returns-in-Index c).Start e)), c.requires.1.1.2),
+      digits-on c.requires.tables.0 (to (goal.at.returns-in-Index c).Start) (omega arith) past.between.within _ (digit-cells (goal.at.returns-in-Index c).Start e) long (among (goal.at.returns-in-Index c).Start e) put.0 put.1,
+      (past, omega (arith, c.requires.tables.1.1.1, index-next (kind_numbers c.args.kinds.now) c.args.block true (is-index (goal.at.returns-in-Index c).Start e)), c.requires.tables.1.1.2),
     )
 
 pub returns-in-Burst : goal.returns-in-Burst
 returns-in-Burst c =
     let k = kind-burst (kind-is-at c.args.kinds.now c.args.block Burst c.in-Burst.is) in (
-      c.requires.0,
+      c.requires.tables.0,
       (
-        head-none (w (goal.at.returns-in-Burst c).Start) c.args.block (x (goal.at.returns-in-Burst c).Start) c.args.from.passed c.requires.1.0 c.requires.1.1.0 k.0 k.1,
-        omega (arith, c.requires.1.1.1, index-next (kind_numbers c.args.kinds.now) c.args.block false k.0),
-        c.requires.1.1.2,
+        head-none (w (goal.at.returns-in-Burst c).Start) c.args.block (x (goal.at.returns-in-Burst c).Start) c.args.from.passed c.requires.tables.1.0 c.requires.tables.1.1.0 k.0 k.1,
+        omega (arith, c.requires.tables.1.1.1, index-next (kind_numbers c.args.kinds.now) c.args.block false k.0),
+        c.requires.tables.1.1.2,
       ),
     )

@@ -24,7 +24,7 @@ abbrev g : Start → Frame
 g s = frame_by s.args.walk s.args.heads.now (kind_numbers s.args.kinds.now) (starts_in s.args.at)
 
 w : (s : Start) → Walkable (g s) s.args.walk.b (starts_in s.args.at)
-w s = walkable s.requires.0.walks
+w s = walkable s.requires.tables.0.walks
 
 -- where the block ends
 abbrev edge : Start → ℕ
@@ -38,10 +38,10 @@ abbrev len : Start → ℕ
 len s = head_len_of s.args.walk (get_or (kind_numbers s.args.kinds.now) s.args.block 0)
 
 len_is : (s : Start) → head_cells (g s) s.args.block ≡ len s
-len_is s = head-len s.requires.0.walks s.args.block s.requires.1.0
+len_is s = head-len s.requires.tables.0.walks s.args.block s.requires.tables.1.0
 
 past : (s : Start) → Past (g s) s.args.walk.b (starts_in s.args.at) s.args.block (s.args.from.at + len s) s.args.from.passed
-past s = rw (len_is s) at (head-past (w s) s.args.block s.args.from.at s.args.from.passed s.requires.1.0 s.requires.1.1.0)
+past s = rw (len_is s) at (head-past (w s) s.args.block s.args.from.at s.args.from.passed s.requires.tables.1.0 s.requires.tables.1.1.0)
 
 -- the next burst, where it starts in the block, and the message before it
 abbrev next : Start → ℕ → ℕ
@@ -51,11 +51,11 @@ abbrev PastAt : Start → Taking → Type 0
 PastAt s here = Past (g s) s.args.walk.b (starts_in s.args.at) s.args.block here.at here.passed
 
 hop : (s : Start) (here : Taking) → PastAt s here → next s here.passed < edge s
-    → Hopped (w s) s.args.block here.at here.passed s.requires.1.0 (next s here.passed)
-hop s here = burst-hop (w s) s.args.block here.at here.passed s.requires.1.0
+    → Hopped (w s) s.args.block here.at here.passed s.requires.tables.1.0 (next s here.passed)
+hop s here = burst-hop (w s) s.args.block here.at here.passed s.requires.tables.1.0
 
 message-to : (s : Start) (here : Taking) → PastAt s here → (to : ℕ) → to ≤ next s here.passed → to ≤ edge s → Cells (g s) message here.at to
-message-to s here = message-cells (w s) s.args.block here.at here.passed s.requires.1.0
+message-to s here = message-cells (w s) s.args.block here.at here.passed s.requires.tables.1.0
 
 -- ---- What is left of the code
 
@@ -63,13 +63,13 @@ len-by : (s : Start) → head_len_of s.args.walk (kind_number (get_or s.args.kin
 len-by s = ap (head_len_of s.args.walk) (sym (kind-at s.args.kinds.now s.args.block))
 
 pub overflow_add-here : goal.overflow_add-here
-overflow_add-here c = omega (arith, c.head_cells.ensures, len-by (goal.at.overflow_add-here c).Start, (past (goal.at.overflow_add-here c).Start).between.within, c.requires.0.walks.n-most)
+overflow_add-here c = omega (arith, c.head_cells.ensures, len-by (goal.at.overflow_add-here c).Start, (past (goal.at.overflow_add-here c).Start).between.within, c.requires.tables.0.walks.n-most)
 
 pub loop-here-init : goal.loop-here-init
 loop-here-init c =
     let cells = c.head_cells.ensures ∙ len-by (goal.at.loop-here-init c).Start in
-    let passed = rw (len_is (goal.at.loop-here-init c).Start) at (passes-head c.requires.0 c.args.block c.args.from.passed c.requires.1.0 c.requires.1.1.0) in
-    (edge-is (goal.at.loop-here-init c).Start, c.requires.1.1.1, rw cells (past (goal.at.loop-here-init c).Start), rw cells passed)
+    let passed = rw (len_is (goal.at.loop-here-init c).Start) at (passes-head c.requires.tables.0 c.args.block c.args.from.passed c.requires.tables.1.0 c.requires.tables.1.1.0) in
+    (edge-is (goal.at.loop-here-init c).Start, c.requires.tables.1.1.1, rw cells (past (goal.at.loop-here-init c).Start), rw cells passed)
 
 pub take_cells-here-requires : goal.take_cells-here-requires
 take_cells-here-requires c =
@@ -86,7 +86,7 @@ pass_burst-here-requires c =
     let t = c.loop-here in
     let h = hop (goal.at.pass_burst-here-requires c).Start t.here t.invariant.2 (omega (arith, t.invariant.0, t.invariant.1, c.loop-here-test.true)) in
     let m = c.take_cells-here.ensures in
-    (c.requires.0.walks.bursts, omega (arith, m.at-is, t.invariant.1, h.ends), omega (arith, m.passed_is, h.number, c.requires.0.walks.bursts.count))
+    (c.requires.tables.0.walks.bursts, omega (arith, m.at-is, t.invariant.1, h.ends), omega (arith, m.passed_is, h.number, c.requires.tables.0.walks.bursts.count))
 
 pub loop-here-smaller : goal.loop-here-smaller
 loop-here-smaller c =
@@ -97,7 +97,7 @@ loop-here-smaller c =
       c.take_cells-here.ensures.passed_is,
       c.pass_burst-here.ensures.passed.2,
       h.number,
-      c.requires.0.walks.bursts.count,
+      c.requires.tables.0.walks.bursts.count,
     )
 
 pub loop-here-preserved : goal.loop-here-preserved
@@ -123,7 +123,7 @@ loop-here-preserved c =
 pub take_cells-requires : goal.take_cells-requires
 take_cells-requires c =
     let t = c.loop-here in
-    let within = edge_in (w (goal.at.take_cells-requires c).Start) c.args.block c.requires.1.0 in
+    let within = edge_in (w (goal.at.take_cells-requires c).Start) c.args.block c.requires.tables.1.0 in
     let cells = message-to (goal.at.take_cells-requires c).Start t.here t.invariant.2 (edge (goal.at.take_cells-requires c).Start) (omega (arith, t.invariant.0, t.invariant.1, c.loop-here-test.false)) (omega arith) in
     let up : t.here.at ≤ edge (goal.at.take_cells-requires c).Start = omega (arith, t.invariant.0, c.if-edge-here.false) in
     (omega (arith, t.invariant.0, up), omega (arith, t.invariant.0, within, t.invariant.3.whole), omega (arith, t.invariant.0, room t.invariant.3 (edge (goal.at.take_cells-requires c).Start) up within cells))
@@ -136,9 +136,9 @@ returns c =
     let inside : t.here.at < edge (goal.at.returns c).Start = omega (arith, t.invariant.0, c.if-edge-here.false) in
     let m = rw t.invariant.0 at c.take_cells.ensures in
     let cells = message-to (goal.at.returns c).Start t.here p (edge (goal.at.returns c).Start) before (omega arith) in (
-      cells-taken t.invariant.3 (edge (goal.at.returns c).Start) (omega arith) (edge_in (w (goal.at.returns c).Start) c.args.block c.requires.1.0) cells m,
+      cells-taken t.invariant.3 (edge (goal.at.returns c).Start) (omega arith) (edge_in (w (goal.at.returns c).Start) c.args.block c.requires.tables.1.0) cells m,
       (
-        rw (m.at-is, m.passed_is) (rest-hop (w (goal.at.returns c).Start) c.args.block t.here.at t.here.passed c.requires.1.0 p inside before),
+        rw (m.at-is, m.passed_is) (rest-hop (w (goal.at.returns c).Start) c.args.block t.here.at t.here.passed c.requires.tables.1.0 p inside before),
         m.stop_is ∙ t.invariant.1
             ∙ ap (next (goal.at.returns c).Start) (sym m.passed_is),
       ),

@@ -19,7 +19,7 @@ kd s = kind_in (frame_by s.args.walk s.args.heads.now (kind_numbers s.args.kinds
 
 pub loop-block-init : goal.loop-block-init
 loop-block-init c =
-    let R = c.requires in (
+    let R = c.requires.tables in (
       (entering-first (walkable R.walks), c.next_start.ensures),
       record { walks = R.walks; whole = R.whole; so_far = taken_start c.args.walk.n (kd (goal.at.loop-block-init c).Start) c.args.word.now c.args.message.now R.room },
     )

@@ -18,7 +18,7 @@ use Rattle.sub_blocks.proofs.held.agrees.Goals as goal
 use Rattle.sub_blocks.proofs.held.agrees.Goals.{Start, else-eq-via-else-eq, else-eq-via-then-eq+else-not-same_symbols}
 
 limits : (s : Start) → Ranged (larsson_figures_of s.args.layout)
-limits s = bound s.args.layout s.requires.0.layout
+limits s = bound s.args.layout s.requires.found.0.layout
 
 -- the bearers with other symbols
 abbrev Off : Start → ℕ → Bool
@@ -45,7 +45,7 @@ returns-then-not-same_symbols c =
     rw (kind-tested a.kinds.now j Index ∙ sym c.if-eq.ensures, ← c.same_symbols.ensures) (ap not c.if-not-same_symbols.true) in
     let told = ap not (sym (has_here (2 * a.layout.m + 1) j (Off (goal.at.returns-then-not-same_symbols c).Start) (omega (arith, c.loop-j-test.true)) off)
     ∙ c.loop-j.invariant ∙ by-blocks (goal.at.returns-then-not-same_symbols c).Start) in
-    λ ss is. told ∙ agrees-by a.layout a.word.now a.i c.requires.0 c.requires.2 ss (kind_numbers a.kinds.now) is
+    λ ss is. told ∙ agrees-by a.layout a.word.now a.i c.requires.found.0 c.requires.found.2 ss (kind_numbers a.kinds.now) is
 
 pub loop-j-preserved : goal.loop-j-preserved
 loop-j-preserved c =
@@ -64,4 +64,4 @@ pub returns : goal.returns
 returns c =
     let a = c.args in
     let told = ap not (sym (has-over (2 * a.layout.m + 1) c.loop-j.j (Off (goal.at.returns c).Start) (omega (arith, c.loop-j-test.false))) ∙ c.loop-j.invariant ∙ by-blocks (goal.at.returns c).Start) in
-    λ ss is. told ∙ agrees-by a.layout a.word.now a.i c.requires.0 c.requires.2 ss (kind_numbers a.kinds.now) is
+    λ ss is. told ∙ agrees-by a.layout a.word.now a.i c.requires.found.0 c.requires.found.2 ss (kind_numbers a.kinds.now) is
