@@ -18,6 +18,7 @@ use Rattle.construction_b.specs.Figures.{is_placement as is_placement_b}
 use Rattle.construction_b.proofs.DemandTwo as B
 use Rattle.larsson.proofs.DemandTwo as L
 use Rattle.params.specs.Bridge.{given, given_long}
+use Rattle.refusals.specs.declared.Refusal.{Refusal}
 use Rattle.decoder.specs.declared.Decoded.{Decoded as Answered}
 use Rattle.refusals.specs.Numbers.{answer_of}
 use Rattle.decoder.specs.Answer.{decoded_as}
@@ -39,7 +40,7 @@ own-refusals (Long p) = B.own-refusals (given_long p)
 own-refusals (Larsson p) = L.own-refusals (given p)
 
 -- the clauses of word read's contract
-pub by-outcome : (f : Figures) (w out : List ℕ) (r : Answered) (left : List ℕ) → decoded_as r left ≡ decode_under (coding_of f) w out
+pub by-outcome : (f : Figures) (w out : List ℕ) (r : Answered Refusal) (left : List ℕ) → decoded_as r left ≡ decode_under (coding_of f) w out
     → (decoded_as r left ≡ decode_under (coding_of f) w out)
     × (DecodesExactly f w out (decoded_as r left) × (answer_of r.answer ≡ answer_number (decode_under (coding_of f) w out).answer))
 by-outcome f w out =

@@ -19,8 +19,7 @@ use Rattle.placements.specs.Bridge.{starts_in}
 use Rattle.decoder.specs.declared.Decoded.{Decoded}
 use Rattle.std.specs.Prelude.{Ok, Err}
 use Rattle.refusals.specs.declared.Refusal.{Refusal}
-use Rattle.refusals.specs.Numbers.{number_of}
-use Rattle.decoder.specs.Answer.{answer_as, decoded_as}
+use Rattle.decoder.specs.Answer.{answer_as, decoded_by, decoded_as}
 use Rattle.decoder.specs.Exported.{lent_as, start_bytes, exported_as, exported_under}
 use Rattle.decoder.specs.Reader.{StartsFit}
 
@@ -82,23 +81,24 @@ module _ (d : Coding) (w out bytes : List ℕ) where
     exported-read size = rw (range, fit, eqb_same (length bytes) (2 * d.bursts) size)
 
     -- put into the lent buffers
-    pub exported-put : length bytes ≡ 2 * d.bursts → (r : Decoded) (left : List ℕ) → decoded_as r left ≡ decode_under d w out
+    pub exported-put : length bytes ≡ 2 * d.bursts → (r : Decoded Refusal) (left : List ℕ) → decoded_as r left ≡ decode_under d w out
         → (a : ℕ) (starts : List ℕ) → lent_as a left starts ≡ exported_as bytes (decoded_as r left) → lent_as a left starts ≡ exported_under d w out bytes
     exported-put size r left e a starts put = put ∙ ap (exported_as bytes) e ∙ sym (exported-read size)
 
   -- an accepted word has as many starts as the figures have bursts
   pub starts_fit : (m : ℕ) → ((v : ℕ) → (decode_under d w out).answer ≡ rank_is v → (decode_under d w out).placement.count ≡ m) → m ≤ max_bursts
       → length bytes ≡ 2 * m
-      → (r : Decoded) (left : List ℕ) → decoded_as r left ≡ decode_under d w out → StartsFit r bytes
+      → (r : Decoded Refusal) (left : List ℕ) → decoded_as r left ≡ decode_under d w out → StartsFit r bytes
   starts_fit m counts few size r left e v told =
       let count : r.placement.count ≡ m =
       ap (λ (o : Outcome). o.placement.count) e ∙ counts v (sym (ap (λ (o : Outcome). o.answer) e) ∙ ap answer_as told) in
       (omega (arith, count), omega (arith, count))
 
 -- the word reader's answer in code, taken apart
-module _ (bytes out : List ℕ) (d : Decoded) where
-  pub exported-refused : (a : Refusal) → d.answer ≡ Err a → exported_as bytes (decoded_as d out) ≡ lent_as (number_of a) out bytes
+module _ {E : Type 0} (number : E → ℕ) (bytes out : List ℕ) (d : Decoded E) where
+  pub exported-refused : (a : E) → d.answer ≡ Err a → exported_as bytes (decoded_by number d out) ≡ lent_as (number a) out bytes
   exported-refused a e = rw e
 
-  pub exported-served : (v : ℕ) → d.answer ≡ Ok v → exported_as bytes (decoded_as d out) ≡ lent_as served out (start_bytes (starts_in d.placement))
+  pub exported-served : (v : ℕ) → d.answer ≡ Ok v
+      → exported_as bytes (decoded_by number d out) ≡ lent_as served out (start_bytes (starts_in d.placement))
   exported-served v e = rw e

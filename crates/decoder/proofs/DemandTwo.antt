@@ -13,9 +13,9 @@ use Rattle.cells.specs.Figures.{max_bursts}
 use Rattle.cells.specs.Outcomes.{Coding, in_use, held, rank_is, refusal, answer_number, Decoded, unread, decoded_from, decode_under}
 use Rattle.std.specs.Prelude.{Result, Ok, Err}
 use Rattle.refusals.specs.declared.Refusal.{Refusal}
-use Rattle.refusals.specs.Numbers.{answer_of}
+use Rattle.refusals.specs.Numbers.{number_of, answer_of}
 use Rattle.decoder.specs.declared.Decoded.{Decoded as Answered}
-use Rattle.decoder.specs.Answer.{answer_as, decoded_as}
+use Rattle.decoder.specs.Answer.{number_by, answer_as, decoded_as}
 use Rattle.decoder.specs.DemandTwo.{DecodesExactlyUnder}
 
 held-starts : (ss : List ℕ) → in_use (held ss) ≡ ss
@@ -58,6 +58,11 @@ decodes-exactly-under d Listed reads w out g =
       );
     }
 
+-- 0, or a refusal's number, as an answer is read
+pub number-of-answer : {A : Type 0} (r : Result A Refusal) → number_by number_of r ≡ answer_of r
+number-of-answer (Ok x) = refl
+number-of-answer (Err a) = refl
+
 -- an answer's number is that of what it says
 number_is : (r : Result ℕ Refusal) → answer_of r ≡ answer_number (answer_as r)
 number_is (Ok v) = refl
@@ -65,7 +70,7 @@ number_is (Err a) = refl
 
 -- the clauses of a reader's contract, under any figures
 pub by-outcome-under : (d : Coding) (Listed : List ℕ → ℕ → Type 0) (w out : List ℕ) → DecodesExactlyUnder d Listed w out (decode_under d w out)
-    → (r : Answered) (left : List ℕ) → decoded_as r left ≡ decode_under d w out
+    → (r : Answered Refusal) (left : List ℕ) → decoded_as r left ≡ decode_under d w out
     → (decoded_as r left ≡ decode_under d w out)
     × (DecodesExactlyUnder d Listed w out (decoded_as r left) × (answer_of r.answer ≡ answer_number (decode_under d w out).answer))
 by-outcome-under d Listed w out exact r left e =

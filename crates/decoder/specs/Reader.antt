@@ -65,5 +65,5 @@ pub record Located (l : Layout) (at : Placement) (v : ℕ) (whole : Bool) (w out
   pub read-as : (blocks_coding l).codec.decode w ≡ read_message l w (starts_in at)
 
 -- two bytes for each start of an accepted word
-abbrev pub StartsFit : Decoded → List ℕ → Type 0
+abbrev pub StartsFit : {E : Type 0} → Decoded E → List ℕ → Type 0
 StartsFit d bytes = (v : ℕ) → d.answer ≡ Ok v → (d.placement.count ≤ max_bursts) × (length bytes ≡ 2 * d.placement.count)

@@ -8,8 +8,7 @@ ghost use Rattle.params.specs.Given.{figures_of, blocks_coding, BlocksServe, Hea
 ghost use Rattle.placements.specs.Bridge.{starts_in};
 ghost use Rattle.blocks.specs.Numbers.{kind_numbers};
 ghost use Rattle.stretches.specs.ByBlock.{Tables};
-ghost use Rattle.refusals.specs.Numbers.{number_of};
-ghost use Rattle.decoder.specs.Answer.{decoded_as};
+ghost use Rattle.decoder.specs.Answer.{decoded_by, decoded_as};
 ghost use Rattle.decoder.specs.Reader.{read_message, WordLent, IndexShown, RankRead, Located};
 
 use blocks::Kind;
@@ -26,8 +25,8 @@ pub mod starts;
 
 // What a found word is answered with: its rank where it is accepted, or the refusal; and the placement beside it, with no starts where the word is refused.
 #[derive(Clone, Copy, Debug, PartialEq, Eq)]
-pub struct Decoded {
-    pub answer: Result<u64, Refusal>,
+pub struct Decoded<E = Refusal> {
+    pub answer: Result<u64, E>,
     pub placement: Placement,
 }
 
@@ -146,9 +145,9 @@ fn decode_placed(
     }
 }
 
-// A refusal, with no placement.
-pub fn unread(refusal: Refusal) -> Decoded
-    ensures { (out : List ℕ) → decoded_as result out ≡ unreadAs out (number_of refusal) }
+// A refusal, with no placement, by whatever numbers refusals have.
+pub fn unread<E: Copy>(refusal: E) -> Decoded<E>
+    ensures { (number : E → ℕ) (out : List ℕ) → decoded_by number result out ≡ unreadAs out (number refusal) }
 {
     Decoded {
         answer: Err(refusal),

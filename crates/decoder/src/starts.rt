@@ -1,21 +1,20 @@
 // A placement that was read as bytes, for the reader for C. Inner functions. Assumes nothing.
 ghost use Rattle.std.specs.Prelude.{◌≡◌, List, ℕ, ◌*◌, ◌≤◌, length};
-ghost use Rattle.refusals.specs.Numbers.{answer_of};
 ghost use Rattle.cells.specs.Figures.{max_bursts};
 ghost use Rattle.placements.specs.Bridge.{starts_in};
-ghost use Rattle.decoder.specs.Answer.{decoded_as};
+ghost use Rattle.decoder.specs.Answer.{number_by, decoded_by};
 ghost use Rattle.decoder.specs.Exported.{lent_as, start_bytes, exported_as};
 ghost use Rattle.decoder.specs.Reader.{StartsFit};
 
 use crate::Decoded;
 use placements::Placement;
-use refusals::Refusal;
 use symbols::numbers::BYTE_VALUES;
 
 // What the word reader answered, under any figures: its number, and the placement of an accepted word as bytes.
-pub fn put_decoded(decoded: Decoded, starts: &mut [u8]) -> Result<(), Refusal>
+pub fn put_decoded<E: Copy>(decoded: Decoded<E>, starts: &mut [u8]) -> Result<(), E>
     requires { StartsFit decoded starts.old }
-    ensures { (out : List ℕ) → lent_as (answer_of result) out starts.new ≡ exported_as starts.old (decoded_as decoded out) }
+    ensures { (number : E → ℕ) (out : List ℕ) → lent_as (number_by number result) out starts.new
+        ≡ exported_as starts.old (decoded_by number decoded out) }
 {
     decoded.answer?;
     put_starts(decoded.placement, starts);

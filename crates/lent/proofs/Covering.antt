@@ -1,5 +1,5 @@
 -- Laws of the placement that starts in bytes give, and of covering on bytes, refusal by refusal. Assumes nothing.
-use mathlib.Core.Path.{◌≡◌, sym, ap, ◌∙◌}
+use mathlib.Core.Path.{◌≡◌, refl, sym, ap, ◌∙◌}
 use mathlib.Core.Logic.{◌≢◌}
 use mathlib.Core.Bool.{true}
 use mathlib.Core.List.{List, []}
@@ -16,14 +16,16 @@ use Rattle.combinatorics.proofs.Bursts.{rank-of-starts}
 use Rattle.cells.specs.Outcomes.{Coding, held, in_use, defect_at, unserved, figures_under, Covered, unplaced, cover_under}
 use Rattle.cells.proofs.Outcomes.{refused-alike}
 use Rattle.cells.specs.Figures.{max_bursts}
-use Rattle.std.specs.Prelude.{Result}
+use Rattle.std.specs.Prelude.{Result, Ok, Err}
 use Rattle.refusals.specs.declared.Refusal.{Refusal}
+use Rattle.refusals.specs.Numbers.{number_of}
+use Rattle.refusals.proofs.Numbers.{never-served}
 use Rattle.placements.specs.declared.Placement.{Placement}
 use Rattle.placements.specs.Bridge.{coverable, cover_within, covered_as as found_as, Room}
 use Rattle.placements.proofs.Calls.{cover-length, cover-symbol, cover-none, cover-some}
 use Rattle.decoder.specs.Exported.{start_bytes}
 use Rattle.lent.specs.Starts.{starts_from, placement_from}
-use Rattle.lent.specs.Covering.{cover_lent, cover_lent_as, cover_bytes_under, CoverFits}
+use Rattle.lent.specs.Covering.{cover_lent, cover_lent_as, cover_bytes_under, covered_by, RefusedBy, CoverFits}
 
 -- ---- The placement that is given
 
@@ -66,6 +68,14 @@ module _ (bytes : List ℕ) (c : Covered) where
 
   pub covered-served : c.answer ≡ served → cover_lent served (start_bytes (in_use c.placement)) ≡ cover_lent_as bytes c
   covered-served a = rw (eqb_same c.answer served a)
+
+-- what covering answered, by the numbers of the list
+pub covered-same : (c : Result Placement Refusal) → covered_by number_of c ≡ found_as c
+covered-same (Ok at) = refl
+covered-same (Err a) = refl
+
+pub refused-by : (c : Result Placement Refusal) → RefusedBy number_of c
+refused-by c e is = never-served e
 
 -- a map that is not refused has a placement of m starts
 refused-not : {P : Type 0} (c : Covered) (a : ℕ) → c ≡ unplaced (suc a) → c.answer ≡ served → P

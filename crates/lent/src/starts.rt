@@ -1,10 +1,11 @@
 // Starts as bytes: the placement that a caller gives, and the one that covering answers. Inner functions. Assumes nothing.
-ghost use Rattle.std.specs.Prelude.{◌≡◌};
+ghost use Rattle.std.specs.Prelude.{◌≡◌, ℕ};
 ghost use Rattle.refusals.specs.Numbers.{answer_of};
 ghost use Rattle.codes.specs.Bridge.{coding_of};
-ghost use Rattle.placements.specs.Bridge.{held_as, covered_as as found_as};
+ghost use Rattle.placements.specs.Bridge.{held_as};
+ghost use Rattle.decoder.specs.Answer.{number_by};
 ghost use Rattle.lent.specs.Starts.{placement_from};
-ghost use Rattle.lent.specs.Covering.{cover_lent, cover_lent_as, cover_bytes_under, CoverFits};
+ghost use Rattle.lent.specs.Covering.{cover_lent, cover_lent_as, cover_bytes_under, covered_by, RefusedBy, CoverFits};
 
 use codes::Figures;
 use decoder::starts;
@@ -48,10 +49,11 @@ fn try_cover(figures: Figures, map: &[u8], bytes: &mut [u8]) -> Result<(), Refus
     put_covered(found, bytes)
 }
 
-// What covering answered, under any figures: its refusal, or the placement that covers the map as bytes.
-pub fn put_covered(found: Result<Placement, Refusal>, bytes: &mut [u8]) -> Result<(), Refusal>
+// What covering answered, under any figures: its refusal, by whatever numbers refusals have, or the placement that covers the map as bytes.
+pub fn put_covered<E: Copy>(found: Result<Placement, E>, bytes: &mut [u8]) -> Result<(), E>
     requires { CoverFits found bytes.old }
-    ensures { cover_lent (answer_of result) bytes.new ≡ cover_lent_as bytes.old (found_as found) }
+    ensures { (number : E → ℕ) → RefusedBy number found
+        → cover_lent (number_by number result) bytes.new ≡ cover_lent_as bytes.old (covered_by number found) }
 {
     starts::put_starts(found?, bytes);
     Ok(())

@@ -23,7 +23,7 @@ returns-in-Err c =
     let out = c.args.message.now in
     let d = coding_of c.args.figures in
     let said = by-outcome c.args.figures c.args.word.now out c.unread.result out
-    (c.unread.ensures out ∙ sym (decode-unfit d c.args.word.now out (number_of c.in-Err.refusal)
+    (c.unread.ensures number_of out ∙ sym (decode-unfit d c.args.word.now out (number_of c.in-Err.refusal)
     (sym c.in-Err.ensures.answer))) in
     record { outcome = said.0; exactly = said.1.0; number = said.1.1 }
 

@@ -1,4 +1,5 @@
 -- `decode_found` meets its contract: 7, or what the index blocks that are shown give. Assumes nothing.
+use Rattle.refusals.specs.Numbers.{number_of}
 use mathlib.Core.Path.{sym, ap, ◌∙◌}
 use Rattle.cells.specs.Outcomes.{decoded_from}
 use Rattle.decoder.proofs.ByLayout.{read_none}
@@ -9,5 +10,5 @@ decode_index-requires c = (record { lent = c.requires.0; pattern = sym c.in-Some
 
 pub returns-in-None : goal.returns-in-None
 returns-in-None c =
-    c.unread.ensures c.args.message.now
+    c.unread.ensures number_of c.args.message.now
     ∙ sym (ap (decoded_from c.args.layout.b c.args.message.now) (read_none c.args.layout c.requires.0.fitting c.args.word.now (sym c.in-None.ensures)))

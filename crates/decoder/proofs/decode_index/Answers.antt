@@ -1,4 +1,5 @@
 -- `decode_index` meets its contract: 19, or what the value gives that the index blocks spell. Assumes nothing.
+use Rattle.refusals.specs.Numbers.{number_of}
 use mathlib.Core.Path.{◌≡◌, sym, ap, subst, ◌∙◌}
 use mathlib.Core.Bool.{true}
 use mathlib.Core.List.{List, [], ◌∷◌}
@@ -51,7 +52,7 @@ known s ks =
 pub returns-then-not-index_whole : goal.returns-then-not-index_whole
 returns-then-not-index_whole c =
     let ks = take (l (goal.at.returns-then-not-index_whole c).Start).m c.args.index in
-    c.unread.ensures c.args.message.now
+    c.unread.ensures number_of c.args.message.now
     ∙ sym (ap (decoded_from (l (goal.at.returns-then-not-index_whole c).Start).b c.args.message.now)
     (read-erased (l (goal.at.returns-then-not-index_whole c).Start) c.requires.0.lent.fitting c.args.word.now ks (found (goal.at.returns-then-not-index_whole c).Start) (known (goal.at.returns-then-not-index_whole c).Start ks)
     (rw (← c.index_whole.ensures) (c.if-not-index_whole.true))))

@@ -1,9 +1,12 @@
 -- `decode_placed` meets its contract: 19, or the placement with its message. Assumes nothing.
+use Rattle.refusals.specs.Numbers.{number_of}
 use mathlib.Core.Path.{◌≡◌, sym, ap, ◌∙◌}
 use mathlib.Core.Bool.{true, false}
 use mathlib.Core.List.{List}
 use Prim.Native.Nat.{ℕ}
 use native.Mathlib.Omega.{arith}
+use borrow.Author.Rules.{rules}
+use lib.ListN.{length}
 use Rattle.combinatorics.specs.Bursts.{rank_of}
 use Rattle.combinatorics.specs.Lists.{all_below}
 use Rattle.combinatorics.proofs.Lists.{below_at}
@@ -15,7 +18,7 @@ use Rattle.cells.specs.Plan.{kind_in, plan_in}
 use Rattle.cells.proofs.Cells.{pick-below}
 use Rattle.cells.proofs.Erasures.{found-least, erasure-is}
 use Rattle.refusals.specs.Refusals.{erased}
-use Rattle.params.specs.Given.{frame_of}
+use Rattle.params.specs.Given.{frame_of, max_blocks}
 use Rattle.params.specs.declared.Layout.{Layout}
 use Rattle.params.proofs.Shape.{bound, long}
 use Rattle.placements.specs.Bridge.{held_as, starts_in}
@@ -75,18 +78,23 @@ message_whole-requires c =
 
 pub returns-then-not-message_whole : goal.returns-then-not-message_whole
 returns-then-not-message_whole c =
-    c.unread.ensures c.args.message.now
+    c.unread.ensures number_of c.args.message.now
     ∙ sym (ap (decoded_from (l (goal.at.returns-then-not-message_whole c).Start).b c.args.message.now) (reads-erased (goal.at.returns-then-not-message_whole c).Start (sym (whole_is (goal.at.returns-then-not-message_whole c).After-message_whole) ∙ c.if-not-message_whole.true)))
 
 pub take_message-requires : goal.take_message-requires
 take_message-requires c =
     let a = c.args in
     let p = c.requires.0.placing in
+    let all : length a.kinds.now ≡ max_blocks = search rules in
+    let walks = walks-of (l (goal.at.take_message-requires c).Start) a.placement a.heads.now (kind_numbers a.kinds.now) p c.requires.1 in
     rw c.walk_of-walk.ensures
     record {
-      walks = walks-of (l (goal.at.take_message-requires c).Start) a.placement a.heads.now (kind_numbers a.kinds.now) p c.requires.1;
-      whole = c.requires.0.lent.finding.complete;
-      room = message-of (l (goal.at.take_message-requires c).Start) a.placement a.heads.now (kind_numbers a.kinds.now) p c.requires.1 a.message.now c.requires.0.lent.room;
+      tables = record {
+        walks = walks;
+        whole = c.requires.0.lent.finding.complete;
+        room = message-of (l (goal.at.take_message-requires c).Start) a.placement a.heads.now (kind_numbers a.kinds.now) p c.requires.1 a.message.now c.requires.0.lent.room;
+      };
+      known = omega (arith, walks.blocks-most, all);
     }
 
 -- an accepted word

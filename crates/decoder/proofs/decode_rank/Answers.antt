@@ -1,4 +1,5 @@
 -- `decode_rank` meets its contract: 8, 9, or what the rank's placement gives. Assumes nothing.
+use Rattle.refusals.specs.Numbers.{number_of}
 use mathlib.Core.Path.{◌≡◌, sym, ap, ◌∙◌, subst}
 use mathlib.Core.List.{List}
 use Prim.Native.Nat.{ℕ, ◌*◌, ◌≤◌, ◌<◌}
@@ -52,7 +53,7 @@ rank-is c = omega (arith, c.if-layout-rank.false, c.requires.0.spelled)
 
 pub returns-then-layout-rank : goal.returns-then-layout-rank
 returns-then-layout-rank c =
-    c.unread.ensures c.args.message.now
+    c.unread.ensures number_of c.args.message.now
     ∙ sym (ap (decoded_from (l (goal.at.returns-then-layout-rank c).Start).b c.args.message.now)
     (too_large (f (goal.at.returns-then-layout-rank c).Start) c.args.word.now (ks (goal.at.returns-then-layout-rank c).Start) (omega (arith, c.if-layout-rank.true, c.requires.0.spelled, c.requires.0.fitting.laid.count-is))))
 
@@ -84,7 +85,7 @@ pub returns-then-not-agrees : goal.returns-then-not-agrees
 returns-then-not-agrees c =
     let w = c.args.word.now in
     let out = c.args.message.now in
-    c.unread-then-not-agrees.ensures out
+    c.unread-then-not-agrees.ensures number_of out
     ∙ sym (ap (decoded_from (l (goal.at.returns-then-not-agrees c).Start).b out) (ap (read_rank (f (goal.at.returns-then-not-agrees c).Start) w (ks (goal.at.returns-then-not-agrees c).Start)) (sym (rank-is (goal.at.returns-then-not-agrees c).Else-layout-rank)) ∙ disagreeing (f (goal.at.returns-then-not-agrees c).Start) w (ks (goal.at.returns-then-not-agrees c).Start) c.args.rank (below (goal.at.returns-then-not-agrees c).Else-layout-rank)
     (rw (← c.agrees.ensures (ss (goal.at.returns-then-not-agrees c).Start) (kinds-at (goal.at.returns-then-not-agrees c).After-kinds_of-kinds)) (c.if-not-agrees.true))))
 

@@ -1,4 +1,5 @@
 -- `decode_fitting` meets its contract: 3, 4, or what a word that can be found gives. Assumes nothing.
+use Rattle.refusals.specs.Numbers.{number_of}
 use mathlib.Core.Path.{◌≡◌, sym, ap, ◌∙◌}
 use mathlib.Core.List.{List, []}
 use Prim.Native.Nat.{ℕ, ◌<◌}
@@ -38,12 +39,12 @@ tested c =
 
 pub returns-then-word-layout : goal.returns-then-word-layout
 returns-then-word-layout c =
-    c.unread.ensures c.args.message.now
+    c.unread.ensures number_of c.args.message.now
     ∙ sym (decode-short (d (goal.at.returns-then-word-layout c).Start) c.args.word.now c.args.message.now c.requires.range c.requires.fit c.if-word-layout.true)
 
 pub returns-then-message-layout : goal.returns-then-message-layout
 returns-then-message-layout c =
-    c.unread-then-message-layout.ensures c.args.message.now
+    c.unread-then-message-layout.ensures number_of c.args.message.now
     ∙ sym (decode-room (d (goal.at.returns-then-message-layout c).Start) c.args.word.now c.args.message.now c.requires.range c.requires.fit c.if-word-layout.false
     (λ e. c.if-message-layout.true (e ∙ sym c.requires.laid.len_is)))
 
@@ -53,7 +54,7 @@ overflow_add-layout c =
 
 pub returns-then-not-all_below : goal.returns-then-not-all_below
 returns-then-not-all_below c =
-    c.unread-then-not-all_below.ensures c.args.message.now
+    c.unread-then-not-all_below.ensures number_of c.args.message.now
     ∙ sym (decode-symbol (d (goal.at.returns-then-not-all_below c).Start) c.args.word.now c.args.message.now c.requires.range c.requires.fit c.if-word-layout.false
     (c.if-message-layout.false ∙ c.requires.laid.len_is) (sym (tested (goal.at.returns-then-not-all_below c).After-all_below) ∙ c.if-not-all_below.true))
 

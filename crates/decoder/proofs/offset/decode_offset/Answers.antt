@@ -1,4 +1,5 @@
 -- `decode_offset` meets its contract: 8, 9, or what the burst's start gives. Assumes nothing.
+use Rattle.refusals.specs.Numbers.{number_of}
 use mathlib.Core.Path.{◌≡◌, sym, ap, ◌∙◌}
 use Prim.Native.Nat.{ℕ, ◌+◌, ◌-◌, ◌≤◌, ◌<◌}
 use native.Mathlib.Omega.{arith}
@@ -65,7 +66,7 @@ overflow_sub-next c = omega (arith, next-at (goal.at.overflow_sub-next c).After-
 
 pub returns-then-next-head : goal.returns-then-next-head
 returns-then-next-head c =
-    c.unread.ensures c.args.message.now
+    c.unread.ensures number_of c.args.message.now
     ∙ sym (ap (decoded_from (l (goal.at.returns-then-next-head c).Start).b c.args.message.now)
     (too_long (l (goal.at.returns-then-next-head c).Start) (g (goal.at.returns-then-next-head c).Start) c.args.word.now c.args.part c.args.value c.requires.0.spelled
     (omega (arith, c.if-next-head.true, next-at (goal.at.returns-then-next-head c).After-block_head-next))))
@@ -93,7 +94,7 @@ returns-then-end-layout c =
     let w = c.args.word.now in
     let out = c.args.message.now in
     let e = before c.args.part in
-    c.unread-then-end-layout.ensures out
+    c.unread-then-end-layout.ensures number_of out
     ∙ sym (ap (decoded_from (l (goal.at.returns-then-end-layout c).Start).b out) (ap (read_part (f (goal.at.returns-then-end-layout c).Start) w e) (sym (value-at (goal.at.returns-then-end-layout c).Else-next-head))
     ∙ before-word (l (goal.at.returns-then-end-layout c).Start) (g (goal.at.returns-then-end-layout c).Start) w e c.args.value (below (goal.at.returns-then-end-layout c).Else-next-head) (omega (arith, c.if-end-layout.true, end-at (goal.at.returns-then-end-layout c).Else-next-head))))
 
