@@ -6,7 +6,7 @@ ghost use Rattle.combinatorics.specs.Lists.{all_below};
 ghost use Rattle.text.specs.Text.{decimal, hex_digit, hex, overwrite};
 ghost use Rattle.text.specs.Nibbles.{nibbles_of, nibbles};
 
-use itoa::Buffer;
+mod number;
 
 // The first of the figures, and of the letters.
 const ZERO: u8 = b'0';
@@ -34,14 +34,15 @@ pub fn put_text(line: &mut [u8], at: usize, text: &[u8]) -> usize
     behind
 }
 
-// A number in decimal.
+// A number in decimal; 20 characters hold any.
 pub fn put_decimal(line: &mut [u8], at: usize, value: u64) -> usize
     requires { at + length (decimal value) ≤ length line.old }
     ensures line { line.new ≡ overwrite at (decimal value) line.old }
     ensures behind { result ≡ at + length (decimal value) }
 {
-    let mut buffer = Buffer::new();
-    put_text(line, at, buffer.format(value).as_bytes())
+    let mut digits = [0u8; 20];
+    let count = number::decimal(value, &mut digits);
+    put_text(line, at, &digits[..count])
 }
 
 // Bytes in hex, two capitals for each.
