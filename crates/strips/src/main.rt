@@ -43,14 +43,19 @@ fn byte_row(rt: &impl Print, n: u32, m: u32, b: u32) -> io::Result<()> {
 
 // The answer to figures alone: T, r and k, or the refusal.
 fn figures_row(rt: &impl Print, p: Params) -> io::Result<()> {
-    print!(rt; "n {} q {} m {} b {}: ", p.n, p.q, p.m, p.b)?;
+    put(rt, "n ", p.n as u64)?;
+    put(rt, " q ", p.q as u64)?;
+    put(rt, " m ", p.m as u64)?;
+    put(rt, " b ", p.b as u64)?;
     match Figures::Ranked(p).layout() {
-        Err(refusal) => println!(rt; "refused {}", u8::from(refusal)),
+        Err(refusal) => put_refused(rt, refusal)?,
         Ok(layout) => {
-            let (t, r) = (layout.placement_count(), layout.index_tail());
-            println!(rt; "T {t}, r {r}, k {}", layout.message_len)
+            put(rt, ": T ", layout.placement_count())?;
+            put(rt, ", r ", layout.index_tail() as u64)?;
+            put(rt, ", k ", layout.message_len as u64)?;
         }
     }
+    println!(rt;)
 }
 
 // Covering on the first strip, without a defect and with one at position 12.
@@ -120,7 +125,8 @@ fn write_row(
     word: &mut [u8],
 ) -> io::Result<()> {
     let answer = refusals::answer(codes::encode(Figures::Ranked(figures), at, message, word));
-    print!(rt; "{what}{answer} ")?;
+    put(rt, what, answer as u64)?;
+    print!(rt; " ")?;
     put_symbols(rt, word)?;
     println!(rt;)
 }
@@ -160,18 +166,18 @@ fn first_word(index: [u8; 6]) -> [u8; 30] {
 
 fn read_row(rt: &impl Print, what: &str, word: &[u8]) -> io::Result<()> {
     let mut message = [0u8; 20];
+    print!(rt; "{what}")?;
     let found = codes::decode(Figures::Ranked(first_strip()), word, &mut message);
     match found.answer {
-        Err(refusal) => println!(rt; "{what}: refused {}", u8::from(refusal)),
+        Err(refusal) => put_refused(rt, refusal)?,
         Ok(rank) => {
-            print!(rt;
-                "{what}: rank {rank}, start {}, message ",
-                found.placement.starts[0]
-            )?;
+            put(rt, ": rank ", rank)?;
+            put(rt, ", start ", found.placement.starts[0] as u64)?;
+            print!(rt; ", message ")?;
             put_symbols(rt, &message)?;
-            println!(rt;)
         }
     }
+    println!(rt;)
 }
 
 // Symbols one after the other, each below 10.
@@ -192,26 +198,40 @@ fn strip(n: u32, q: u32, m: u32, b: u32) -> Params {
 }
 
 fn cover_row(rt: &impl Print, what: &str, found: Result<Placement, Refusal>) -> io::Result<()> {
+    print!(rt; "{what}")?;
     match found {
-        Ok(placement) => println!(rt; "{what}: start {}", placement.starts[0]),
-        Err(refusal) => println!(rt; "{what}: refused {}", u8::from(refusal)),
+        Ok(placement) => put(rt, ": start ", placement.starts[0] as u64)?,
+        Err(refusal) => put_refused(rt, refusal)?,
     }
+    println!(rt;)
 }
 
 // The table filled with the jobs 1 to 64; then 65 is refused, and opens once 1 is finished.
 fn table_rows(rt: &impl Print) -> io::Result<()> {
     let mut table = JobTable::empty();
     for number in 1..=64 {
-        table = call_row(rt, "open", number, table.open(number))?;
+        table = call_row(rt, "open ", number, table.open(number))?;
     }
-    table = call_row(rt, "open", 65, table.open(65))?;
-    table = call_row(rt, "finish", 1, table.finish(1))?;
-    call_row(rt, "open", 65, table.open(65))?;
+    table = call_row(rt, "open ", 65, table.open(65))?;
+    table = call_row(rt, "finish ", 1, table.finish(1))?;
+    call_row(rt, "open ", 65, table.open(65))?;
     Ok(())
 }
 
 // The answer of a call; the table that it hands back goes on.
 fn call_row(rt: &impl Print, what: &str, number: u32, called: TableAnswer) -> io::Result<JobTable> {
-    println!(rt; "{what} {number}: {}", refusals::answer(called.answer))?;
+    put(rt, what, number as u64)?;
+    put(rt, ": ", refusals::answer(called.answer) as u64)?;
+    println!(rt;)?;
     Ok(called.table)
+}
+
+// Writes a text and the number behind it. Each goes out by itself, so that where the output takes no more, all that was ready has gone out before.
+fn put(rt: &impl Print, what: &str, number: u64) -> io::Result<()> {
+    print!(rt; "{what}")?;
+    print!(rt; "{number}")
+}
+
+fn put_refused(rt: &impl Print, refusal: Refusal) -> io::Result<()> {
+    put(rt, ": refused ", u8::from(refusal) as u64)
 }
