@@ -53,12 +53,26 @@ module _ (refuse : ℕ → Encoded) (rest : Encoded) (a : ℕ) where
   first-refuses true false true true false t r k t' r' k' e = ap refuse (ap figures_number e)
   first-refuses true true j g s t r k t' r' k' e = no-refusal t r k e
 
+  -- the same where the first code's figures fit
+  second-refuses : (j g s : Bool) (t r k : ℕ) → alone j g t r k ≡ unserved a → begins refuse rest true true j g s ≡ refuse a
+  second-refuses false g s t r k e = ap refuse (ap figures_number e)
+  second-refuses true false true t r k e = ap refuse (ap figures_number e)
+  second-refuses true false false t r k e = ap refuse (ap figures_number e)
+  second-refuses true true s t r k e = no-refusal t r k e
+
 module _ (d e : Coding) (strip moved a : ℕ) (refuse : ℕ → Encoded) (rest : Encoded) where
   -- the code of the strip that is read
   pub from-refuses : figures_under d ≡ unserved a → from_figures d e strip moved refuse rest ≡ refuse (first_refusal a (figures_under e))
   from-refuses u =
       first-refuses refuse (after_fitting d e strip moved refuse rest) a d.in_range d.fits e.in_range e.fits (same_figures d e)
       d.placement_count_of d.index_tail_of d.codec.message_len_of e.placement_count_of e.index_tail_of e.codec.message_len_of u
+
+  -- the code of the other strip alone: the order of moving ends with its number
+  pub to-refuses : d.in_range ≡ true → d.fits ≡ true → figures_under e ≡ unserved a → from_figures d e strip moved refuse rest ≡ refuse a
+  to-refuses i h u =
+      let next = after_fitting d e strip moved refuse rest in
+      ap₂ (λ (x y : Bool). begins refuse next x y e.in_range e.fits (same_figures d e)) i h
+      ∙ second-refuses refuse next a e.in_range e.fits (same_figures d e) e.placement_count_of e.index_tail_of e.codec.message_len_of u
 
 -- ---- The bytes of a layout
 

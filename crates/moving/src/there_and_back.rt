@@ -33,7 +33,11 @@ pub fn move_there_and_back(
     ensures returned { CameBack (coding_of from) (coding_of to) (entries table) (starts_in at) strip.now damage.now
         between.old back.old (answer_of result) back.new }
 {
-    move_strip(from, to, table, strip, between)?;
-    roundtrip::spoil(at, to.burst_len(), damage, between);
-    move_strip(to, from, table, between, back)
+    match move_strip(from, to, table, strip, between) {
+        Err(refusal) => Err(refusal),
+        Ok(()) => {
+            roundtrip::spoil(at, to.burst_len(), damage, between);
+            move_strip(to, from, table, between, back)
+        }
+    }
 }

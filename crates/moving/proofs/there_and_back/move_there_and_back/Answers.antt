@@ -8,55 +8,50 @@ use Rattle.roundtrip.specs.Damage.{damaged}
 use Rattle.refusals.specs.Refusals.{served}
 use Rattle.refusals.specs.Numbers.{answer_of}
 use Rattle.refusals.proofs.Numbers.{never-served}
-use Rattle.std.proofs.lemmas.Result.{err_from_is_err_and}
 use Rattle.moving.proofs.ThereAndBack.{with-strip, refused-there, moved_back}
 use Rattle.moving.proofs.there_and_back.move_there_and_back.Goals as goal
 
-pub returns-clause-outcome : goal.returns-clause-outcome
-returns-clause-outcome c =
+pub returns-in-Ok-clause-outcome : goal.returns-in-Ok-clause-outcome
+returns-in-Ok-clause-outcome c =
     let a = c.args in
     let es = entries a.table in
     let ss = starts_in a.at in
-    let m = c.in_ok-move_strip in
+    let m = c.in-Ok in
     let s = c.spoil in
-    let n = c.move_strip-2 in
+    let n = c.move_strip-in-Ok in
     let x = c.move_strip.new.moved in
     let y = s.new.word in
     let back = n.new.moved in (with-strip a.from a.to es ss a.strip.now a.damage.now a.between.now a.back.now (answer_of n.result) y back
     (moved_back a.from a.to es ss a.strip.now a.damage.now a.between.now a.back.now served x m.ensures refl y (s.ensures ∙ ap (λ (b : ℕ). damaged (in_burst b ss) a.damage.now x) c.burst_len.ensures)
     (answer_of n.result) back n.ensures)).0
 
-pub returns-clause-returned : goal.returns-clause-returned
-returns-clause-returned c =
+pub returns-in-Ok-clause-returned : goal.returns-in-Ok-clause-returned
+returns-in-Ok-clause-returned c =
     let a = c.args in
     let es = entries a.table in
     let ss = starts_in a.at in
-    let m = c.in_ok-move_strip in
+    let m = c.in-Ok in
     let s = c.spoil in
-    let n = c.move_strip-2 in
+    let n = c.move_strip-in-Ok in
     let x = c.move_strip.new.moved in
     let y = s.new.word in
     let back = n.new.moved in (with-strip a.from a.to es ss a.strip.now a.damage.now a.between.now a.back.now (answer_of n.result) y back
     (moved_back a.from a.to es ss a.strip.now a.damage.now a.between.now a.back.now served x m.ensures refl y (s.ensures ∙ ap (λ (b : ℕ). damaged (in_burst b ss) a.damage.now x) c.burst_len.ensures)
     (answer_of n.result) back n.ensures)).1
 
-pub returns-in_err-move_strip-clause-outcome : goal.returns-in_err-move_strip-clause-outcome
-returns-in_err-move_strip-clause-outcome c =
+pub returns-in-Err-clause-outcome : goal.returns-in-Err-clause-outcome
+returns-in-Err-clause-outcome c =
     let a = c.args in
     let es = entries a.table in
     let ss = starts_in a.at in
     let x = c.move_strip.new.moved in
-    let p = err_from_is_err_and c.from_residual.result c.from_residual.ensures.1 in
-    rw (p.1, p.2)
-    (refused-there a.from a.to es ss a.strip.now a.damage.now a.between.now a.back.now _ x c.in_err-move_strip.ensures (never-served _))
+    refused-there a.from a.to es ss a.strip.now a.damage.now a.between.now a.back.now _ x c.in-Err.ensures (never-served _)
 
-pub returns-in_err-move_strip-clause-returned : goal.returns-in_err-move_strip-clause-returned
-returns-in_err-move_strip-clause-returned c =
+pub returns-in-Err-clause-returned : goal.returns-in-Err-clause-returned
+returns-in-Err-clause-returned c =
     let a = c.args in
     let es = entries a.table in
     let ss = starts_in a.at in
     let x = c.move_strip.new.moved in
-    let p = err_from_is_err_and c.from_residual.result c.from_residual.ensures.1 in
-    rw (p.1, p.2)
     (with-strip a.from a.to es ss a.strip.now a.damage.now a.between.now a.back.now _ x a.back.now
-    (refused-there a.from a.to es ss a.strip.now a.damage.now a.between.now a.back.now _ x c.in_err-move_strip.ensures (never-served _))).1
+    (refused-there a.from a.to es ss a.strip.now a.damage.now a.between.now a.back.now _ x c.in-Err.ensures (never-served _))).1
