@@ -19,11 +19,11 @@ use lent::{check, figures, starts, words};
 use lent_jobs::job;
 use params::Params;
 
-mod calls;
-mod eye_calls;
-mod larsson_code;
-mod long;
-mod moves;
+pub mod calls;
+pub mod eye_calls;
+pub mod larsson_code;
+pub mod long;
+pub mod moves;
 
 // Figures alone: T, r, k and K, four numbers. Refusals: 1 2 3.
 #[unsafe(no_mangle)]

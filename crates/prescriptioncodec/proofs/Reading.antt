@@ -7,7 +7,7 @@ use mathlib.Core.Option.{Option, none, some, none-ne-some}
 use Prim.Native.Nat.{ℕ, ◌<◌}
 use lib.Dec.{eqb}
 use lib.ListN.{length, drop}
-use Rattle.refusals.specs.Refusals.{must, served, invalid, wrong_length, bad_symbol, bad_payload}
+use Rattle.refusals.specs.Refusals.{must, served, invalid, wrong_length, bad_symbol, bad_payload, bad_prescription}
 use Rattle.combinatorics.specs.Lists.{all_below}
 use Rattle.combinatorics.proofs.Cases.{eqb-other}
 use Rattle.cells.specs.Bytes.{payload_len}
@@ -81,12 +81,15 @@ read-few l es w h count e few = let order = in_order l h.serves in rw (order.0, 
 -- ---- The prescription of a payload's text, and the table
 
 module _ (es : List Entry) (payload : List ℕ) where
-  pub no-prescription : (a : ℕ) → refused a ≡ read_text_out (drop number_len payload) → refused a ≡ of_payload es payload
+  -- 16, which is what the text is refused with
+  pub no-prescription : (a : ℕ) → refused a ≡ read_text_out (drop number_len payload)
+      → (refused bad_prescription ≡ of_payload es payload) × (refused a ≡ of_payload es payload)
   unfolding read_text_out
   no-prescription a e = go (prescribed_in (drop number_len payload)) e
     where
-      go : (o : Option Prescribed) → refused a ≡ or_refused prescription_of o → refused a ≡ hand_prescription es payload o
-      go none e = ap (λ (r : Answered Prescription). refused r.number) e
+      go : (o : Option Prescribed) → refused a ≡ or_refused prescription_of o
+          → (refused bad_prescription ≡ hand_prescription es payload o) × (refused a ≡ hand_prescription es payload o)
+      go none e = (refl, ap (λ (r : Answered Prescription). refused r.number) e)
       go (some x) e = absurd (none-ne-some (prescription_of x) (ap (λ (r : Answered Prescription). r.value) e))
 
   module _ (p : Prescription) (found : answered p ≡ read_text_out (drop number_len payload)) where

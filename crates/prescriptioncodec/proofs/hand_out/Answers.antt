@@ -23,8 +23,8 @@ pub returns-in_err-prescription : goal.returns-in_err-prescription
 returns-in_err-prescription c =
     let es = entries c.args.table in
     let payload = c.unspell.new.payload in
-    let kept = no-prescription es payload (number_of c.in_err-prescription.field-0.0)
-    (c.in_err-prescription.ensures ∙ ap read_text_out (rest-is number_len payload)) ∙ ap (of_payload es) c.unspell.ensures in
+    let kept = (no-prescription es payload (number_of c.in_err-prescription.field-0.0)
+    (c.in_err-prescription.ensures ∙ ap read_text_out (rest-is number_len payload))).1 ∙ ap (of_payload es) c.unspell.ensures in
     search (rules, kept)
 
 pub returns-in_err-needs_open : goal.returns-in_err-needs_open
