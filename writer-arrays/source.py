@@ -14,6 +14,8 @@ TOKEN = re.compile(
     re.DOTALL | re.VERBOSE,
 )
 CLOSING = {"(": ")", "[": "]", "{": "}"}
+# the traits that a type may have by hand: words show where their functions run, which `==`, `for` or a drop doesn't
+TRAITS = {"From", "TryFrom"}
 
 
 class Unknown(Exception):
@@ -39,6 +41,16 @@ def group_end(words, i):
     raise Unknown(f"a bracket is not closed: {' '.join(words[i:i + 8])}")
 
 
+def angle_end(words, i):
+    """The place of the angle bracket that closes the one at i, among the parameters of a type."""
+    depth = 0
+    for j in range(i, len(words)):
+        depth += {"<": 1, ">": -1, ">>": -2}.get(words[j], 0)
+        if depth <= 0:
+            return j
+    raise Unknown(f"an angle bracket is not closed: {' '.join(words[i:i + 8])}")
+
+
 def split(words, mark):
     """The parts of a list of words between marks outside of all brackets."""
     parts, depth = [[]], 0
@@ -58,6 +70,10 @@ class Module:
         self.path = path
         self.uses, self.modules = {}, set()
         self.functions, self.constants, self.types = {}, {}, {}
+
+    def has(self, name):
+        """Whether a path that begins with this name begins with an import or an item of this module."""
+        return name in {*self.uses, *self.types, *self.modules} or (None, name) in {*self.functions, *self.constants}
 
     def read(self, words, owner=None):
         """Takes up all items; those of an `impl` under their type's name."""
@@ -85,15 +101,22 @@ class Module:
         if word in ("struct", "enum"):
             return self.type(words, i)
         if word == "impl":
-            at = words.index("{", i)
-            end = group_end(words, at)
-            self.read(words[at + 1 : end], words[at - 1])
-            return end + 1
-        if word == "type":
+            return self.impl(words, i)
+        if word == "type" and owner:
             return words.index(";", i) + 1
         if word == "fn":
             return self.function(words, i, owner)
         raise Unknown(f"{'::'.join(self.path)}: an item that begins with '{word}'")
+
+    def impl(self, words, i):
+        """Takes up an `impl` of a type's own or of a trait whose calls can be followed, under the type's name."""
+        at = words.index("{", i)
+        head = words[i + 1 : at]
+        if len(head) > 1 and (head[0] not in TRAITS or head[-2] != "for"):
+            raise Unknown(f"{'::'.join(self.path)}: impl {' '.join(head)}")
+        end = group_end(words, at)
+        self.read(words[at + 1 : end], head[-1])
+        return end + 1
 
     def use(self, words):
         """Takes up an import, and each of those that stand between braces."""
@@ -117,13 +140,14 @@ class Module:
         return end + 1
 
     def type(self, words, i):
-        """A type is the names of its variants, for an enum, and all other words of its declaration."""
-        if words[i + 2] not in ("{", "("):
-            raise Unknown(f"{'::'.join(self.path)}: {' '.join(words[i : i + 3])}")
-        end = group_end(words, i + 2)
-        parts = [part for part in split(words[i + 3 : end], ",") if part]
+        """A type is the names of its variants, for an enum, and all other words of its declaration, those of its parameters too."""
+        at = angle_end(words, i + 2) + 1 if words[i + 2] == "<" else i + 2
+        if words[at] not in ("{", "("):
+            raise Unknown(f"{'::'.join(self.path)}: {' '.join(words[i : at + 1])}")
+        end = group_end(words, at)
+        parts = [part for part in split(words[at + 1 : end], ",") if part]
         variants = {part.pop(0) for part in parts} if words[i] == "enum" else set()
-        self.types[words[i + 1]] = (variants, [word for part in parts for word in [*part, ","]])
+        self.types[words[i + 1]] = (variants, [*words[i + 2 : at], *(word for part in parts for word in [*part, ","])])
         return end + 1 + (words[end + 1 : end + 2] == [";"])
 
     def function(self, words, i, owner):
@@ -139,6 +163,8 @@ class Module:
         if words[at] != "{":
             raise Unknown(f"{'::'.join(self.path)}::{name}: '{words[at]}' before its body")
         end = group_end(words, at)
+        if "impl" in words[at:end]:
+            raise Unknown(f"{'::'.join(self.path)}::{name}: 'impl' within a function")
         before = self.functions.get((owner, name), ([], []))
         self.functions[(owner, name)] = ([*before[0], *signature], [*before[1], *words[at + 1 : end]])
         return end + 1
