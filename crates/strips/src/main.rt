@@ -226,7 +226,7 @@ fn call_row(rt: &impl Print, what: &str, number: u32, called: TableAnswer) -> io
     Ok(called.table)
 }
 
-// Writes a text and the number behind it. Each goes out by itself, so that where the output takes no more, all that was ready has gone out before.
+// Writes a text and the number behind it, each by itself.
 fn put(rt: &impl Print, what: &str, number: u64) -> io::Result<()> {
     print!(rt; "{what}")?;
     print!(rt; "{number}")
